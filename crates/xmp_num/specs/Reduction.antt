@@ -1,5 +1,5 @@
 -- The reductions of XcalableMP (XcalableMP 1.4, section 4.4.3), on 32 and 64 bits in two's complement.
-use Rattle.std.specs.Prelude.{◌^◌, ◌-◌, ℤ, pos, negsuc, ◌+ℤ◌, ◌*ℤ◌}
+use Rattle.std.specs.Prelude.{◌≡◌, ◌^◌, ◌-◌, ℤ, pos, negsuc, ◌+ℤ◌, ◌*ℤ◌}
 use Rattle.std.specs.Int.{int_bit_and, int_bit_or, int_bit_xor, int_max, int_min, w64}
 use Rattle.xmp_num.specs.declared.types.Ty.{Ty}
 use Rattle.xmp_num.specs.declared.types.RedOp.{RedOp}
@@ -32,3 +32,11 @@ unit_of red.Or ty = pos 0
 unit_of red.Xor ty = pos 0
 unit_of red.Max ty = least ty
 unit_of red.Min ty = greatest ty
+
+-- The operation on the values that lie in a set: its results lie in the set, brackets and order don't matter, and the unit changes nothing.
+pub record IsCommutativeMonoid (In : ℤ → Type 0) (op : ℤ → ℤ → ℤ) (unit : ℤ) : Type 0 where
+  pub closed : (a b : ℤ) → In a → In b → In (op a b)
+  pub associative : (a b c : ℤ) → In a → In b → In c → op (op a b) c ≡ op a (op b c)
+  pub commutative : (a b : ℤ) → In a → In b → op a b ≡ op b a
+  pub unit_in : In unit
+  pub neutral : (a : ℤ) → In a → op unit a ≡ a

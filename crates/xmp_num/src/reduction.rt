@@ -1,13 +1,16 @@
 ghost use Rattle.std.specs.Prelude.{◌≡◌};
-ghost use Rattle.xmp_num.specs.Reduction.{combine_of, unit_of};
+ghost use Rattle.xmp_num.specs.Arithmetic.{FitsType};
+ghost use Rattle.xmp_num.specs.Reduction.{IsCommutativeMonoid, combine_of, unit_of};
 
 use crate::arithmetic::convert;
 use crate::types::{RedOp, Ty};
 
-/// One step of a reduction over values of the type.
+/// One step of a reduction over values of the type. The values of a reduction can be combined in any
+/// order and in any groups.
 #[tactic(auto, using(crate::proofs::Wraps::wrapped), unfolding(crate::specs::Reduction::combine_of))]
 pub fn combine(op: RedOp, ty: Ty, a: i64, b: i64) -> i64
-    ensures { result ≡ combine_of op ty a b }
+    ensures value { result ≡ combine_of op ty a b }
+    ensures laws { IsCommutativeMonoid (FitsType ty) (combine_of op ty) (unit_of op ty) }
 {
     match op {
         RedOp::Add => convert(a.wrapping_add(b), ty),
@@ -20,7 +23,7 @@ pub fn combine(op: RedOp, ty: Ty, a: i64, b: i64) -> i64
     }
 }
 
-/// The value at which a reduction begins.
+/// The value of the type that changes no value that it is combined with.
 pub fn unit(op: RedOp, ty: Ty) -> i64
     ensures { result ≡ unit_of op ty }
 {
