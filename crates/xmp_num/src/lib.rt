@@ -7,6 +7,6 @@ mod reduction;
 mod types;
 
 pub use arithmetic::{binary, convert};
-pub use decimal::render;
+pub use decimal::{render, scan};
 pub use reduction::{combine, unit};
 pub use types::{BinOp, RedOp, TrapKind, Ty};
