@@ -4,6 +4,8 @@
 mod arithmetic;
 mod decimal;
 mod reduction;
+#[cfg(test)]
+mod tests;
 mod types;
 
 pub use arithmetic::{binary, convert};
