@@ -1,4 +1,4 @@
--- C's operators on 32 and 64 bits in two's complement, over the integers (ISO C 6.5; where C leaves a result open, this project wraps or traps).
+-- C's operators on 32 and 64 bits in two's complement, over the integers (ISO C11 6.5; where C leaves a result open, this project wraps or traps).
 use Rattle.std.specs.Prelude.{ℕ, zero, suc, ◌^◌, ℤ, pos, negsuc, ◌+ℤ◌, ◌*ℤ◌, ◌-ℤ◌, Bool, true, false, not, if◌then◌else◌, Result, Ok, Err, int_lt, int_le, int_div, int_rem, nat_lt, FitsSigned}
 use Rattle.std.specs.Int.{int_wrap, int_div_euclid, int_bit_and, int_bit_or, int_bit_xor, w32, w64}
 use Rattle.std.specs.Ordering.{int_eq}

@@ -4,7 +4,7 @@ ghost use Rattle.xmp_num.specs.Arithmetic.{binary_of, bits_of, wrap};
 use crate::types::{BinOp, TrapKind, Ty};
 
 /// The value of the type that is equal to `v` modulo the type's range, as C converts an integer
-/// (ISO C 6.3.1.3, with wrapping where C leaves the choice).
+/// (ISO C11 6.3.1.3, with wrapping where C leaves the choice).
 pub fn convert(v: i64, to: Ty) -> i64
     ensures { result ≡ wrap to v }
 {
