@@ -1,0 +1,5 @@
+pub mod First
+pub mod FirstGrammar
+pub mod FirstMeaning
+pub mod FirstTree
+pub mod FirstRunning
