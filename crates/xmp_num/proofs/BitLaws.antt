@@ -1,5 +1,5 @@
 -- The laws of an operation on the 64 bits of two values.
-use Rattle.std.proofs.Common.{◌≡◌, ◌⊎◌, inl, inr, ℕ, suc, ◌+◌, ◌-◌, ◌*◌, ◌/◌, ◌%◌, ◌^◌, ◌<◌, ◌≤◌, refl, sym, ap, subst, ◌∙◌, arith, ℤ, pos, negsuc, max, ltb, false}
+use Rattle.std.proofs.Common.{◌≡◌, ◌⊎◌, inl, inr, ℕ, suc, ◌-◌, ◌/◌, ◌%◌, ◌<◌, ◌≤◌, refl, sym, ap, subst, ◌∙◌, arith, ℤ, pos, negsuc, max, ltb, false}
 use Rattle.std.specs.Int.{cast_signed, cast_unsigned, bit_at, w32, w64}
 use Rattle.std.specs.Prelude.{bit_and, bit_or, bit_xor}
 use Rattle.std.specs.Int.RustNames.{FitsSigned}
@@ -63,7 +63,7 @@ module _ {f : ℕ → ℕ → ℕ} (laws : IsBitwise f) where
       let x = cast_unsigned w64 a in
       let y = cast_unsigned w64 b in
       fits_from_high (f x y) (laws.below x y (bits_below a (wide_fits Int a p)) (bits_below b (wide_fits Int b q)))
-          (subst Repeats (sym (laws.high x y)) (laws.repeats _ _ (high_repeats a p) (high_repeats b q)))
+      (subst Repeats (sym (laws.high x y)) (laws.repeats _ _ (high_repeats a p) (high_repeats b q)))
   closed Long a b p q =
       let x = cast_unsigned w64 a in
       let y = cast_unsigned w64 b in

@@ -1,7 +1,7 @@
 -- Each reduction is a commutative monoid on the values of its type.
-use Rattle.std.proofs.Common.{◌≡◌, ℕ, suc, ◌+◌, ◌-◌, ◌*◌, ◌^◌, ◌<◌, ◌≤◌, refl, sym, ap, ◌∙◌, arith, ℤ, pos, negsuc, ◌+ℤ◌, ◌*ℤ◌, true, false, Bool, cond}
+use Rattle.std.proofs.Common.{◌≡◌, ℕ, ◌+◌, ◌*◌, sym, ap, ◌∙◌, arith, ℤ, pos, negsuc, ◌+ℤ◌, ◌*ℤ◌, true, false, Bool, cond}
 use Rattle.std.specs.Int.{int_wrap, int_max, int_min}
-use Rattle.std.specs.Prelude.{bit_and, bit_or, bit_xor, int_lt}
+use Rattle.std.specs.Prelude.{int_lt}
 use Rattle.std.proofs.lemmas.Int.{ints, clamps, int_wrap_fits, SFits-int_wrap, int_wrap-add_left, int_wrap-add_right, int_wrap-mul_left, int_wrap-mul_right}
 use borrow.Author.Differences.{up, down, same_in, product_is}
 use Rattle.xmp_num.specs.Arithmetic.{width_of, FitsType}

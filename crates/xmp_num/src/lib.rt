@@ -4,9 +4,11 @@
 mod arithmetic;
 mod decimal;
 mod reduction;
+#[cfg(test)]
+mod tests;
 mod types;
 
 pub use arithmetic::{binary, convert};
-pub use decimal::render;
+pub use decimal::{render, scan};
 pub use reduction::{combine, unit};
 pub use types::{BinOp, RedOp, TrapKind, Ty};
