@@ -89,20 +89,22 @@ product_some (times p x) xs = elim (product_some p (Op Mul ∷ operand_item x �
 added : (t : Sum) (p : Product) (xs : List Item) → continued t (Op Add ∷ (product_items p ++ xs)) ≡ continued (plus t p) xs
 unfolding started
 added t p xs = elim (product_some p xs) [
-  some y ys e ↦ ap (λ (zs : List Item). continued t (Op Add ∷ zs)) e ∙ first t y ys ∙ ap (started (plus t)) (sym e) ∙ started_product (plus t) p xs (λ q x. refl) ] where
-    first : (t : Sum) (y : Item) (ys : List Item) → continued t (Op Add ∷ y ∷ ys) ≡ started (plus t) (y ∷ ys)
-    first (term p) y ys = refl
-    first (plus s p) y ys = refl
-    first (minus s p) y ys = refl
+  | some y ys e ↦ ap (λ (zs : List Item). continued t (Op Add ∷ zs)) e ∙ first t y ys ∙ ap (started (plus t)) (sym e) ∙ started_product (plus t) p xs (λ q x. refl)
+] where
+  first : (t : Sum) (y : Item) (ys : List Item) → continued t (Op Add ∷ y ∷ ys) ≡ started (plus t) (y ∷ ys)
+  first (term p) y ys = refl
+  first (plus s p) y ys = refl
+  first (minus s p) y ys = refl
 
 subtracted : (t : Sum) (p : Product) (xs : List Item) → continued t (Op Sub ∷ (product_items p ++ xs)) ≡ continued (minus t p) xs
 unfolding started
 subtracted t p xs = elim (product_some p xs) [
-  some y ys e ↦ ap (λ (zs : List Item). continued t (Op Sub ∷ zs)) e ∙ first t y ys ∙ ap (started (minus t)) (sym e) ∙ started_product (minus t) p xs (λ q x. refl) ] where
-    first : (t : Sum) (y : Item) (ys : List Item) → continued t (Op Sub ∷ y ∷ ys) ≡ started (minus t) (y ∷ ys)
-    first (term p) y ys = refl
-    first (plus s p) y ys = refl
-    first (minus s p) y ys = refl
+  | some y ys e ↦ ap (λ (zs : List Item). continued t (Op Sub ∷ zs)) e ∙ first t y ys ∙ ap (started (minus t)) (sym e) ∙ started_product (minus t) p xs (λ q x. refl)
+] where
+  first : (t : Sum) (y : Item) (ys : List Item) → continued t (Op Sub ∷ y ∷ ys) ≡ started (minus t) (y ∷ ys)
+  first (term p) y ys = refl
+  first (plus s p) y ys = refl
+  first (minus s p) y ys = refl
 
 tree_from : (t : Sum) (xs : List Item) → tree_of (sum_items t ++ xs) ≡ continued t xs
 unfolding started

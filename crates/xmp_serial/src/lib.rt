@@ -1,4 +1,7 @@
-//! The meaning of a program with its directives erased, for programs of the first form: squares summed over nodes.
+//! What a program means with its directives erased.
+//!
+//! So far for one form of programs alone: `First` fills an array by an expression of the index, adds its cells up and prints
+//! the sum.
 #![tactic(auto)]
 
 mod first;
@@ -6,6 +9,8 @@ mod first_item;
 mod first_items;
 mod first_running;
 mod first_serial;
+#[cfg(test)]
+mod first_tests;
 mod first_value;
 
 pub use first::First;
