@@ -44,7 +44,8 @@ pub fn second_loop(start: i64, cells: &[i64]) -> i64
 
 /// A cell in the store of the node whose block has these cells, from the cell `start` on.
 pub fn word_at(block: &[i64], start: u32, cell: u32) -> i64
-    ensures { result ≡ (if nat_le start cell then unwrap_or (slice_get block.now (cell - start)) (pos 0) else pos 0) }
+    ensures { result ≡ (if nat_le start cell
+        then unwrap_or (slice_get block.now (cell - start)) (pos 0) else pos 0) }
 {
     if cell < start {
         return 0;

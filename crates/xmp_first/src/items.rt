@@ -1,4 +1,4 @@
-// The words of an expression.
+// The items of an expression at the front of a text.
 ghost use Rattle.std.specs.Prelude.{◌≡◌, ◌<◌, ◌≤◌, ◌++◌, ℕ, List, [], ◌∷◌, true, false, length, IfOk, IfSome, IfNone};
 ghost use Rattle.xmp_num.specs.declared.types.BinOp.{BinOp};
 ghost use Rattle.xmp_serial.specs.declared.first_item.Item.{Item};
@@ -62,7 +62,8 @@ pub(crate) fn operand_at(text: &[u8]) -> Option<(Item, &[u8])>
 /// An operator at the front, and what follows it.
 fn op_at(text: &[u8]) -> Option<(BinOp, &[u8])>
     ensures some { IfSome result (λ x. (is_operator x.0 ≡ true) × (text.now ≡ operator_text x.0 ++ x.1.now)) }
-    ensures none { IfNone result ((o : BinOp) (rest : List ℕ) → is_operator o ≡ true → text.now ≡ operator_text o ++ rest → ⊥) }
+    ensures none { IfNone result ((o : BinOp) (rest : List ℕ) → is_operator o ≡ true
+        → text.now ≡ operator_text o ++ rest → ⊥) }
 {
     if let Some(rest) = text.strip_prefix(b" + ") {
         return Some((BinOp::Add, rest));
@@ -83,8 +84,10 @@ pub(crate) fn tail_at<'a>(
     text: &'a [u8],
 ) -> Result<Option<&'a [u8]>, NoMemory>
     requires { NoDigit text.now }
-    ensures some { IfOk result (λ r. IfSome r (λ rest. (tail : List Item) × (items.new ≡ items.old ++ tail) × IsTailAt text.now most tail rest.now)) }
-    ensures none { IfOk result (λ r. IfNone r ((tail : List Item) (rest : List ℕ) → IsTailAt text.now most tail rest → ⊥)) }
+    ensures some { IfOk result (λ r. IfSome r (λ rest. (tail : List Item)
+        × (items.new ≡ items.old ++ tail) × IsTailAt text.now most tail rest.now)) }
+    ensures none { IfOk result (λ r. IfNone r ((tail : List Item) (rest : List ℕ)
+        → IsTailAt text.now most tail rest → ⊥)) }
 {
     if !starts_with_space(text) {
         return Ok(Some(text));

@@ -1,5 +1,6 @@
-// The text of a program without its numbers and its value. Between these pieces stand, in this order: the number of cells;
-// the number of nodes; the number of cells; it again; the value; the number of cells.
+// The text of a program without its numbers and its value. Between these pieces stand, in this
+// order: the number of cells, the number of nodes, the number of cells twice, the value, and the
+// number of cells.
 
 pub const HEAD: &[u8] = b"int a[";
 

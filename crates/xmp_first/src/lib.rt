@@ -1,7 +1,7 @@
 //! Programs of the first form: the reader of their text, and their run on nodes.
 //!
-//! A program of this form fills an array by an expression of the index, adds its cells up and prints the sum. Array and loops
-//! are spread over the nodes in blocks.
+//! A program of this form fills an array by an expression of the index, adds its cells up and prints
+//! the sum. Array and loops are spread over the nodes in blocks.
 #![tactic(auto)]
 
 mod blocks;

@@ -1,5 +1,5 @@
 // The run of a program on its nodes.
-ghost use Rattle.std.specs.Prelude.{◌≡◌, ◌<◌, ◌≤◌, ◌-◌, ◌++◌, ◌∷◌, [], pos, length, slice_get, IfOk, IfSome};
+ghost use Rattle.std.specs.Prelude.{◌≡◌, ◌<◌, ◌++◌, ◌∷◌, [], length, slice_get, IfOk, IfSome};
 ghost use Rattle.std.specs.Fmt.{signed_decimal};
 ghost use Rattle.xmp_serial.specs.FirstMeaning.{total};
 ghost use Rattle.xmp_serial.specs.FirstTree.{tree_of};
@@ -15,11 +15,13 @@ use xmp_dist::Dim;
 use xmp_num::render;
 use xmp_serial::First;
 
-/// The two loops on all nodes: each node's block of the cells, and the sum that the reduction at the second loop's end
-/// makes of the nodes' parts. Node 0's part begins at the old value of `s` and the others' at 0; the old value is 0 too.
+/// The two loops on all nodes: each node's block of the cells, and the sum that the reduction at
+/// the second loop's end makes of the nodes' parts. Node 0's part begins at the old value of `s`
+/// and the others' at 0; the old value is 0 too.
 fn loops(alloc: Global, p: &First, dim: &Dim) -> Result<(Table, i64), NoMemory>
     requires { IsBlocks dim.now p.now.size p.now.nodes }
-    ensures rows { IfOk result (λ r. r.0 ≡ tabulate (block_of p.now.size p.now.nodes (tree_of p.now.value)) p.now.nodes) }
+    ensures rows { IfOk result (λ r.
+        r.0 ≡ tabulate (block_of p.now.size p.now.nodes (tree_of p.now.value)) p.now.nodes) }
     ensures sum { IfOk result (λ r. r.1 ≡ total (tree_of p.now.value) p.now.size) }
 {
     let mut blocks = Table::new(alloc);
@@ -48,7 +50,8 @@ fn store_of(
     requires node { node < p.now.nodes }
     requires block { block.now ≡ block_of p.now.size p.now.nodes (tree_of p.now.value) node }
     requires sum { sum ≡ total (tree_of p.now.value) p.now.size }
-    ensures { IfOk result (λ store. store ≡ store_of p.now.size p.now.nodes (tree_of p.now.value) node) }
+    ensures { IfOk result (λ store.
+        store ≡ store_of p.now.size p.now.nodes (tree_of p.now.value) node) }
 {
     let (start, _) = dim.interval(node);
     let mut store = Words::new(alloc);
@@ -71,7 +74,8 @@ fn stores_of(
     requires dim { IsBlocks dim.now p.now.size p.now.nodes }
     requires rows { blocks.now ≡ tabulate (block_of p.now.size p.now.nodes (tree_of p.now.value)) p.now.nodes }
     requires sum { sum ≡ total (tree_of p.now.value) p.now.size }
-    ensures { IfOk result (λ stores. stores ≡ tabulate (store_of p.now.size p.now.nodes (tree_of p.now.value)) p.now.nodes) }
+    ensures { IfOk result (λ stores.
+        stores ≡ tabulate (store_of p.now.size p.now.nodes (tree_of p.now.value)) p.now.nodes) }
 {
     let mut stores = Table::new(alloc);
     for node in 0..p.nodes {
@@ -89,7 +93,8 @@ fn stores_of(
 /// How many turns of the two loops each node makes.
 fn turns_of(alloc: Global, p: &First, dim: &Dim) -> Result<Vec<u64>, NoMemory>
     requires { IsBlocks dim.now p.now.size p.now.nodes }
-    ensures { IfOk result (λ turns. turns.items ≡ tabulate (turns_of p.now.size p.now.nodes) p.now.nodes) }
+    ensures { IfOk result (λ turns.
+        turns.items ≡ tabulate (turns_of p.now.size p.now.nodes) p.now.nodes) }
 {
     let mut turns = Vec::new(alloc);
     for node in 0..p.nodes {
@@ -104,7 +109,8 @@ fn turns_of(alloc: Global, p: &First, dim: &Dim) -> Result<Vec<u64>, NoMemory>
 /// What a node with this store prints: its `s`, on a line.
 fn line_of(alloc: Global, store: &[i64]) -> Result<Bytes, NoMemory>
     requires { 1 < length store.now }
-    ensures { IfOk result (λ out. IfSome (slice_get store.now 1) (λ s. out ≡ signed_decimal s ++ 10 ∷ [])) }
+    ensures { IfOk result (λ out.
+        IfSome (slice_get store.now 1) (λ s. out ≡ signed_decimal s ++ 10 ∷ [])) }
 {
     let mut out = Bytes::new(alloc);
     render(alloc, &mut out, store[1], 0)?;
@@ -112,7 +118,7 @@ fn line_of(alloc: Global, store: &[i64]) -> Result<Bytes, NoMemory>
     Ok(out)
 }
 
-/// Runs the program on its nodes, each with a store of its own.
+/// Runs the program on its nodes, each with a store of its own of 2 words more than there are cells.
 pub fn run_first(alloc: Global, p: &First) -> Result<FirstWorld, NoMemory>
     ensures { IfOk result (λ world. Ran p.now.size p.now.nodes p.now.value world) }
 {

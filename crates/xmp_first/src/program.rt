@@ -4,7 +4,7 @@ ghost use Rattle.std.specs.Fmt.{decimal};
 ghost use Rattle.xmp_serial.specs.declared.first_item.Item.{Item};
 ghost use Rattle.xmp_serial.specs.First.{is_expression};
 ghost use Rattle.xmp_first.specs.Reading.{NoMore};
-ghost use Rattle.xmp_first.specs.Layout.{value_text, middle, foot, Spells};
+ghost use Rattle.xmp_first.specs.Layout.{value_text, middle, foot, Spells, IsNoProgram};
 
 use crate::items::{after, operand_at, tail_at};
 use crate::layout::{FOOT, HEAD, TO_FIRST_LOOP, TO_NODES, TO_SECOND_LOOP, TO_TEMPLATE, TO_VALUE};
@@ -38,8 +38,10 @@ fn foot_of(alloc: Global, size: u32) -> Result<Bytes, NoMemory>
 
 /// The expression at the front, and what follows it.
 fn value_at(alloc: Global, text: &[u8]) -> Result<Option<(Items, &[u8])>, NoMemory>
-    ensures some { IfOk result (λ r. IfSome r (λ x. (is_expression x.0 ≡ true) × (text.now ≡ value_text x.0 ++ x.1.now) × NoMore x.1.now)) }
-    ensures none { IfOk result (λ r. IfNone r ((value : List Item) (rest : List ℕ) → is_expression value ≡ true → text.now ≡ value_text value ++ rest → NoMore rest → ⊥)) }
+    ensures some { IfOk result (λ r. IfSome r (λ x.
+        (is_expression x.0 ≡ true) × (text.now ≡ value_text x.0 ++ x.1.now) × NoMore x.1.now)) }
+    ensures none { IfOk result (λ r. IfNone r ((value : List Item) (rest : List ℕ)
+        → is_expression value ≡ true → text.now ≡ value_text value ++ rest → NoMore rest → ⊥)) }
 {
     let mut items = Items::new(alloc);
     let Some((item, rest)) = operand_at(text) else {
@@ -54,8 +56,10 @@ fn value_at(alloc: Global, text: &[u8]) -> Result<Option<(Items, &[u8])>, NoMemo
 
 /// The value, where the text behind the number of nodes is that of a program.
 pub(crate) fn after_nodes(alloc: Global, size: u32, text: &[u8]) -> Result<Option<Items>, NoMemory>
-    ensures some { IfOk result (λ r. IfSome r (λ value. (is_expression value ≡ true) × (text.now ≡ middle size ++ (value_text value ++ foot size)))) }
-    ensures none { IfOk result (λ r. IfNone r ((value : List Item) → is_expression value ≡ true → text.now ≡ middle size ++ (value_text value ++ foot size) → ⊥)) }
+    ensures some { IfOk result (λ r. IfSome r (λ value. (is_expression value ≡ true)
+        × (text.now ≡ middle size ++ (value_text value ++ foot size)))) }
+    ensures none { IfOk result (λ r. IfNone r ((value : List Item) → is_expression value ≡ true
+        → text.now ≡ middle size ++ (value_text value ++ foot size) → ⊥)) }
 {
     let front = middle_of(alloc, size)?;
     let Some(behind) = after(text, front.as_slice()) else {
@@ -75,7 +79,7 @@ pub(crate) fn after_nodes(alloc: Global, size: u32, text: &[u8]) -> Result<Optio
 /// The program that the text is, or none.
 pub(crate) fn program_at(alloc: Global, text: &[u8]) -> Result<Option<First>, NoMemory>
     ensures some { IfOk result (λ r. IfSome r (λ p. Spells p.size p.nodes p.value text.now)) }
-    ensures none { IfOk result (λ r. IfNone r ((size nodes : ℕ) (value : List Item) → Spells size nodes value text.now → ⊥)) }
+    ensures none { IfOk result (λ r. IfNone r (IsNoProgram text.now)) }
 {
     let Some(at_size) = after(text, HEAD) else {
         return Ok(None);

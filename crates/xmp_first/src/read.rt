@@ -8,11 +8,12 @@ use std::alloc::Global;
 use xmp_base::{Fault, NoMemory, Phase, Place, Refusal};
 use xmp_serial::First;
 
-/// The program that a text is.
+/// The program that a text is. A text that no program has is refused at its first byte.
 pub fn read_first(alloc: Global, text: &[u8]) -> Result<First, Fault>
     ensures ok { IfOk result (λ p. Spells p.size p.nodes p.value text.now) }
     // want of memory aside, a text that no program has is refused, and no other one is
-    ensures err { IfErr result (λ fault. (fault ≡ Fault.NoMemory) ⊎ ((fault ≡ refused_at_start) × IsNoProgram text.now)) }
+    ensures err { IfErr result (λ fault.
+        (fault ≡ Fault.NoMemory) ⊎ ((fault ≡ refused_at_start) × IsNoProgram text.now)) }
 {
     match program_at(alloc, text) {
         Ok(Some(p)) => Ok(p),

@@ -3,8 +3,8 @@ ghost use Rattle.xmp_serial.specs.First.{is_expression};
 
 use crate::first_items::Items;
 
-/// A program of the first form: how many cells its array has, over how many nodes they are spread, and the value that
-/// each cell is given, as an expression in the cell's index.
+/// A program of the first form: how many cells its array has, over how many nodes they are spread,
+/// and the value that each cell is given, as an expression in the cell's index.
 #[derive(Drop)]
 pub struct First {
     pub size: u32,

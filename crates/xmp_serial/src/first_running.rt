@@ -9,7 +9,8 @@ ghost use Rattle.xmp_serial.specs.FirstRunning.{running_of};
 
 use xmp_num::{BinOp, Ty, binary};
 
-/// What the last product adds to is kept apart from it, since a `*` may follow.
+/// A product, or a sum, an operator and a product: the last product is kept apart, since a `*` may
+/// follow it.
 #[derive(Clone, Copy)]
 pub enum Running {
     Product(i64),
@@ -39,8 +40,8 @@ impl Running {
 
     /// With the last product times an operand.
     fn times(self, operand: i64) -> Self
-        ensures { (t : Sum) (x : Operand) (i : ℤ) → self ≡ running_of t i → operand ≡ operand_value x i
-            → result ≡ running_of (extended t BinOp.Mul x) i }
+        ensures { (t : Sum) (x : Operand) (i : ℤ) → self ≡ running_of t i
+            → operand ≡ operand_value x i → result ≡ running_of (extended t BinOp.Mul x) i }
     {
         match self {
             Running::Product(product) => Running::Product(applied(BinOp::Mul, product, operand)),
@@ -52,8 +53,8 @@ impl Running {
 
     /// With an operator and an operand behind it.
     pub fn extended(self, op: BinOp, operand: i64) -> Self
-        ensures { (t : Sum) (x : Operand) (i : ℤ) → self ≡ running_of t i → operand ≡ operand_value x i
-            → result ≡ running_of (extended t op x) i }
+        ensures { (t : Sum) (x : Operand) (i : ℤ) → self ≡ running_of t i
+            → operand ≡ operand_value x i → result ≡ running_of (extended t op x) i }
     {
         match op {
             BinOp::Mul => self.times(operand),

@@ -20,7 +20,8 @@ fn operand(item: Item, index: u32) -> i64
 
 /// The value of what was read with these items behind it.
 fn continued(running: Running, items: &[Item], index: u32) -> i64
-    ensures { (t : Sum) → running ≡ running_of t (pos index) → result ≡ sum_value (continued t items.now) (pos index) }
+    ensures { (t : Sum) → running ≡ running_of t (pos index)
+        → result ≡ sum_value (continued t items.now) (pos index) }
 {
     let Some((first, behind)) = items.split_first() else {
         return running.value();

@@ -1,7 +1,7 @@
 //! What a program means with its directives erased.
 //!
-//! So far for one form of programs alone: `First` fills an array by an expression of the index, adds its cells up and prints
-//! the sum.
+//! So far for one form of programs alone: `First` fills an array by an expression of the index, adds
+//! its cells up and prints the sum.
 #![tactic(auto)]
 
 mod first;
