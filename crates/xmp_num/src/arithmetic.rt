@@ -15,7 +15,7 @@ pub fn convert(v: i64, to: Ty) -> i64
 }
 
 /// What an operator gives for two operands of the type, or the trap that it ends in. `ty` is the
-/// type of the operands, of a shift that of its left operand; the count of a shift may be any number.
+/// type of the operands, of a shift that of its left operand; a shift's count may be any number.
 #[tactic(auto, using(crate::proofs::Wraps::wrapped), unfolding(crate::specs::Arithmetic::binary_of))]
 pub fn binary(op: BinOp, ty: Ty, a: i64, b: i64) -> Result<i64, TrapKind>
     ensures { result ≡ binary_of op ty a b }

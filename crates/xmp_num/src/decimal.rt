@@ -44,13 +44,15 @@ fn spaces(alloc: Global, count: usize) -> Result<Bytes, NoMemory>
     Ok(all)
 }
 
-/// Reads a decimal number at a place of the input: skips white space, takes a sign where there is one,
-/// and then all digits. Without a digit there is no value, and the place is behind the sign.
+/// Reads a decimal number at a place of the input: skips white space, takes a sign where there is
+/// one, and then all digits, however many. Gives the value and the place behind what was read.
+/// Without a digit there is no value, and white space and sign stay read.
 pub fn scan(input: &[u8], at: usize, ty: Ty) -> (Option<i64>, usize)
     requires { at ≤ length input.now }
     ensures value { result ≡ scan_of ty input.now at }
     ensures reads { Scans ty input.now at result.0 result.1 }
-    ensures only { (value : Option ℤ) (next : ℕ) → Scans ty input.now at value next → (value, next) ≡ result }
+    ensures only { (value : Option ℤ) (next : ℕ)
+        → Scans ty input.now at value next → (value, next) ≡ result }
 {
     let text = from(input, at);
     let white = white_len(text);
