@@ -14,6 +14,10 @@ use xmp_base::{Bytes, NoMemory};
 use xmp_num::render;
 use xmp_serial::{First, Items};
 
+const MOST_CELLS: u32 = 4_194_304;
+
+const MOST_NODES: u32 = 16;
+
 fn middle_of(alloc: Global, size: u32) -> Result<Bytes, NoMemory>
     ensures { IfOk result (λ bytes. bytes ≡ middle size) }
 {
@@ -90,7 +94,7 @@ pub(crate) fn program_at(alloc: Global, text: &[u8]) -> Result<Option<First>, No
     if size < 1 {
         return Ok(None);
     }
-    if size > 4_194_304 {
+    if size > MOST_CELLS {
         return Ok(None);
     }
     let Some(at_nodes) = after(behind_size, TO_NODES) else {
@@ -102,7 +106,7 @@ pub(crate) fn program_at(alloc: Global, text: &[u8]) -> Result<Option<First>, No
     if nodes < 1 {
         return Ok(None);
     }
-    if nodes > 16 {
+    if nodes > MOST_NODES {
         return Ok(None);
     }
     match after_nodes(alloc, size, rest)? {

@@ -11,8 +11,8 @@ returns-then-size-lt1-clause-none c = λ size nodes value h.
     let v = h.valid.some_cells in
     omega (arith, s.0)
 
-pub returns-then-size-gt4194304-clause-none : goal.returns-then-size-gt4194304-clause-none
-returns-then-size-gt4194304-clause-none c = λ size nodes value h.
+pub returns-then-size-gt-MOST_CELLS-clause-none : goal.returns-then-size-gt-MOST_CELLS-clause-none
+returns-then-size-gt-MOST_CELLS-clause-none c = λ size nodes value h.
     let s = number_one c.in-Some.at_size.now c.in-Some-number_at.size size c.in-Some-number_at.behind_size.now (TO_NODES.now ++ (decimal nodes ++ (middle size ++ (value_text value ++ foot size)))) c.in-Some-number_at.ensures.some (at_size size nodes value c.args.text.now c.in-Some.at_size.now h c.in-Some.ensures.some) in
     let v = h.valid.few_cells in
     omega (arith, s.0)
@@ -34,8 +34,8 @@ returns-then-nodes-lt1-clause-none c = λ size nodes value h.
     let v = h.valid.some_nodes in
     omega (arith, n.0)
 
-pub returns-then-nodes-gt16-clause-none : goal.returns-then-nodes-gt16-clause-none
-returns-then-nodes-gt16-clause-none c = λ size nodes value h.
+pub returns-then-nodes-gt-MOST_NODES-clause-none : goal.returns-then-nodes-gt-MOST_NODES-clause-none
+returns-then-nodes-gt-MOST_NODES-clause-none c = λ size nodes value h.
     let s = number_one c.in-Some.at_size.now c.in-Some-number_at.size size c.in-Some-number_at.behind_size.now (TO_NODES.now ++ (decimal nodes ++ (middle size ++ (value_text value ++ foot size)))) c.in-Some-number_at.ensures.some (at_size size nodes value c.args.text.now c.in-Some.at_size.now h c.in-Some.ensures.some) in
     let n = number_one c.in-Some-after.at_nodes.now c.in-Some-number_at-2.nodes nodes c.in-Some-number_at-2.rest.now (middle size ++ (value_text value ++ foot size)) c.in-Some-number_at-2.ensures.some (at_nodes size nodes value c.in-Some-after.at_nodes.now h.valid (sym c.in-Some-after.ensures.some ∙ s.1)) in
     let v = h.valid.few_nodes in
