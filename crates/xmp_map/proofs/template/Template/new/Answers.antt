@@ -1,0 +1,35 @@
+use Rattle.std.proofs.Common.{arith, ◌≡◌, ℕ, length, rules, refl, sym, ap, ◌∙◌, Some, None, Bool, true, false}
+use Rattle.std.specs.Prelude.{if◌then◌else◌}
+use Rattle.xmp_map.specs.declared.fault.MapError.TheVariants.{Chunk}
+use Rattle.xmp_map.specs.Spread.{sizes_fit, spreads}
+use Rattle.xmp_map.specs.Nodes.{filled}
+use Rattle.xmp_map.proofs.SpreadLaws.{fault_of, fits_three, spreads-filled}
+use Rattle.xmp_map.proofs.template.Template.new.Goals as goal
+
+pub returns-in-Ok : goal.returns-in-Ok
+returns-in-Ok c =
+    let g = c.args.grid.now in
+    let s = c.in-Some.ensures in
+    let hl : length c.args.dists.now ≡ length c.args.sizes.now = search rules in
+    let hm : spreads c.args.dists.now ≡ g.dims = search rules in
+    let f = fault_of g.dims g.sizes c.args.sizes.now c.args.dists.now _ _ _ _ _ _ s.0 hl hm s.1 c.filled_dists-d0.ensures in
+    record {
+      parts = (refl, refl, c.in-Ok.ensures.sizes ∙ sym s.1, c.in-Ok.ensures.dists ∙ sym c.filled_dists-d0.ensures);
+      cause = f ∙ ap (λ b. if b then None else Some Chunk) c.in-Ok.ensures.fault;
+    }
+
+pub returns-in-Err-clause-cause : goal.returns-in-Err-clause-cause
+returns-in-Err-clause-cause c =
+    let g = c.args.grid.now in
+    let s = c.in-Some.ensures in
+    let hl : length c.args.dists.now ≡ length c.args.sizes.now = search rules in
+    let hm : spreads c.args.dists.now ≡ g.dims = search rules in
+    let f = fault_of g.dims g.sizes c.args.sizes.now c.args.dists.now _ _ _ _ _ _ s.0 hl hm s.1 c.filled_dists-d0.ensures in
+    f ∙ ap (λ b. if b then None else Some Chunk) c.in-Err.ensures.fault.0 ∙ ap (λ e. Some e) (sym c.in-Err.ensures.fault.1)
+
+pub invariant_of-result-clause-covers : goal.invariant_of-result-clause-covers
+invariant_of-result-clause-covers c =
+    let hl : length c.args.dists.now ≡ length c.args.sizes.now = search rules in
+    let hm : spreads c.args.dists.now ≡ c.args.grid.now.dims = search rules in
+    let hs = fits_three c.args.sizes.now c.in-Some.ensures.0 in
+    ap (λ ds. spreads ds) (c.in-Ok.ensures.dists ∙ sym c.filled_dists-d0.ensures) ∙ spreads-filled c.args.dists.now (omega arith) ∙ hm
