@@ -1,8 +1,7 @@
 -- Dimensions of an array over those of a template.
-use Rattle.std.proofs.Common.{◌≡◌, ℕ, zero, suc, ◌+◌, ◌<◌, ◌≤◌, Bool, true, false, List, [], ◌∷◌, refl, sym, ap, ◌∙◌, arith, length, Some, None, Option}
-use Rattle.std.specs.Prelude.{slice_get, IfSome}
+use Rattle.std.proofs.Common.{◌≡◌, ℕ, zero, suc, ◌≤◌, List, [], ◌∷◌, refl, arith, length, None}
+use Rattle.std.specs.Prelude.{slice_get}
 use Rattle.xmp_map.specs.declared.spread_dim.SpreadDim.{SpreadDim}
-use Rattle.xmp_map.specs.Align.{under}
 
 pub slice_get-none : (ss : List SpreadDim) (d : ℕ) → length ss ≤ d → slice_get ss d ≡ None
 slice_get-none [] d h = refl

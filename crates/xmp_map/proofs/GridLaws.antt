@@ -1,12 +1,11 @@
 -- What a grid's validity gives.
-use Rattle.std.proofs.Common.{◌≡◌, ℕ, zero, suc, ◌+◌, ◌-◌, ◌*◌, ◌<◌, ◌≤◌, Bool, true, false, List, [], ◌∷◌, refl, sym, ap, ◌∙◌, arith, subst, length, get_or, IsTrue}
-use Rattle.std.specs.Prelude.{◌&&◌, nat_le, slice_index}
-use Rattle.std.specs.List.{list_all}
+use Rattle.std.proofs.Common.{◌≡◌, ℕ, ◌*◌, ◌<◌, ◌≤◌, List, [], ◌∷◌, arith, subst, length, get_or, IsTrue}
+use Rattle.std.specs.Prelude.{slice_index}
 use Rattle.std.proofs.lemmas.Bool.Decides.{nat_tests}
 use Rattle.xmp_map.specs.RowMajor.{product}
 use Rattle.xmp_map.specs.Nodes.{is_grid}
 use Rattle.xmp_map.specs.declared.grid.Grid.{Grid}
-use Rattle.xmp_map.proofs.Three.{positive, le_times, three, product_of}
+use Rattle.xmp_map.proofs.Three.{le_times, three}
 
 pub record Factors (a b c : ℕ) : Type 0 where
   pub one : a ≤ a * b * c
@@ -42,3 +41,8 @@ pub grid_pair : (g : Grid) → length g.sizes ≡ 3 → slice_index g.sizes 0 * 
 grid_pair g l =
     let P : List ℕ → Type 0 = λ xs. IsTrue (is_grid xs) in
     grid_three (get_or g.sizes 0 0) (get_or g.sizes 1 0) (get_or g.sizes 2 0) (subst P (three g.sizes 0 l) g.valid)
+
+pub grid_small : (g : Grid) → product g.sizes ≤ 4194304
+grid_small g =
+    let h = g.valid in
+    grind (arith, nat_tests)

@@ -1,13 +1,12 @@
 -- What a template gives of a dimension of an array.
-use Rattle.std.proofs.Common.{◌≡◌, ℕ, zero, suc, ◌+◌, ◌*◌, ◌<◌, ◌≤◌, Bool, true, false, List, [], ◌∷◌, refl, sym, ap, ◌∙◌, arith, length, get_or, IsTrue, subst, Some, None, Option, map}
+use Rattle.std.proofs.Common.{◌≡◌, ℕ, zero, suc, ◌+◌, ◌*◌, ◌<◌, ◌≤◌, Bool, true, false, List, [], ◌∷◌, refl, ap, ◌∙◌, arith, length, get_or, subst, Some, None, Option, map}
 use Rattle.std.specs.Prelude.{slice_get, slice_index, ◌&&◌, ◌||◌, ◌==◌, is_none, if◌then◌else◌}
 use Rattle.std.specs.List.{list_all}
 use Rattle.std.proofs.lemmas.Bool.Decides.{nat_tests}
 use Rattle.xmp_dist.specs.Count.{count_below}
 use Rattle.xmp_dist.specs.Valid.{is_extent}
 use Rattle.xmp_dist.proofs.Counting.{one_if, count_below-is}
-use Rattle.xmp_dist.proofs.Owned.{DimFits, dim_fits}
-use Rattle.xmp_map.specs.declared.fault.MapError.{MapError}
+use Rattle.xmp_dist.proofs.Owned.{dim_fits}
 use Rattle.xmp_map.specs.declared.fault.MapError.TheVariants.{Align, Shadow}
 use Rattle.xmp_map.specs.declared.spread_dim.SpreadDim.{SpreadDim}
 use Rattle.xmp_map.specs.declared.template.Template.{Template}
@@ -20,7 +19,7 @@ use Rattle.xmp_map.specs.Spread.{is_whole, lies_over, node_along}
 use Rattle.xmp_map.specs.Align.{under, names_fit, is_target, is_shadow, map_fault, dims_of, unused, aligned_dims}
 use Rattle.xmp_map.specs.Held.{offset_of, holds_over, holds_on}
 use Rattle.xmp_map.proofs.Counted.{and_left, and_right}
-use Rattle.xmp_map.proofs.Order.{AllBelow, inside_below, below_at}
+use Rattle.xmp_map.proofs.Order.{inside_below, below_at}
 
 lies_here : (w : Bool) (a k n : ℕ) (sizes : List ℕ) (rest : Bool) → (((a == k) && (w || (n == slice_index sizes k))) && rest) ≡ true →
     (w || (n == slice_index sizes a)) ≡ true

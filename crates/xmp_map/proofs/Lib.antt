@@ -6,3 +6,6 @@ pub mod LineLaws
 pub mod AlignLaws
 pub mod SpreadLaws
 pub mod HoldLaws
+pub mod MapLaws
+pub mod AxisLaws
+pub mod OwnerLaws

@@ -1,16 +1,13 @@
 -- The closed formulas for the subscripts of one dimension that a position holds.
-use Rattle.std.proofs.Common.{◌≡◌, ℕ, zero, suc, ◌+◌, ◌-◌, ◌*◌, ◌<◌, ◌≤◌, ◌⊎◌, inl, inr, Bool, true, false, refl, sym, ◌∙◌, ap, arith, min, IsTrue}
+use Rattle.std.proofs.Common.{◌≡◌, ℕ, ◌+◌, ◌-◌, ◌<◌, ◌≤◌, ◌⊎◌, inl, inr, Bool, true, false, refl, ◌∙◌, ap, arith, min}
 use Rattle.std.specs.Prelude.{◌&&◌, ◌||◌, ◌==◌, nat_lt, nat_le}
-use Rattle.std.proofs.lemmas.Bool.{cases_lt}
 use Rattle.std.proofs.lemmas.Bool.Decides.{nat_tests}
-use Rattle.xmp_dist.specs.declared.form.Dist.{Dist}
-use Rattle.xmp_dist.specs.declared.form.Dist.TheVariants.{Whole, Block, Cyclic, Gblock}
 use Rattle.xmp_dist.specs.declared.dimension.Dim.{Dim}
 use Rattle.xmp_dist.specs.Count.{count_below}
 use Rattle.xmp_dist.specs.Table.{is_chunked, chunk_start, chunk_end}
 use Rattle.xmp_dist.specs.Owner.{owner_inside, owned_below}
 use Rattle.xmp_dist.proofs.Counting.{count_below-same, count_below-shift, count_below-span}
-use Rattle.xmp_dist.proofs.Owned.{chunk_owner, chunk_order}
+use Rattle.xmp_dist.proofs.Owned.{chunk_owner}
 use Rattle.xmp_map.specs.Shadow.{has_shadow, is_near, holds_at}
 
 -- a form with no shadow: what is owned, counted on from the offset

@@ -1,8 +1,6 @@
 -- Lists of three, as the arrays of a grid, a cell or a map are.
-use Rattle.std.proofs.Common.{◌≡◌, ℕ, zero, suc, ◌+◌, ◌-◌, ◌*◌, ◌/◌, ◌%◌, ◌<◌, ◌≤◌, ◌⊎◌, inl, inr, List, [], ◌∷◌, refl, sym, ◌∙◌, ap, arith, length, get_or}
-use Rattle.std.proofs.lemmas.Nat.{div-mul-add}
+use Rattle.std.proofs.Common.{◌≡◌, ℕ, zero, suc, ◌+◌, ◌*◌, ◌/◌, ◌%◌, ◌<◌, ◌≤◌, List, [], ◌∷◌, refl, ◌∙◌, ap, arith, length, get_or}
 use Rattle.std.proofs.Math.Nat.{div-one, mul-le-mul_right, mul-le-mul}
-use Rattle.std.proofs.lemmas.Bool.{cases_lt}
 use Rattle.xmp_map.specs.RowMajor.{product, row_major, unravel}
 
 pub three : {A : Type 0} (xs : List A) (d : A) → length xs ≡ 3 → xs ≡ (get_or xs 0 d ∷ get_or xs 1 d ∷ get_or xs 2 d ∷ [])

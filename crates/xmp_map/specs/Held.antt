@@ -1,5 +1,5 @@
 -- Who owns a cell of an array, which cells a node holds, and where they lie in its store.
-use Rattle.std.specs.Prelude.{ℕ, ◌<◌, Bool, true, false, ◌+◌, ◌==◌, List, [], ◌∷◌, map, slice_index, ℤ, pos, negsuc, Option, Some, None, not, ◌&&◌, if◌then◌else◌}
+use Rattle.std.specs.Prelude.{ℕ, Bool, true, false, ◌+◌, ◌==◌, List, map, slice_get, ℤ, pos, negsuc, Option, Some, None}
 use Rattle.xmp_dist.specs.Owner.{owner_inside}
 use Rattle.xmp_map.specs.declared.spread_dim.SpreadDim.{SpreadDim}
 use Rattle.xmp_map.specs.declared.aligned.AlignedDim.{AlignedDim}
@@ -7,7 +7,7 @@ use Rattle.xmp_map.specs.declared.array_map.ArrayMap.{ArrayMap}
 use Rattle.xmp_map.specs.RowMajor.{product, row_major, unravel}
 use Rattle.xmp_map.specs.Boxes.{IsInside, all_pass, counts_below, count_cells}
 use Rattle.xmp_map.specs.Shadow.{holds_at}
-use Rattle.xmp_map.specs.Spread.{is_whole, node_along}
+use Rattle.xmp_map.specs.Spread.{node_along}
 use Rattle.xmp_map.specs.Align.{under}
 
 -- how many nodes the grid under an array has
@@ -38,15 +38,6 @@ owns_on ss at l x = owns_over (under ss l.target.dim) at (offset_of l.target.off
 abbrev pub holds_on : List SpreadDim → List ℕ → AlignedDim → ℕ → Bool
 holds_on ss at l x = holds_over (under ss l.target.dim) at (offset_of l.target.offset) l.low l.high x
 
--- the owner of subscript `x` along axis `k` of the grid, where this dimension lies on that axis
-abbrev pub owner_over : Option SpreadDim → ℕ → ℕ → ℕ → Option ℕ
-owner_over None offset x k = None
-owner_over (Some s) offset x k =
-    if not (is_whole s.dim.dist) && (s.axis == k) then Some (owner_inside s.dim (x + offset)) else None
-
-abbrev pub owner_on : List SpreadDim → AlignedDim → ℕ → ℕ → Option ℕ
-owner_on ss l x k = owner_over (under ss l.target.dim) (offset_of l.target.offset) x k
-
 -- a node owns a cell where it owns each subscript: its place in the grid has the owners of the cell's positions
 abbrev pub owns : ArrayMap → ℕ → List ℕ → Bool
 owns m node cell = all_pass (map (λ l. owns_on m.template.spread (unravel m.template.grid.sizes node) l) m.aligned) cell
@@ -54,6 +45,14 @@ owns m node cell = all_pass (map (λ l. owns_on m.template.spread (unravel m.tem
 -- which subscripts a node holds, dimension by dimension
 abbrev pub tests : ArrayMap → ℕ → List (ℕ → Bool)
 tests m node = map (λ l. holds_on m.template.spread (unravel m.template.grid.sizes node) l) m.aligned
+
+-- whether it holds subscript `x` of dimension `d`
+abbrev pub holds_dim : List SpreadDim → List ℕ → Option AlignedDim → ℕ → Bool
+holds_dim ss at None x = false
+holds_dim ss at (Some l) x = holds_on ss at l x
+
+abbrev pub holds_in : ArrayMap → ℕ → ℕ → ℕ → Bool
+holds_in m node d x = holds_dim m.template.spread (unravel m.template.grid.sizes node) (slice_get m.aligned d) x
 
 -- a node holds a cell where it holds each subscript
 abbrev pub holds : ArrayMap → ℕ → List ℕ → Bool

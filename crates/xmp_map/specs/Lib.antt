@@ -5,3 +5,4 @@ pub mod Nodes
 pub mod Spread
 pub mod Align
 pub mod Held
+pub mod Axes

@@ -1,7 +1,7 @@
 -- Which positions of a dimension of a template a node holds: its own, and those in its shadow.
 use Rattle.std.specs.Prelude.{ℕ, Bool, true, false, ◌+◌, ◌&&◌, ◌||◌, ◌==◌, nat_lt, nat_le}
 use Rattle.xmp_dist.specs.declared.form.Dist.{Dist}
-use Rattle.xmp_dist.specs.declared.form.Dist.TheVariants.{Whole, Block, Cyclic, Gblock}
+use Rattle.xmp_dist.specs.declared.form.Dist.TheVariants.{Block, Gblock}
 use Rattle.xmp_dist.specs.declared.dimension.Dim.{Dim}
 use Rattle.xmp_dist.specs.Table.{chunk_start, chunk_end}
 use Rattle.xmp_dist.specs.Owner.{owner_inside}

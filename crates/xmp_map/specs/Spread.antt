@@ -1,8 +1,8 @@
 -- Dimensions of a template over the axes of a grid, and why a template is refused.
-use Rattle.std.specs.Prelude.{ℕ, Bool, true, false, ◌+◌, ◌&&◌, ◌||◌, ◌==◌, nat_le, List, [], ◌∷◌, length, map, slice_index, ℤ, Option, Some, None, if◌then◌else◌}
+use Rattle.std.specs.Prelude.{ℕ, Bool, true, false, ◌+◌, ◌&&◌, ◌||◌, ◌==◌, nat_le, List, [], ◌∷◌, length, slice_index, ℤ, Option, Some, None, if◌then◌else◌}
 use Rattle.std.specs.List.{list_all}
 use Rattle.xmp_dist.specs.declared.form.Dist.{Dist}
-use Rattle.xmp_dist.specs.declared.form.Dist.TheVariants.{Whole, Block, Cyclic, Gblock}
+use Rattle.xmp_dist.specs.declared.form.Dist.TheVariants.{Whole}
 use Rattle.xmp_dist.specs.Valid.{is_extent, width_fits, lengths_fit}
 use Rattle.xmp_dist.specs.Owner.{owner}
 use Rattle.xmp_map.specs.declared.fault.MapError.{MapError}

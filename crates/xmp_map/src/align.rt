@@ -46,11 +46,7 @@ pub fn aligned_dims(
 {
     match (extents, targets, shadow) {
         ([e], [t], [w]) => (aligned_dim(*e, *t, *w), UNUSED, UNUSED),
-        ([e, f], [t, u], [w, x]) => (
-            aligned_dim(*e, *t, *w),
-            aligned_dim(*f, *u, *x),
-            UNUSED,
-        ),
+        ([e, f], [t, u], [w, x]) => (aligned_dim(*e, *t, *w), aligned_dim(*f, *u, *x), UNUSED),
         ([e, f, g], [t, u, v], [w, x, y]) => (
             aligned_dim(*e, *t, *w),
             aligned_dim(*f, *u, *x),
@@ -117,8 +113,7 @@ fn is_target(template: &Template, dim: &AlignedDim) -> bool
     match dim.target.dim {
         None => true,
         Some(d) => {
-            d < template.dims
-                && positions_fit(dim.target.offset, dim.extent, under(template, dim))
+            d < template.dims && positions_fit(dim.target.offset, dim.extent, under(template, dim))
         }
     }
 }

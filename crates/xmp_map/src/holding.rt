@@ -5,7 +5,8 @@ ghost use Rattle.xmp_dist.specs.Count.{count_below};
 ghost use Rattle.xmp_dist.specs.Valid.{is_extent};
 ghost use Rattle.xmp_map.specs.Boxes.{IsInside};
 ghost use Rattle.xmp_map.specs.Align.{is_target, is_shadow};
-ghost use Rattle.xmp_map.specs.Held.{offset_of, owner_on, holds_on};
+ghost use Rattle.xmp_map.specs.Held.{offset_of, holds_on};
+ghost use Rattle.xmp_map.specs.Axes.{owner_on};
 
 use crate::align::under;
 use crate::aligned::{AlignedDim, Target};
@@ -71,7 +72,7 @@ pub fn local(template: &Template, dim: &AlignedDim, at: &[u32; 3], x: u32) -> Op
 }
 
 // The owner of subscript `x` along an axis of the grid, where the dimension lies on that axis.
-pub fn owner_along(template: &Template, dim: &AlignedDim, x: u32, axis: u32) -> Option<u32>
+pub fn owner_on(template: &Template, dim: &AlignedDim, x: u32, axis: u32) -> Option<u32>
     requires target { IsTrue (is_target template.now.dims template.now.spread dim.now) }
     requires extent { IsTrue (is_extent dim.now.extent) }
     requires inside { x < dim.now.extent }

@@ -20,7 +20,8 @@ pub fn held_below(dim: &Dim, c: u32, low: u32, high: u32, offset: u32, n: u32) -
         _ => {
             let (start, end) = dim.interval(c);
             if start < end {
-                n.min((end + high).saturating_sub(offset)) - n.min(start.saturating_sub(low + offset))
+                n.min((end + high).saturating_sub(offset))
+                    - n.min(start.saturating_sub(low + offset))
             } else {
                 0
             }

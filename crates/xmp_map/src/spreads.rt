@@ -124,13 +124,7 @@ fn both(p: bool, q: bool) -> bool
 }
 
 // Whether the node that stands at `at` in the grid owns each position of a point.
-pub fn owns_three(
-    a: &SpreadDim,
-    b: &SpreadDim,
-    c: &SpreadDim,
-    at: &[u32; 3],
-    point: &[i64],
-) -> bool
+pub fn owns_three(a: &SpreadDim, b: &SpreadDim, c: &SpreadDim, at: &[u32; 3], point: &[i64]) -> bool
     ensures { result ≡ owns_point at.now (a.now ∷ b.now ∷ c.now ∷ []) point.now }
 {
     match point {

@@ -1,5 +1,4 @@
-use Rattle.std.proofs.Common.{rules, ◌≡◌, ◌≤◌, ◌<◌, ◌+◌, Some, None, ℕ, length, sym, ◌∙◌, arith, List}
-use Rattle.xmp_dist.specs.Count.{count_below}
+use Rattle.std.proofs.Common.{rules, ◌≡◌, ◌+◌, length, sym, ◌∙◌, arith}
 use Rattle.xmp_dist.proofs.Counting.{count_below-le}
 use Rattle.xmp_map.specs.Shadow.{holds_at}
 use Rattle.xmp_map.specs.Held.{holds_on}

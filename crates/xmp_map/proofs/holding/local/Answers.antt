@@ -1,4 +1,4 @@
-use Rattle.std.proofs.Common.{rules, ◌≡◌, ◌≤◌, ◌<◌, ◌+◌, Some, None, ℕ, length, sym, ◌∙◌, arith, ap}
+use Rattle.std.proofs.Common.{rules, ◌≡◌, Some, None, ℕ, length, sym, ◌∙◌, arith, ap}
 use Rattle.std.specs.Prelude.{if◌then◌else◌}
 use Rattle.xmp_dist.specs.Count.{count_below}
 use Rattle.xmp_map.specs.Held.{holds_on}

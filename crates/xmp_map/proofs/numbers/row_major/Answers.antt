@@ -1,6 +1,6 @@
-use Rattle.std.proofs.Common.{◌≡◌, ℕ, ◌+◌, ◌*◌, ◌<◌, ◌≤◌, sym, arith, get_or, length}
+use Rattle.std.proofs.Common.{◌<◌, sym, arith, get_or, length}
 use Rattle.xmp_map.proofs.Order.{inside_below, below_at, row_major-lt}
-use Rattle.xmp_map.proofs.Three.{product_of, row_major_of, place_of, rows_fit, place_fits}
+use Rattle.xmp_map.proofs.Three.{product_of, row_major_of, place_fits}
 use Rattle.xmp_map.proofs.numbers.row_major.Goals as goal
 
 pub overflow_mul-result : goal.overflow_mul-result

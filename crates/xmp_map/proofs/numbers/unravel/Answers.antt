@@ -1,8 +1,8 @@
-use Rattle.std.proofs.Common.{◌≡◌, ℕ, ◌+◌, ◌*◌, ◌<◌, ◌≤◌, sym, arith, get_or, subst, List}
+use Rattle.std.proofs.Common.{ℕ, sym, arith, get_or, subst, List}
 use Rattle.xmp_map.specs.RowMajor.{unravel}
 use Rattle.xmp_map.specs.Boxes.{IsInside}
 use Rattle.xmp_map.proofs.Order.{below_inside, unravel_below}
-use Rattle.xmp_map.proofs.Three.{product_of, row_major_of, place_of, rows_fit, place_fits}
+use Rattle.xmp_map.proofs.Three.{product_of, place_of, rows_fit}
 use Rattle.xmp_map.proofs.numbers.unravel.Goals as goal
 
 pub overflow_mul-rest : goal.overflow_mul-rest

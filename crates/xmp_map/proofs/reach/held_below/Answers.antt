@@ -1,10 +1,7 @@
-use Rattle.std.proofs.Common.{rules, ◌≡◌, ℕ, ◌+◌, ◌-◌, ◌<◌, ◌≤◌, ◌⊎◌, Bool, true, false, refl, sym, ap, ◌∙◌, arith, subst}
-use Rattle.xmp_dist.specs.declared.form.Dist.{Dist}
-use Rattle.xmp_dist.specs.declared.form.Dist.TheVariants.{Cyclic}
-use Rattle.xmp_dist.specs.Count.{count_below}
+use Rattle.std.proofs.Common.{sym, ap, ◌∙◌, arith}
 use Rattle.xmp_dist.proofs.Owned.{chunked_unless}
-use Rattle.xmp_map.specs.Shadow.{has_shadow, holds_at}
-use Rattle.xmp_map.proofs.LineLaws.{IsCut, held_cyclic, held_chunked}
+use Rattle.xmp_map.specs.Shadow.{has_shadow}
+use Rattle.xmp_map.proofs.LineLaws.{held_cyclic, held_chunked}
 use Rattle.xmp_map.proofs.reach.held_below.Goals as goal
 
 pub overflow_sub-result : goal.overflow_sub-result

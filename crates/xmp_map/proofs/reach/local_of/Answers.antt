@@ -1,7 +1,5 @@
-use Rattle.std.proofs.Common.{◌≡◌, ℕ, ◌+◌, ◌<◌, Bool, true, false, refl, sym, arith, ap, ◌∙◌, Some, None, cond}
+use Rattle.std.proofs.Common.{◌≡◌, ◌+◌, true, false, refl, arith, ◌∙◌}
 use Rattle.std.proofs.lemmas.Bool.{lt-ltb, le-ltb}
-use Rattle.std.specs.Prelude.{nat_lt}
-use Rattle.xmp_dist.specs.Count.{count_below}
 use Rattle.xmp_dist.proofs.Counting.{count_below-tells}
 use Rattle.xmp_map.specs.Shadow.{holds_at}
 use Rattle.xmp_map.proofs.reach.local_of.Goals as goal

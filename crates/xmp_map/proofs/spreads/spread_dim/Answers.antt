@@ -1,9 +1,7 @@
-use Rattle.std.proofs.Common.{◌≡◌, ℕ, length, rules, refl, sym, ap, ◌∙◌, subst, Some, Bool, true, false}
+use Rattle.std.proofs.Common.{◌≡◌, ℕ, length, rules, refl, subst, Some}
 use Rattle.std.specs.Prelude.{slice_index}
 use Rattle.xmp_dist.specs.declared.form.Dist.{Dist}
-use Rattle.xmp_dist.specs.declared.form.Dist.TheVariants.{Whole}
-use Rattle.xmp_dist.specs.Valid.{dim_fault, is_extent}
-use Rattle.xmp_map.specs.Spread.{chunk_fits}
+use Rattle.xmp_dist.specs.Valid.{dim_fault}
 use Rattle.xmp_map.proofs.SpreadLaws.{fault_chunk, fault_whole, grid_at, whole_unless}
 use Rattle.xmp_map.proofs.spreads.spread_dim.Goals as goal
 use Rattle.xmp_map.proofs.spreads.spread_dim.Goals.{in-Whole, in_default}

@@ -1,6 +1,5 @@
-use Rattle.std.proofs.Common.{rules, IsTrue, map, ◌≤◌, ◌≡◌, ℕ, List, length, Bool, true, [], ◌∷◌, sym, ◌∙◌, ap, arith, subst}
+use Rattle.std.proofs.Common.{map, ◌≡◌, true, sym, ◌∙◌, ap, arith}
 use Rattle.std.specs.List.{list_all}
-use Rattle.std.specs.Prelude.{nat_le}
 use Rattle.std.proofs.lemmas.Bool.Decides.{nat_tests}
 use Rattle.xmp_dist.specs.Valid.{is_extent}
 use Rattle.xmp_map.specs.RowMajor.{product}

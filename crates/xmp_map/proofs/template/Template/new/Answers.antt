@@ -1,8 +1,7 @@
-use Rattle.std.proofs.Common.{arith, ◌≡◌, ℕ, length, rules, refl, sym, ap, ◌∙◌, Some, None, Bool, true, false}
+use Rattle.std.proofs.Common.{arith, ◌≡◌, length, rules, refl, sym, ap, ◌∙◌, Some, None}
 use Rattle.std.specs.Prelude.{if◌then◌else◌}
 use Rattle.xmp_map.specs.declared.fault.MapError.TheVariants.{Chunk}
-use Rattle.xmp_map.specs.Spread.{sizes_fit, spreads}
-use Rattle.xmp_map.specs.Nodes.{filled}
+use Rattle.xmp_map.specs.Spread.{spreads}
 use Rattle.xmp_map.proofs.SpreadLaws.{fault_of, fits_three, spreads-filled}
 use Rattle.xmp_map.proofs.template.Template.new.Goals as goal
 

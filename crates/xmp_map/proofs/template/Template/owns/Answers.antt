@@ -1,4 +1,4 @@
-use Rattle.std.proofs.Common.{◌≡◌, ℕ, length, rules, sym, ap, ◌∙◌, subst, Bool, IsTrue}
+use Rattle.std.proofs.Common.{◌≡◌, length, rules, sym, ap, ◌∙◌, subst, Bool, IsTrue}
 use Rattle.xmp_map.specs.RowMajor.{unravel}
 use Rattle.xmp_map.specs.Spread.{owns_point}
 use Rattle.xmp_map.proofs.Three.{three_of}
