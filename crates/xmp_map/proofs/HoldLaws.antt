@@ -1,5 +1,5 @@
 -- What a template gives of a dimension of an array.
-use Rattle.std.proofs.Common.{◌≡◌, ℕ, zero, suc, ◌+◌, ◌*◌, ◌<◌, ◌≤◌, Bool, true, false, List, [], ◌∷◌, refl, ap, ◌∙◌, arith, length, get_or, subst, Some, None, Option, map}
+use Rattle.std.proofs.Common.{◌≡◌, ℕ, zero, suc, ◌+◌, ◌*◌, ◌<◌, ◌≤◌, Bool, true, false, List, [], ◌∷◌, refl, ap, ◌∙◌, arith, length, get_or, subst, Some, None, Option, map, drop}
 use Rattle.std.specs.Prelude.{slice_get, slice_index, ◌&&◌, ◌||◌, ◌==◌, is_none, if◌then◌else◌}
 use Rattle.std.specs.List.{list_all}
 use Rattle.std.proofs.lemmas.Bool.Decides.{nat_tests}
@@ -16,7 +16,7 @@ use Rattle.xmp_map.specs.RowMajor.{product}
 use Rattle.xmp_map.specs.Boxes.{IsInside}
 use Rattle.xmp_map.specs.Nodes.{filled}
 use Rattle.xmp_map.specs.Spread.{is_whole, lies_over, node_along}
-use Rattle.xmp_map.specs.Align.{under, names_fit, is_target, is_shadow, map_fault, dims_of, unused, aligned_dims}
+use Rattle.xmp_map.specs.Align.{under, names_fit, is_target, is_shadow, map_fault, dims_of, unused, is_unused, aligned_dims}
 use Rattle.xmp_map.specs.Held.{offset_of, holds_over, holds_on}
 use Rattle.xmp_map.proofs.Counted.{and_left, and_right}
 use Rattle.xmp_map.proofs.Order.{inside_below, below_at}
@@ -161,3 +161,24 @@ extents_most a b c h =
     let k = all_three (λ l. is_extent l.extent) a b c h in
     let h0 = k.0 in let h1 = k.1 in let h2 = k.2 in
     (grind (arith, nat_tests), grind (arith, nat_tests), grind (arith, nat_tests))
+
+-- the dimensions past those of the array are unused
+pub aligned_rest : (es : List ℕ) (ts : List Target) (ws : List (ℕ × ℕ)) → length ts ≡ length es → length ws ≡ length es → length es ≤ 3 →
+    list_all is_unused (drop (length es) (aligned_dims es ts ws)) ≡ true
+aligned_rest [] ts ws h k m = refl
+aligned_rest (e ∷ []) (t ∷ []) (w ∷ []) h k m = refl
+aligned_rest (e ∷ f ∷ []) (t ∷ u ∷ []) (w ∷ v ∷ []) h k m = refl
+aligned_rest (e ∷ f ∷ g ∷ []) (t ∷ u ∷ x ∷ []) (w ∷ v ∷ y ∷ []) h k m = refl
+aligned_rest (e ∷ es) [] ws h k m = absurd (omega arith)
+aligned_rest (e ∷ es) (t ∷ ts) [] h k m = absurd (omega arith)
+aligned_rest (e ∷ []) (t ∷ u ∷ ts) ws h k m = absurd (omega arith)
+aligned_rest (e ∷ []) ts (w ∷ v ∷ ws) h k m = absurd (omega arith)
+aligned_rest (e ∷ f ∷ es) (t ∷ []) ws h k m = absurd (omega arith)
+aligned_rest (e ∷ f ∷ es) ts (w ∷ []) h k m = absurd (omega arith)
+aligned_rest (e ∷ f ∷ []) (t ∷ u ∷ x ∷ ts) ws h k m = absurd (omega arith)
+aligned_rest (e ∷ f ∷ []) ts (w ∷ v ∷ y ∷ ws) h k m = absurd (omega arith)
+aligned_rest (e ∷ f ∷ g ∷ es) (t ∷ u ∷ []) ws h k m = absurd (omega arith)
+aligned_rest (e ∷ f ∷ g ∷ es) ts (w ∷ v ∷ []) h k m = absurd (omega arith)
+aligned_rest (e ∷ f ∷ g ∷ []) (t ∷ u ∷ x ∷ z ∷ ts) ws h k m = absurd (omega arith)
+aligned_rest (e ∷ f ∷ g ∷ []) ts (w ∷ v ∷ y ∷ z ∷ ws) h k m = absurd (omega arith)
+aligned_rest (e ∷ f ∷ g ∷ i ∷ es) ts ws h k m = absurd (omega arith)

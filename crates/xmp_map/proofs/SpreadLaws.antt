@@ -1,6 +1,7 @@
 -- Why a dimension of a template is refused.
 use Rattle.std.proofs.Common.{◌≡◌, ℕ, zero, suc, ◌+◌, ◌*◌, ◌<◌, ◌≤◌, Bool, true, false, List, [], ◌∷◌, refl, ap, ◌∙◌, arith, subst, length, get_or, IsTrue, Some, None, eq-eqb}
-use Rattle.std.specs.Prelude.{◌&&◌, ◌==◌, slice_index, if◌then◌else◌}
+use Rattle.std.specs.List.{list_all}
+use Rattle.std.specs.Prelude.{drop, map, ◌&&◌, ◌==◌, slice_index, if◌then◌else◌}
 use Rattle.std.proofs.lemmas.Bool.Decides.{nat_tests}
 use Rattle.xmp_dist.specs.declared.form.Dist.{Dist}
 use Rattle.xmp_dist.specs.declared.form.Dist.TheVariants.{Whole, Block, Cyclic, Gblock}
@@ -8,6 +9,7 @@ use Rattle.xmp_dist.specs.declared.form.DimError.{DimError}
 use Rattle.xmp_dist.specs.declared.form.DimError.TheVariants.{BadSize, BadChunk, BadSum}
 use Rattle.xmp_dist.specs.Valid.{is_extent, nodes_fit, width_fits, lengths_fit, dim_fault}
 use Rattle.xmp_map.specs.declared.grid.Grid.{Grid}
+use Rattle.xmp_map.specs.declared.spread_dim.SpreadDim.{SpreadDim}
 use Rattle.xmp_map.specs.RowMajor.{product}
 use Rattle.xmp_map.specs.Nodes.{is_grid}
 use Rattle.xmp_map.specs.Spread.{is_whole}
@@ -150,3 +152,26 @@ fault_of many grid sizes dists s0 s1 s2 d0 d1 d2 hs hl hm es ed =
     fault_is many grid sizes dists hs hl hm
     ∙ ap (λ ss. if chunks_fit ss (filled Whole dists) grid 0 then None else Some Chunk) es
     ∙ ap (λ ds. if chunks_fit (s0 ∷ s1 ∷ s2 ∷ []) ds grid 0 then None else Some Chunk) ed
+
+whole_map : (ss : List SpreadDim) → list_all (λ s. is_whole s.dim.dist) ss ≡ list_all is_whole (map (λ s. s.dim.dist) ss)
+whole_map [] = refl
+whole_map (s ∷ ss) = ap (λ b. is_whole s.dim.dist && b) (whole_map ss)
+
+whole_drop : (n : ℕ) (ss : List SpreadDim) → list_all (λ s. is_whole s.dim.dist) (drop n ss) ≡ list_all is_whole (drop n (map (λ s. s.dim.dist) ss))
+whole_drop zero [] = refl
+whole_drop (suc n) [] = refl
+whole_drop zero (s ∷ ss) = whole_map (s ∷ ss)
+whole_drop (suc n) (s ∷ ss) = whole_drop n ss
+
+whole_filled : (dists : List Dist) → length dists ≤ 3 → list_all is_whole (drop (length dists) (filled Whole dists)) ≡ true
+whole_filled [] h = refl
+whole_filled (a ∷ []) h = refl
+whole_filled (a ∷ b ∷ []) h = refl
+whole_filled (a ∷ b ∷ c ∷ []) h = refl
+whole_filled (a ∷ b ∷ c ∷ d ∷ ds) h = absurd (omega arith)
+
+-- the dimensions past those of the template are undistributed
+pub whole_rest : (dists : List Dist) (ss : List SpreadDim) (n : ℕ) → map (λ s. s.dim.dist) ss ≡ filled Whole dists → n ≡ length dists → length dists ≤ 3 →
+    list_all (λ s. is_whole s.dim.dist) (drop n ss) ≡ true
+whole_rest dists ss n e l h =
+    whole_drop n ss ∙ ap (λ ds. list_all is_whole (drop n ds)) e ∙ ap (λ k. list_all is_whole (drop k (filled Whole dists))) l ∙ whole_filled dists h

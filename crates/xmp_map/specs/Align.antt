@@ -1,5 +1,5 @@
 -- How the dimensions of an array are aligned with those of a template, and why a map is refused.
-use Rattle.std.specs.Prelude.{ℕ, Bool, true, false, ◌+◌, ◌&&◌, ◌||◌, ◌==◌, nat_le, nat_lt, List, [], ◌∷◌, slice_get, ℤ, pos, negsuc, Option, Some, None, if◌then◌else◌}
+use Rattle.std.specs.Prelude.{ℕ, Bool, true, false, ◌+◌, ◌&&◌, ◌||◌, ◌==◌, nat_le, nat_lt, List, [], ◌∷◌, slice_get, is_none, ℤ, pos, negsuc, Option, Some, None, if◌then◌else◌}
 use Rattle.std.specs.List.{list_all, count_by}
 use Rattle.xmp_map.specs.declared.fault.MapError.{MapError}
 use Rattle.xmp_map.specs.declared.fault.MapError.TheVariants.{Align, Shadow}
@@ -24,6 +24,9 @@ dims_of (e ∷ es) (t ∷ ts) (w ∷ ws) = aligned_dim e t w ∷ dims_of es ts w
 -- an unused dimension: of extent 1, and aligned with nothing
 abbrev pub unused : AlignedDim
 unused = record { target = record { dim = None; offset = pos 0 }; extent = 1; low = 0; high = 0 }
+
+abbrev pub is_unused : AlignedDim → Bool
+is_unused l = (l.extent == 1) && is_none l.target.dim
 
 -- the dimensions of an array, filled up to three by unused ones
 abbrev pub aligned_dims : List ℕ → List Target → List (ℕ × ℕ) → List AlignedDim

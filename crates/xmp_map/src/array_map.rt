@@ -1,10 +1,10 @@
 // The map of an array: how its dimensions lie on a template, and so which node holds which cell.
 
-ghost use Rattle.std.specs.Prelude.{IsTrue, is_none, map, ◌≤◌, nat_le, nat_lt, ◌&&◌};
+ghost use Rattle.std.specs.Prelude.{IsTrue, is_none, map, drop, ◌≤◌, nat_le, nat_lt, ◌&&◌};
 ghost use Rattle.std.specs.List.{list_all};
 ghost use Rattle.xmp_map.specs.RowMajor.{product};
 ghost use Rattle.xmp_dist.specs.Valid.{is_extent};
-ghost use Rattle.xmp_map.specs.Align.{map_fault};
+ghost use Rattle.xmp_map.specs.Align.{is_unused, map_fault};
 
 use crate::align::{aligned_dims, fault};
 use crate::aligned::{AlignedDim, Target};
@@ -21,6 +21,7 @@ pub struct ArrayMap {
     pub aligned: [AlignedDim; 3],
     pub dims: u32,
     ghost most: { dims ≤ 3 },
+    ghost rest: { IsTrue (list_all is_unused (drop dims aligned)) },
     ghost fits: { IsTrue (is_none (map_fault template.dims template.spread aligned)) },
     ghost extents: { IsTrue (list_all (λ l. is_extent l.extent) aligned) },
     ghost small: { product (map (λ l. l.extent) aligned) ≤ 4194304 },

@@ -1,7 +1,8 @@
 // Templates: how their dimensions lie on a grid.
 
-ghost use Rattle.std.specs.Prelude.{IsTrue, ◌≡◌, ◌≤◌, map};
-ghost use Rattle.xmp_map.specs.Spread.{lies_over, spreads};
+ghost use Rattle.std.specs.List.{list_all};
+ghost use Rattle.std.specs.Prelude.{IsTrue, drop, ◌≡◌, ◌≤◌, map};
+ghost use Rattle.xmp_map.specs.Spread.{is_whole, lies_over, spreads};
 
 use crate::fault::MapError;
 use crate::grid::Grid;
@@ -14,10 +15,11 @@ use xmp_dist::{Dim, Dist};
 #[derive(Clone, Copy)]
 pub struct Template {
     pub grid: Grid,
-    /// The dimensions; those from `dims` on are undistributed and of size 1.
+    /// The dimensions; those from `dims` on are undistributed.
     pub spread: [SpreadDim; 3],
     pub dims: u32,
     ghost most: { dims ≤ 3 },
+    ghost rest: { IsTrue (list_all (λ s. is_whole s.dim.dist) (drop dims spread)) },
     ghost lies: { IsTrue (lies_over spread grid.sizes 0) },
     ghost covers: { spreads (map (λ s. s.dim.dist) spread) ≡ grid.dims },
 }

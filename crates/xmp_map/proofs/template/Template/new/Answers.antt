@@ -2,7 +2,8 @@ use Rattle.std.proofs.Common.{arith, ◌≡◌, length, rules, refl, sym, ap, �
 use Rattle.std.specs.Prelude.{if◌then◌else◌}
 use Rattle.xmp_map.specs.declared.fault.MapError.TheVariants.{Chunk}
 use Rattle.xmp_map.specs.Spread.{spreads}
-use Rattle.xmp_map.proofs.SpreadLaws.{fault_of, fits_three, spreads-filled}
+use Rattle.std.proofs.lemmas.Bool.Decides.{nat_tests}
+use Rattle.xmp_map.proofs.SpreadLaws.{fault_of, fits_three, spreads-filled, whole_rest}
 use Rattle.xmp_map.proofs.template.Template.new.Goals as goal
 
 pub returns-in-Ok : goal.returns-in-Ok
@@ -32,3 +33,10 @@ invariant_of-result-clause-covers c =
     let hm : spreads c.args.dists.now ≡ c.args.grid.now.dims = search rules in
     let hs = fits_three c.args.sizes.now c.in-Some.ensures.0 in
     ap (λ ds. spreads ds) (c.in-Ok.ensures.dists ∙ sym c.filled_dists-d0.ensures) ∙ spreads-filled c.args.dists.now (omega arith) ∙ hm
+
+pub invariant_of-result-clause-rest : goal.invariant_of-result-clause-rest
+invariant_of-result-clause-rest c =
+    let hl : length c.args.dists.now ≡ length c.args.sizes.now = search rules in
+    let hs = fits_three c.args.sizes.now c.in-Some.ensures.0 in
+    let h = whole_rest c.args.dists.now c.in-Ok.spread (length c.args.sizes.now) (c.in-Ok.ensures.dists ∙ sym c.filled_dists-d0.ensures) (sym hl) (omega arith) in
+    grind (arith, nat_tests)
