@@ -30,5 +30,5 @@ invariant_of-result-clause-small c =
 pub invariant_of-result-clause-rest : goal.invariant_of-result-clause-rest
 invariant_of-result-clause-rest c =
     let h = sym (ap (λ ls. list_all is_unused (drop (length c.args.extents.now) ls)) c.aligned_dims.ensures)
-        ∙ aligned_rest c.args.extents.now c.args.target.now c.args.shadow.now c.requires.targets c.requires.shadows c.requires.most in
+    ∙ aligned_rest c.args.extents.now c.args.target.now c.args.shadow.now c.requires.targets c.requires.shadows c.requires.most in
     grind (arith, nat_tests)
