@@ -30,6 +30,12 @@ count_three p a b c = sym (is_count_by (my_count p) p refl (λ x xs. refl) (a �
     go false false true = refl
     go false false false = refl
 
+from_one : (a k : ℕ) → a ≡ 0 + k → a ≡ k
+from_one a k h = omega arith
+
+from_two : (a k l : ℕ) → a ≡ 0 + k + l → a ≡ k + l
+from_two a k l h = omega arith
+
 -- a dimension of the array lies on an axis where it names a dimension of the template that does
 lies_named : (s0 s1 s2 : SpreadDim) (d : Option ℕ) (k : ℕ) →
     one_if (lies_on (under (s0 ∷ s1 ∷ s2 ∷ []) d) k)
@@ -109,7 +115,7 @@ one_lies_in a b c s0 s1 s2 dims k sizes h l n =
     let o0 = named_once (is_whole s0.dim.dist) (s0.axis == k) (named (a ∷ b ∷ c ∷ []) 0) each.0 in
     let o1 = named_once (is_whole s1.dim.dist) (s1.axis == k) (named (a ∷ b ∷ c ∷ []) 1) each.1 in
     let o2 = named_once (is_whole s2.dim.dist) (s2.axis == k) (named (a ∷ b ∷ c ∷ []) 2) each.2 in
-    let once = axes_once (is_whole s0.dim.dist) (is_whole s1.dim.dist) (is_whole s2.dim.dist) s0.axis s1.axis s2.axis dims k axes.0 (omega (arith, axes.1)) (omega (arith, axes.2)) n in
+    let once = axes_once (is_whole s0.dim.dist) (is_whole s1.dim.dist) (is_whole s2.dim.dist) s0.axis s1.axis s2.axis dims k axes.0 (from_one _ _ axes.1) (from_two _ _ _ axes.2) n in
     sum_up _ _ _ _ _ _ _ _ _ (one_if (lies_on (Some s0) k)) (one_if (lies_on (Some s1) k)) (one_if (lies_on (Some s2) k)) _ _ _ _ la lb lc (rw n0 at o0) (rw n1 at o1) (rw n2 at o2) once
 
 -- each axis of the grid, and no other number, has one dimension of the array on it

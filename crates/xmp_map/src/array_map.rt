@@ -14,7 +14,7 @@ use crate::numbers::{product, row_major, unravel};
 use crate::template::Template;
 
 /// The map of an array of one to three dimensions over a template.
-#[derive(Clone, Copy)]
+#[derive(Clone, Copy, PartialEq, Eq, Debug)]
 pub struct ArrayMap {
     pub template: Template,
     /// The dimensions; those from `dims` on are unused, of extent 1, and aligned with nothing.

@@ -8,7 +8,7 @@ use crate::fault::MapError;
 use crate::numbers::{is_grid, lies_in, product, unravel};
 
 /// A grid of nodes of one to three dimensions, its axes. Nodes are numbered with the last axis fastest.
-#[derive(Clone, Copy)]
+#[derive(Clone, Copy, PartialEq, Eq, Debug)]
 pub struct Grid {
     /// The sizes of the axes; those from `dims` on are 1.
     pub sizes: [u32; 3],

@@ -5,7 +5,7 @@ ghost use Rattle.std.specs.Prelude.{◌<◌};
 use xmp_dist::{Dim, Dist};
 
 /// A dimension of a template, and the axis of the grid that it lies on where it is distributed.
-#[derive(Clone, Copy)]
+#[derive(Clone, Copy, PartialEq, Eq, Debug)]
 pub struct SpreadDim {
     pub dim: Dim,
     pub axis: u32,

@@ -12,7 +12,7 @@ use crate::spreads::{filled_dists, filled_sizes, owns_three, spread_dims, spread
 use xmp_dist::{Dim, Dist};
 
 /// A template of one to three dimensions, distributed over a grid.
-#[derive(Clone, Copy)]
+#[derive(Clone, Copy, PartialEq, Eq, Debug)]
 pub struct Template {
     pub grid: Grid,
     /// The dimensions; those from `dims` on are undistributed.
