@@ -11,13 +11,13 @@ use Rattle.xmp_map.specs.declared.spread_dim.SpreadDim.{SpreadDim}
 use Rattle.xmp_map.specs.declared.aligned.AlignedDim.{AlignedDim}
 use Rattle.xmp_map.specs.declared.array_map.ArrayMap.{ArrayMap}
 use Rattle.xmp_map.specs.RowMajor.{product, row_major, unravel}
-use Rattle.xmp_map.specs.Boxes.{all_pass, counts_below, IsInside}
+use Rattle.xmp_map.specs.Boxes.{all_pass, counts_below, count_before, IsInside}
 use Rattle.xmp_map.specs.Align.{is_target, is_shadow, map_fault, names_fit}
 use Rattle.xmp_map.specs.Held.{holds_on, holds_dim, extents, tests, holds, words, held_counts, local_positions, slot, IsCell}
 use Rattle.xmp_map.proofs.Three.{three_of}
-use Rattle.xmp_map.proofs.Order.{AllBelow, inside_below, below_inside}
+use Rattle.xmp_map.proofs.Order.{AllBelow, inside_below, below_inside, length_below}
 use Rattle.xmp_map.proofs.GridLaws.{factors}
-use Rattle.xmp_map.proofs.Counted.{locals_below, slot_lt, slot_unique, words_are}
+use Rattle.xmp_map.proofs.Counted.{locals_below, slot_lt, slot_unique, words_are, rank_is}
 use Rattle.xmp_map.proofs.HoldLaws.{map_fits, all_three}
 
 -- what stands for an element that a list does not have
@@ -164,6 +164,7 @@ pub record SlotFits (m : ArrayMap) (node : ℕ) (cell locals sides : List ℕ) :
   pub inside : IsInside locals sides
   pub same : row_major sides locals ≡ slot m node cell
   pub below : slot m node cell < words m node
+  pub rank : slot m node cell ≡ count_before (extents m) (holds m node) cell
   pub only : (other : List ℕ) → IsCell m other → holds m node other ≡ true → slot m node other ≡ slot m node cell → other ≡ cell
 
 pub slot_fits : (m : ArrayMap) (node : ℕ) (cell locals sides : List ℕ) → length m.aligned ≡ 3 → IsCell m cell → holds m node cell ≡ true →
@@ -179,6 +180,7 @@ slot_fits m node cell locals sides l i h el es =
       inside = below_inside locals sides here;
       same = rw (el, es) refl;
       below = rw (words_are (tests m node) (extents m) fit) (slot_lt (tests m node) cell (extents m) fit b h);
+      rank = rank_is (tests m node) (extents m) cell fit (length_below cell (extents m) b) h;
       only = λ other io ho e. slot_unique (tests m node) other cell (extents m) fit (inside_below other (extents m) io) b ho h e;
     }
 

@@ -62,3 +62,7 @@ row_major-unravel (e ∷ es) n h =
     let p = positive e (product es) (omega arith) in
     let i = row_major-unravel es (n % product es) (omega arith) in
     omega arith
+
+pub length_below : (xs es : List ℕ) → AllBelow xs es → length xs ≡ length es
+length_below xs es none_below = refl
+length_below xs es (more_below x e xs' es' h b) = let i = length_below xs' es' b in omega arith

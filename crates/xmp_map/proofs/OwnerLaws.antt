@@ -22,7 +22,7 @@ use Rattle.xmp_map.specs.Held.{offset_of, owns_over, owns_on, holds_over, holds_
 use Rattle.xmp_map.specs.Axes.{lies_on, owner_over, owner_along}
 use Rattle.xmp_map.proofs.Counted.{and_left, and_right}
 use Rattle.xmp_map.proofs.Three.{three_of}
-use Rattle.xmp_map.proofs.Order.{AllBelow, none_below, more_below, inside_below, below_at, unravel_below, unravel-row_major, row_major-unravel}
+use Rattle.xmp_map.proofs.Order.{inside_below, below_at, unravel_below, unravel-row_major, row_major-unravel, length_below}
 use Rattle.xmp_map.proofs.HoldLaws.{lies_under}
 use Rattle.xmp_map.proofs.SpreadLaws.{grid_at}
 use Rattle.xmp_map.proofs.MapLaws.{dims_fit, inside_three}
@@ -321,10 +321,6 @@ owner_is_at m a b c cell e ls lg lc h =
           three_of (unravel sizes other) 0 0 0 (omega (arith, length_below (unravel sizes other) sizes b)) ∙ three_same _ _ _ _ _ _ (same 0 (omega arith)) (same 1 (omega arith)) (same 2 (omega arith));
     }
   where
-    length_below : (xs es : List ℕ) → AllBelow xs es → length xs ≡ length es
-    length_below xs es none_below = refl
-    length_below xs es (more_below x e xs' es' h b) = let i = length_below xs' es' b in omega arith
-
     three_same : (a b c x y z : ℕ) → a ≡ x → b ≡ y → c ≡ z → (a ∷ b ∷ c ∷ []) ≡ (x ∷ y ∷ z ∷ [])
     three_same a b c x y z h i j = cc
 

@@ -29,3 +29,10 @@ sum_below f (suc n) = sum_below f n + f n
 unfoldable pub count_cells : List ℕ → (List ℕ → Bool) → ℕ
 count_cells [] p = if p [] then 1 else 0
 count_cells (e ∷ es) p = sum_below (λ x. count_cells es (λ xs. p (x ∷ xs))) e
+
+-- how many cells of the box pass that come before a cell in row-major order: those with a smaller first subscript, and
+-- those with the same one and a rest that comes before
+unfoldable pub count_before : List ℕ → (List ℕ → Bool) → List ℕ → ℕ
+count_before [] p xs = 0
+count_before (e ∷ es) p [] = 0
+count_before (e ∷ es) p (x ∷ xs) = sum_below (λ y. count_cells es (λ ys. p (y ∷ ys))) x + count_before es (λ ys. p (x ∷ ys)) xs

@@ -37,7 +37,7 @@ impl ArrayMap {
     ghost use Rattle.std.specs.Prelude.{◌≡◌, ◌<◌, ◌*◌, ◌↔◌, ℕ, List, MatchResult, IfOk, IsSome, IfSome, Some, None, length, slice_get, slice_index, if◌then◌else◌};
     ghost use Rattle.xmp_dist.specs.Count.{count_below};
     ghost use Rattle.xmp_map.specs.RowMajor.{unravel};
-    ghost use Rattle.xmp_map.specs.Boxes.{IsInside};
+    ghost use Rattle.xmp_map.specs.Boxes.{IsInside, count_before};
     ghost use Rattle.xmp_map.specs.Align.{aligned_dims};
     ghost use Rattle.xmp_map.specs.Axes.{owner_along};
     ghost use Rattle.xmp_map.specs.Held.{node_count, extents, IsCell, owns, holds_in, holds, words, held_counts, local_positions, slot};
@@ -235,6 +235,7 @@ impl ArrayMap {
         requires inside { IsCell self.now cell.now.at }
         ensures held { IsSome result ↔ IsTrue (holds self.now node cell.now.at) }
         ensures slot { IfSome result (λ s. s ≡ slot self.now node cell.now.at) }
+        ensures rank { IfSome result (λ s. s ≡ count_before (extents self.now) (holds self.now node) cell.now.at) }
         ensures below { IfSome result (λ s. s < words self.now node) }
         ensures only { (other : List ℕ) → IsCell self.now other → IsTrue (holds self.now node other)
             → IfSome result (λ s. slot self.now node other ≡ s → other ≡ cell.now.at) }

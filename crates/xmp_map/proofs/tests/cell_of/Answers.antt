@@ -1,6 +1,5 @@
-use Rattle.std.proofs.Common.{rules, ◌≡◌, ℕ, ◌<◌, List, [], ◌∷◌, length, get_or, sym, subst}
+use Rattle.std.proofs.Common.{rules, ◌≡◌, ℕ, List, [], ◌∷◌, length, sym, subst}
 use Rattle.xmp_map.specs.Boxes.{IsInside}
-use Rattle.xmp_map.specs.declared.aligned.AlignedDim.{AlignedDim}
 use Rattle.xmp_map.proofs.Three.{three_of}
 use Rattle.xmp_map.proofs.MapLaws.{blank, extents_are}
 use Rattle.xmp_map.proofs.tests.cell_of.Goals as goal

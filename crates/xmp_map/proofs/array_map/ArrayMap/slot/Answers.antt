@@ -38,3 +38,11 @@ returns-clause-only c other io ho e =
     let f = slot_fits m c.args.node c.args.cell.now.at c.in_ok-locals.locals c.sides.result l c.requires.inside s.0 s.1 c.sides.ensures.sides in
     let h : holds m c.args.node other ≡ true = grind (arith, nat_tests) in
     f.only other io h (e ∙ c.row_major.ensures.number ∙ f.same)
+
+pub returns-clause-rank : goal.returns-clause-rank
+returns-clause-rank c =
+    let m = c.args.self.now in
+    let l : length m.aligned ≡ 3 = search rules in
+    let s = some_list _ _ c.in_ok-locals.locals (sym c.in_ok-locals.was ∙ c.locals.ensures) in
+    let f = slot_fits m c.args.node c.args.cell.now.at c.in_ok-locals.locals c.sides.result l c.requires.inside s.0 s.1 c.sides.ensures.sides in
+    c.row_major.ensures.number ∙ f.same ∙ f.rank
