@@ -35,4 +35,5 @@ count_cells (e ∷ es) p = sum_below (λ x. count_cells es (λ xs. p (x ∷ xs))
 unfoldable pub count_before : List ℕ → (List ℕ → Bool) → List ℕ → ℕ
 count_before [] p xs = 0
 count_before (e ∷ es) p [] = 0
-count_before (e ∷ es) p (x ∷ xs) = sum_below (λ y. count_cells es (λ ys. p (y ∷ ys))) x + count_before es (λ ys. p (x ∷ ys)) xs
+count_before (e ∷ es) p (x ∷ xs) =
+    sum_below (λ y. count_cells es (λ ys. p (y ∷ ys))) x + count_before es (λ ys. p (x ∷ ys)) xs

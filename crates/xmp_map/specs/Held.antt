@@ -22,7 +22,7 @@ abbrev pub offset_of : ℤ → ℕ
 offset_of (pos n) = n
 offset_of (negsuc _) = 0
 
--- whether the node that stands at `at` in the grid owns the position of subscript `x`, along that dimension; all nodes do where nothing is under it
+-- whether the node that stands at `at` in the grid owns subscript `x` along a dimension; where nothing is under it, all do
 abbrev pub owns_over : Option SpreadDim → List ℕ → ℕ → ℕ → Bool
 owns_over None at offset x = true
 owns_over (Some s) at offset x = owner_inside s.dim (x + offset) == node_along at s
@@ -40,7 +40,8 @@ holds_on ss at l x = holds_over (under ss l.target.dim) at (offset_of l.target.o
 
 -- a node owns a cell where it owns each subscript: its place in the grid has the owners of the cell's positions
 abbrev pub owns : ArrayMap → ℕ → List ℕ → Bool
-owns m node cell = all_pass (map (λ l. owns_on m.template.spread (unravel m.template.grid.sizes node) l) m.aligned) cell
+owns m node cell =
+    all_pass (map (λ l. owns_on m.template.spread (unravel m.template.grid.sizes node) l) m.aligned) cell
 
 -- which subscripts a node holds, dimension by dimension
 abbrev pub tests : ArrayMap → ℕ → List (ℕ → Bool)

@@ -20,4 +20,5 @@ is_near start end low high g = nat_lt start end && (nat_le start (g + low) && na
 unfoldable pub holds_at : Dim → ℕ → ℕ → ℕ → ℕ → Bool
 holds_at d c low high g =
     (owner_inside d g == c)
-    || (has_shadow d.dist && is_near (chunk_start d.dist d.size d.nodes c) (chunk_end d.dist d.size d.nodes c) low high g)
+    || (has_shadow d.dist
+    && is_near (chunk_start d.dist d.size d.nodes c) (chunk_end d.dist d.size d.nodes c) low high g)

@@ -26,7 +26,8 @@ spreads (d ∷ ds) = spread d + spreads ds
 abbrev pub lies_over : List SpreadDim → List ℕ → ℕ → Bool
 lies_over [] sizes k = true
 lies_over (s ∷ ss) sizes k =
-    ((s.axis == k) && (is_whole s.dim.dist || (s.dim.nodes == slice_index sizes k))) && lies_over ss sizes (k + spread s.dim.dist)
+    ((s.axis == k) && (is_whole s.dim.dist || (s.dim.nodes == slice_index sizes k)))
+    && lies_over ss sizes (k + spread s.dim.dist)
 
 abbrev pub sizes_fit : List ℕ → Bool
 sizes_fit sizes = (nat_le 1 (length sizes) && nat_le (length sizes) 3) && list_all is_extent sizes

@@ -80,7 +80,8 @@ fn named(dims: &[AlignedDim], k: u32) -> usize
 }
 
 fn name_fits(dims: &[AlignedDim], spread: &SpreadDim, k: u32) -> bool
-    ensures { result ≡ (nat_le (named dims.now k) 1 && (is_whole spread.now.dim.dist || (named dims.now k == 1))) }
+    ensures { result ≡ (nat_le (named dims.now k) 1
+        && (is_whole spread.now.dim.dist || (named dims.now k == 1))) }
 {
     let many = named(dims, k);
     match spread.dim.dist() {

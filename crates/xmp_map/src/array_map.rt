@@ -58,8 +58,10 @@ impl ArrayMap {
         ensures parts { IfOk result (λ m. (m.template ≡ template.now) × (m.dims ≡ length extents.now)
             × (m.aligned ≡ aligned_dims extents.now target.now shadow.now)) }
         ensures cause { MatchResult result
-            (λ _. map_fault template.now.dims template.now.spread (aligned_dims extents.now target.now shadow.now) ≡ None)
-            (λ e. map_fault template.now.dims template.now.spread (aligned_dims extents.now target.now shadow.now) ≡ Some e) }
+            (λ _. map_fault template.now.dims template.now.spread
+            (aligned_dims extents.now target.now shadow.now) ≡ None)
+            (λ e. map_fault template.now.dims template.now.spread
+            (aligned_dims extents.now target.now shadow.now) ≡ Some e) }
     {
         let (a, b, c) = aligned_dims(extents, target, shadow);
         let aligned = [a, b, c];
@@ -106,7 +108,8 @@ impl ArrayMap {
     /// The shadow widths of dimension `d`, below and above.
     pub fn shadow(&self, d: u32) -> (u32, u32)
         requires { d < self.now.dims }
-        ensures { IfSome (slice_get self.now.aligned d) (λ l. (result.0 ≡ l.low) × (result.1 ≡ l.high)) }
+        ensures { IfSome (slice_get self.now.aligned d)
+            (λ l. (result.0 ≡ l.low) × (result.1 ≡ l.high)) }
     {
         let dim = &self.aligned[d as usize];
         (dim.low, dim.high)
@@ -138,7 +141,8 @@ impl ArrayMap {
         requires { IsCell self.now cell.now.at }
         ensures node { result < node_count self.now }
         ensures owns { IsTrue (owns self.now result cell.now.at) }
-        ensures only { (other : ℕ) → other < node_count self.now → IsTrue (owns self.now other cell.now.at) → other ≡ result }
+        ensures only { (other : ℕ) → other < node_count self.now
+            → IsTrue (owns self.now other cell.now.at) → other ≡ result }
         ensures holds { IsTrue (holds self.now result cell.now.at) }
     {
         let at = [
@@ -177,13 +181,14 @@ impl ArrayMap {
     pub fn held(&self, node: u32, d: u32) -> u32
         requires node { node < node_count self.now }
         requires dimension { d < self.now.dims }
-        ensures { result ≡ count_below (holds_in self.now node d) (slice_index (extents self.now) d) }
+        ensures { result
+            ≡ count_below (holds_in self.now node d) (slice_index (extents self.now) d) }
     {
         self.sides(node)[d as usize]
     }
 
-    /// The local position of subscript `x` of dimension `d`: how many smaller ones the node holds. `None` where it does
-    /// not hold `x`.
+    /// The local position of subscript `x` of dimension `d`: how many smaller ones the node holds.
+    /// `None` where it does not hold `x`.
     pub fn local(&self, node: u32, d: u32, x: u32) -> Option<u32>
         requires node { node < node_count self.now }
         requires dimension { d < self.now.dims }
@@ -203,7 +208,9 @@ impl ArrayMap {
     fn locals(&self, node: u32, cell: &[u32; 3]) -> Option<[u32; 3]>
         requires node { node < node_count self.now }
         requires inside { IsCell self.now cell.now }
-        ensures { result ≡ (if holds self.now node cell.now then Some (local_positions self.now node cell.now) else None) }
+        ensures { result ≡ (if holds self.now node cell.now
+            then Some (local_positions self.now node cell.now)
+            else None) }
     {
         let at = self.grid_place(node);
         let [first, second, third] = &self.aligned;
@@ -228,14 +235,15 @@ impl ArrayMap {
         self.locals(node, &cell.at).is_some()
     }
 
-    /// Where a node keeps a cell in its store: the row-major number of the local positions. `None` where it does not
-    /// hold the cell.
+    /// Where a node keeps a cell in its store: the row-major number of the local positions, which is the
+    /// number of held cells before it. `None` where it does not hold the cell.
     pub fn slot(&self, node: u32, cell: &Cell) -> Option<u32>
         requires node { node < node_count self.now }
         requires inside { IsCell self.now cell.now.at }
         ensures held { IsSome result ↔ IsTrue (holds self.now node cell.now.at) }
         ensures slot { IfSome result (λ s. s ≡ slot self.now node cell.now.at) }
-        ensures rank { IfSome result (λ s. s ≡ count_before (extents self.now) (holds self.now node) cell.now.at) }
+        ensures rank { IfSome result
+            (λ s. s ≡ count_before (extents self.now) (holds self.now node) cell.now.at) }
         ensures below { IfSome result (λ s. s < words self.now node) }
         ensures only { (other : List ℕ) → IsCell self.now other → IsTrue (holds self.now node other)
             → IfSome result (λ s. slot self.now node other ≡ s → other ≡ cell.now.at) }

@@ -71,7 +71,8 @@ impl NodeSet {
     /// Whether a node of the grid lies in the box.
     pub fn has(&self, grid: &Grid, node: u32) -> bool
         requires { node < product grid.now.sizes }
-        ensures { IsTrue result ↔ IsTrue (in_box self.now.first self.now.many (unravel grid.now.sizes node)) }
+        ensures { IsTrue result
+            ↔ IsTrue (in_box self.now.first self.now.many (unravel grid.now.sizes node)) }
     {
         let [x, y, z] = unravel(&grid.sizes, node);
         let [first_x, first_y, first_z] = self.first;

@@ -1,4 +1,4 @@
-//! Grids of nodes, templates over them and the maps of arrays: who owns a cell, who holds it, and where it lies.
+//! Grids of nodes, templates over them and the maps of arrays: who owns a cell, who holds it, and where.
 #![tactic(auto)]
 
 mod align;

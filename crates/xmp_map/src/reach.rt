@@ -6,7 +6,8 @@ ghost use Rattle.xmp_map.specs.Shadow.{has_shadow, holds_at};
 
 use xmp_dist::{Dim, Dist};
 
-// How many subscripts below `n` node `c` of the dimension holds, where subscript `x` lies at position `x + offset`.
+// How many subscripts below `n` node `c` of the dimension holds, where subscript `x` lies at
+// position `x + offset`.
 pub fn held_below(dim: &Dim, c: u32, low: u32, high: u32, offset: u32, n: u32) -> u32
     requires node { c < dim.now.nodes }
     requires inside { n + offset ≤ dim.now.size }

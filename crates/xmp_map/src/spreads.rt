@@ -103,7 +103,8 @@ pub fn spread_dims(
     ensures dists { IfOk result (λ s. map (λ t. t.dim.dist) s ≡ d0 ∷ d1 ∷ d2 ∷ []) }
     ensures fault { MatchResult result
         (λ s. chunks_fit (s0 ∷ s1 ∷ s2 ∷ []) (d0 ∷ d1 ∷ d2 ∷ []) grid.now.sizes 0 ≡ true)
-        (λ e. (chunks_fit (s0 ∷ s1 ∷ s2 ∷ []) (d0 ∷ d1 ∷ d2 ∷ []) grid.now.sizes 0 ≡ false) × (e ≡ MapError.Chunk)) }
+        (λ e. (chunks_fit (s0 ∷ s1 ∷ s2 ∷ []) (d0 ∷ d1 ∷ d2 ∷ []) grid.now.sizes 0 ≡ false)
+        × (e ≡ MapError.Chunk)) }
 {
     let second = spread(d0);
     let third = second + spread(d1);

@@ -31,7 +31,8 @@ impl Template {
     ghost use Rattle.xmp_map.specs.Nodes.{filled};
     ghost use Rattle.xmp_map.specs.Spread.{template_fault, node_along, owns_point};
 
-    /// The template with these sizes and forms, whose distributed dimensions lie, in order, on the axes of the grid.
+    /// The template with these sizes and forms. Its distributed dimensions lie, in order, on the axes
+    /// of the grid.
     #[tactic(auto, using(crate::proofs::SpreadLaws::fault_of))]
     pub fn new(grid: &Grid, sizes: &[u32], dists: &[Dist]) -> Result<Template, MapError>
         ensures parts { IfOk result (λ t. (t.grid ≡ grid.now) × (t.dims ≡ length sizes.now)

@@ -18,7 +18,7 @@ fn cell_of(map: &ArrayMap, x: u32, y: u32, z: u32) -> Option<Cell>
     }
 }
 
-// Whether a node owns a position of a dimension of the template: the node that its number along the dimension says.
+// Whether a node owns subscript `x` of dimension `d`: its number along the dimension of the template is the owner's.
 fn owns(map: &ArrayMap, node: u32, d: usize, x: u32) -> bool {
     let (Some(aligned), true) = (map.aligned.get(d), node < map.template.grid.count()) else {
         return false;
@@ -34,7 +34,7 @@ fn owns(map: &ArrayMap, node: u32, d: usize, x: u32) -> bool {
             == map.template.at(node, dim)
 }
 
-// Whether position `g` is at most `low` below or `high` above some position of the node, where these are an interval.
+// Whether `g` is at most `low` below, or `high` above, positions of the node.
 fn is_near(dim: &Dim, c: u32, low: u32, high: u32, g: i64) -> bool {
     let mut reached_up = false;
     let mut reached_down = false;
