@@ -25,6 +25,7 @@ dims_of (e ∷ es) (t ∷ ts) (w ∷ ws) = aligned_dim e t w ∷ dims_of es ts w
 abbrev pub unused : AlignedDim
 unused = record { target = record { dim = None; offset = pos 0 }; extent = 1; low = 0; high = 0 }
 
+-- whether a dimension is as an unused one
 abbrev pub is_unused : AlignedDim → Bool
 is_unused l = (l.extent == 1) && is_none l.target.dim
 
@@ -37,11 +38,12 @@ abbrev pub under : List SpreadDim → Option ℕ → Option SpreadDim
 under ss None = None
 under ss (Some d) = slice_get ss d
 
--- how many dimensions of the array name dimension `k` of the template
+-- whether a target names dimension `k` of the template
 abbrev pub names : Option ℕ → ℕ → Bool
 names None k = false
 names (Some d) k = d == k
 
+-- how many dimensions of the array do
 abbrev pub named : List AlignedDim → ℕ → ℕ
 named ls k = count_by (λ l. names l.target.dim k) ls
 
@@ -62,6 +64,7 @@ abbrev pub target_fits : ℕ → List SpreadDim → Option ℕ → ℤ → ℕ �
 target_fits dims ss None offset extent = true
 target_fits dims ss (Some d) offset extent = nat_lt d dims && positions_fit offset extent (slice_get ss d)
 
+-- whether the dimension under one of the array may have a shadow
 abbrev pub is_chunked_under : Option SpreadDim → Bool
 is_chunked_under None = false
 is_chunked_under (Some s) = has_shadow s.dim.dist
@@ -71,7 +74,7 @@ abbrev pub shadow_fits : List SpreadDim → Option ℕ → ℕ → ℕ → Bool
 shadow_fits ss d low high =
     (nat_le low 4194304 && nat_le high 4194304) && (((low == 0) && (high == 0)) || is_chunked_under (under ss d))
 
--- the same for one dimension of the array
+-- the same two tests for one dimension of the array
 abbrev pub is_target : ℕ → List SpreadDim → AlignedDim → Bool
 is_target dims ss l = target_fits dims ss l.target.dim l.target.offset l.extent
 

@@ -14,6 +14,7 @@ use Rattle.xmp_map.specs.Align.{under}
 abbrev pub node_count : ArrayMap → ℕ
 node_count m = product m.template.grid.sizes
 
+-- how many subscripts each dimension has
 abbrev pub extents : ArrayMap → List ℕ
 extents m = map (λ l. l.extent) m.aligned
 
@@ -32,6 +33,7 @@ abbrev pub holds_over : Option SpreadDim → List ℕ → ℕ → ℕ → ℕ �
 holds_over None at offset low high x = true
 holds_over (Some s) at offset low high x = holds_at s.dim (node_along at s) low high (x + offset)
 
+-- the same for one dimension of the array
 abbrev pub owns_on : List SpreadDim → List ℕ → AlignedDim → ℕ → Bool
 owns_on ss at l x = owns_over (under ss l.target.dim) at (offset_of l.target.offset) x
 
@@ -52,6 +54,7 @@ abbrev pub holds_dim : List SpreadDim → List ℕ → Option AlignedDim → ℕ
 holds_dim ss at None x = false
 holds_dim ss at (Some l) x = holds_on ss at l x
 
+-- the same for a node by its number
 abbrev pub holds_in : ArrayMap → ℕ → ℕ → ℕ → Bool
 holds_in m node d x = holds_dim m.template.spread (unravel m.template.grid.sizes node) (slice_get m.aligned d) x
 

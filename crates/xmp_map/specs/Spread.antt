@@ -9,6 +9,7 @@ use Rattle.xmp_map.specs.declared.fault.MapError.{MapError}
 use Rattle.xmp_map.specs.declared.fault.MapError.TheVariants.{Size, Spread, Chunk}
 use Rattle.xmp_map.specs.declared.spread_dim.SpreadDim.{SpreadDim}
 
+-- whether a form is undistributed
 abbrev pub is_whole : Dist → Bool
 is_whole Whole = true
 is_whole _ = false
@@ -29,6 +30,7 @@ lies_over (s ∷ ss) sizes k =
     ((s.axis == k) && (is_whole s.dim.dist || (s.dim.nodes == slice_index sizes k)))
     && lies_over ss sizes (k + spread s.dim.dist)
 
+-- one to three sizes, each in its range
 abbrev pub sizes_fit : List ℕ → Bool
 sizes_fit sizes = (nat_le 1 (length sizes) && nat_le (length sizes) 3) && list_all is_extent sizes
 
@@ -36,6 +38,7 @@ sizes_fit sizes = (nat_le 1 (length sizes) && nat_le (length sizes) 3) && list_a
 abbrev pub chunk_fits : Dist → ℕ → ℕ → Bool
 chunk_fits d size nodes = width_fits d && lengths_fit d size nodes
 
+-- the same for each dimension, where the distributed ones lie on the axes from `k` on
 abbrev pub chunks_fit : List ℕ → List Dist → List ℕ → ℕ → Bool
 chunks_fit [] ds grid k = true
 chunks_fit (s ∷ ss) [] grid k = true
