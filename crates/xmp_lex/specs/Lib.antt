@@ -1,0 +1,6 @@
+pub mod Bytes
+pub mod Words
+pub mod Pieces
+pub mod Cut
+pub mod Found
+pub mod Expand
