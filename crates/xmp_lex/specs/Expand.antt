@@ -1,78 +1,108 @@
--- Expansion: a name that is defined and not hidden gives its definition's tokens, with the name hidden in them.
-use Rattle.std.specs.Prelude.{◌≡◌, ◌≢◌, ◌≤◌, ◌<◌, ℕ, List, [], ◌∷◌, ◌++◌, length, All, Option, Some, None, Bool, map, ⊤, Contains}
+-- Macros. Source: ISO C 6.10.3, object-like macros, by recursion on the names that are hidden.
+use Rattle.std.specs.Prelude.{◌≡◌, ◌≢◌, ◌≤◌, ◌<◌, ℕ, List, [], ◌∷◌, ◌++◌, length, map, All, Option, Some, None, option_map, Bool, true, false, nat_eq, if◌then◌else◌, ⊤}
+use Rattle.std.specs.List.{list_any}
+use Rattle.std.specs.Map.{lookup}
+use Rattle.std.specs.Cmp.Lexicographic.{pointwise}
 use Rattle.xmp_base.specs.declared.place.Place.{Place}
+use Rattle.xmp_base.specs.declared.place.Fault.{Fault}
+use Rattle.xmp_base.specs.declared.place.Fault.TheVariants as fault
+use Rattle.xmp_base.specs.declared.place.Phase.TheVariants as phase
 use Rattle.xmp_lex.specs.declared.token.Token.{Token}
 use Rattle.xmp_lex.specs.declared.token.TokenKind.{TokenKind}
 use Rattle.xmp_lex.specs.declared.token.TokenKind.TheVariants as t
+use Rattle.xmp_lex.specs.Cut.{most}
 
--- a definition: the name and the kinds of its tokens
+-- a definition: a name and its tokens
 abbrev pub Definition : Type 0
-Definition = List ℕ × List TokenKind
+Definition = List ℕ × List Token
 
--- a token that comes out, or the place of a use
+abbrev pub same : List ℕ → List ℕ → Bool
+same a b = pointwise nat_eq a b
+
+-- the tokens that a name is defined as
+abbrev pub body_of : List Definition → List ℕ → Option (List Token)
+body_of known name = lookup (same name) known
+
+-- the definition by which a token is replaced: that of a name which isn't hidden
+abbrev pub definition_of : List Definition → List (List ℕ) → TokenKind → Option Definition
+definition_of known hidden (t.Name name) = if list_any (same name) hidden then None else option_map (λ body. (name, body)) (body_of known name)
+definition_of known hidden _ = None
+
+-- tokens at the place of a use
+abbrev pub moved : Place → List Token → List Token
+moved at tokens = map (λ x. record { kind = x.kind; at = at }) tokens
+
+-- What expansion comes to: a token that stays, a name that is replaced, a name that is defined again.
 pub data Event : Type 0 where
   out : Token → Event
   used : Place → Event
+  again : Place → Event
 
-abbrev pub place_of : Event → Place
-place_of (out x) = x.at
-place_of (used p) = p
+-- Tokens with no definition among them, where these names are hidden: a name that is replaced stands before the tokens that it gives, and is hidden in them.
+pub data Replaces (known : List Definition) : List (List ℕ) → List Token → List Event → Type 0 where
+  done : (hidden : List (List ℕ)) → Replaces known hidden [] []
+  keep : (hidden : List (List ℕ)) (x : Token) (ts : List Token) (es : List Event) → definition_of known hidden x.kind ≡ None → Replaces known hidden ts es → Replaces known hidden (x ∷ ts) (out x ∷ es)
+  replace : (hidden : List (List ℕ)) (x : Token) (d : Definition) (ts : List Token) (inner es : List Event) → definition_of known hidden x.kind ≡ Some d
+      → Replaces known (d.0 ∷ hidden) (moved x.at d.1) inner → Replaces known hidden ts es → Replaces known hidden (x ∷ ts) (used x.at ∷ inner ++ es)
+
+abbrev pub IsDefine : TokenKind → Type 0
+IsDefine (t.Define name) = ⊤
+IsDefine _ = ⊥
+
+-- the tokens of a definition: those before its Close
+abbrev pub IsBody : List Token → Type 0
+IsBody body = All (λ x. x.kind ≢ t.Close) body
+
+-- The tokens of a text, behind these definitions: a definition serves what follows it, and gives no token.
+pub data Expands : List Definition → List Token → List Event → Type 0 where
+  end : (known : List Definition) → Expands known [] []
+  token : (known : List Definition) (x : Token) (ts : List Token) (inner es : List Event) → (IsDefine x.kind → ⊥) → Replaces known [] (x ∷ []) inner → Expands known ts es → Expands known (x ∷ ts) (inner ++ es)
+  define : (known : List Definition) (x close : Token) (name : List ℕ) (body ts : List Token) (es : List Event) → x.kind ≡ t.Define name → body_of known name ≡ None → IsBody body → close.kind ≡ t.Close
+      → Expands (known ++ (name, body) ∷ []) ts es → Expands known (x ∷ (body ++ close ∷ ts)) es
+  define_again : (known : List Definition) (x close : Token) (name : List ℕ) (old body ts : List Token) (es : List Event) → x.kind ≡ t.Define name → body_of known name ≡ Some old → IsBody body → close.kind ≡ t.Close
+      → Expands known ts es → Expands known (x ∷ (body ++ close ∷ ts)) (again x.at ∷ es)
 
 abbrev pub tokens_of : List Event → List Token
 tokens_of [] = []
 tokens_of (out x ∷ es) = x ∷ tokens_of es
-tokens_of (used p ∷ es) = tokens_of es
+tokens_of (used at ∷ es) = tokens_of es
+tokens_of (again at ∷ es) = tokens_of es
 
-abbrev pub placed_at : Place → List TokenKind → List Token
-placed_at p ks = map (λ k. record { kind = k; at = p }) ks
+-- tokens and replaced names count
+abbrev pub counts : Event → Bool
+counts (out x) = true
+counts (used at) = true
+counts (again at) = false
 
--- the token is a name with this definition, and the name isn't hidden
-abbrev pub IsUse : List Definition → List (List ℕ) → Token → List ℕ → List TokenKind → Type 0
-IsUse known hidden x n body = (x.kind ≡ t.Name n) × Contains known (n, body) × (Contains hidden n → ⊥)
+abbrev pub place_of : Event → Place
+place_of (out x) = x.at
+place_of (used at) = at
+place_of (again at) = at
 
-abbrev pub IsKept : List Definition → List (List ℕ) → Token → Type 0
-IsKept known hidden x = ((n : List ℕ) → x.kind ≢ t.Define n) × ((n : List ℕ) (body : List TokenKind) → IsUse known hidden x n body → ⊥)
+-- no rule E breaks in these events
+pub record IsFine (es : List Event) : Type 0 where
+  pub once : All (λ e. counts e ≡ true) es
+  pub few : length es ≤ most
 
--- a definition's tokens up to its Close
-abbrev pub IsBody : List Token → Type 0
-IsBody body = All (λ x. x.kind ≢ t.Close) body
+-- The first event at which a rule E breaks: the rule, and the event's place.
+pub data BreaksMacroRule (es : List Event) : ℕ → Place → Type 0 where
+  twice : (before after : List Event) (at : Place) → es ≡ before ++ again at ∷ after → IsFine before → BreaksMacroRule es 1 at
+  too_many : (before after : List Event) (e : Event) → es ≡ before ++ e ∷ after → counts e ≡ true → IsFine before → length before ≡ most → BreaksMacroRule es 2 (place_of e)
 
-pub data Expands : List Definition → List (List ℕ) → List Token → List Event → Type 0 where
-  end : (known : List Definition) (hidden : List (List ℕ)) → Expands known hidden [] []
-  keep : (known : List Definition) (hidden : List (List ℕ)) (x : Token) (ts : List Token) (es : List Event) → IsKept known hidden x → Expands known hidden ts es → Expands known hidden (x ∷ ts) (out x ∷ es)
-  use_name : (known : List Definition) (hidden : List (List ℕ)) (x : Token) (n : List ℕ) (body : List TokenKind) (ts : List Token) (inner es : List Event) → IsUse known hidden x n body
-      → Expands known (n ∷ hidden) (placed_at x.at body) inner → Expands known hidden ts es → Expands known hidden (x ∷ ts) (used x.at ∷ inner ++ es)
-  define : (known : List Definition) (hidden : List (List ℕ)) (x close : Token) (n : List ℕ) (body ts : List Token) (es : List Event) → x.kind ≡ t.Define n → IsBody body → close.kind ≡ t.Close
-      → Expands ((n, map (λ y. y.kind) body) ∷ known) hidden ts es → Expands known hidden (x ∷ body ++ close ∷ ts) es
+-- The expansion of a text's tokens.
+pub record Expanded (tokens result : List Token) : Type 0 where
+  pub events : List Event
+  pub expands : Expands [] tokens events
+  pub fine : IsFine events
+  pub result_is : result ≡ tokens_of events
 
--- The expansion begins with these events.
-pub data Fronts : List Definition → List (List ℕ) → List Token → List Event → Type 0 where
-  none : (known : List Definition) (hidden : List (List ℕ)) (ts : List Token) → Fronts known hidden ts []
-  keep : (known : List Definition) (hidden : List (List ℕ)) (x : Token) (ts : List Token) (es : List Event) → IsKept known hidden x → Fronts known hidden ts es → Fronts known hidden (x ∷ ts) (out x ∷ es)
-  inside : (known : List Definition) (hidden : List (List ℕ)) (x : Token) (n : List ℕ) (body : List TokenKind) (ts : List Token) (inner : List Event) → IsUse known hidden x n body
-      → Fronts known (n ∷ hidden) (placed_at x.at body) inner → Fronts known hidden (x ∷ ts) (used x.at ∷ inner)
-  past : (known : List Definition) (hidden : List (List ℕ)) (x : Token) (n : List ℕ) (body : List TokenKind) (ts : List Token) (inner es : List Event) → IsUse known hidden x n body
-      → Expands known (n ∷ hidden) (placed_at x.at body) inner → Fronts known hidden ts es → Fronts known hidden (x ∷ ts) (used x.at ∷ inner ++ es)
-  define : (known : List Definition) (hidden : List (List ℕ)) (x close : Token) (n : List ℕ) (body ts : List Token) (es : List Event) → x.kind ≡ t.Define n → IsBody body → close.kind ≡ t.Close
-      → Fronts ((n, map (λ y. y.kind) body) ∷ known) hidden ts es → Fronts known hidden (x ∷ body ++ close ∷ ts) es
+-- A rule E breaks in the expansion, at this place and before no other.
+pub record BreaksMacros (tokens : List Token) (rule : ℕ) (at : Place) : Type 0 where
+  pub events : List Event
+  pub expands : Expands [] tokens events
+  pub breaks : BreaksMacroRule events rule at
 
--- E2: the place of the event that passes the limit
-pub record Passes (ts : List Token) (at : Place) : Type 0 where
-  pub before : List Event
-  pub event : Event
-  pub fronts : Fronts [] [] ts (before ++ event ∷ [])
-  pub count : length before ≡ 200000
-  pub place : at ≡ place_of event
-
--- the code's stack: the uses that stand open, the inmost first, each with the name that it hides and the tokens that it has left
-abbrev pub Stack : Type 0
-Stack = List (List ℕ × List Token)
-
-abbrev pub hides : Stack → List (List ℕ)
-hides st = map (λ f. f.0) st
-
--- what is still to come from the stack and the text behind it
-pub data ToCome : List Definition → Stack → List Token → List Event → Type 0 where
-  text : (known : List Definition) (ts : List Token) (es : List Event) → Expands known [] ts es → ToCome known [] ts es
-  inner : (known : List Definition) (n : List ℕ) (body : List Token) (st : Stack) (ts : List Token) (es later : List Event) → Expands known (n ∷ hides st) body es → ToCome known st ts later
-      → ToCome known ((n, body) ∷ st) ts (es ++ later)
+-- The refusal of a text by a rule E, and want of memory, which no clause ties to anything.
+abbrev pub IsMacroRefusal : List Token → Fault → Type 0
+IsMacroRefusal tokens fault.NoMemory = ⊤
+IsMacroRefusal tokens (fault.Refused r) = (r.phase ≡ phase.Macro) × BreaksMacros tokens r.rule r.at

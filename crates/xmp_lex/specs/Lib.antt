@@ -3,4 +3,6 @@ pub mod Words
 pub mod Pieces
 pub mod Cut
 pub mod Found
+pub mod Lines
 pub mod Expand
+pub mod Output

@@ -3,10 +3,13 @@
 
 mod bytes;
 mod cut;
+mod definitions;
+mod expand;
 mod gaps;
 mod hash;
 mod laws;
 mod mode;
+mod output;
 mod token;
 mod tokens;
 mod ty;

@@ -97,6 +97,24 @@ pub enum TokenKind {
     Finish,
 }
 
+impl TokenKind {
+    pub fn copied(&self, alloc: Global) -> Result<TokenKind, NoMemory>
+        ensures { IfOk result (λ kind. kind ≡ self.now) }
+    {
+        match self {
+            TokenKind::Name(name) => Ok(TokenKind::Name(bytes_of(alloc, name.as_slice())?)),
+            TokenKind::Word(word) => Ok(TokenKind::Word(*word)),
+            TokenKind::Number(value, ty) => Ok(TokenKind::Number(*value, *ty)),
+            TokenKind::Text(text) => Ok(TokenKind::Text(bytes_of(alloc, text.as_slice())?)),
+            TokenKind::Mark(mark) => Ok(TokenKind::Mark(*mark)),
+            TokenKind::Define(name) => Ok(TokenKind::Define(bytes_of(alloc, name.as_slice())?)),
+            TokenKind::Pragma => Ok(TokenKind::Pragma),
+            TokenKind::Close => Ok(TokenKind::Close),
+            TokenKind::Finish => Ok(TokenKind::Finish),
+        }
+    }
+}
+
 /// A token, with the place of its first byte.
 #[derive(Drop)]
 pub struct Token {
