@@ -1,5 +1,5 @@
 -- What the functions below `expand` do, in the form that their answers have.
-use Rattle.std.specs.Prelude.{◌≡◌, ◌≢◌, ◌≤◌, ◌<◌, ◌+◌, ◌*◌, ℕ, List, [], ◌∷◌, ◌++◌, length, map, Some, None, ⊤}
+use Rattle.std.specs.Prelude.{Bool, true, false, slice_get, ◌≡◌, ◌≢◌, ◌≤◌, ◌<◌, ◌+◌, ◌*◌, ℕ, List, [], ◌∷◌, ◌++◌, length, map, Some, None, ⊤}
 use Rattle.xmp_base.specs.declared.place.Place.{Place}
 use Rattle.xmp_base.specs.declared.place.Fault.{Fault}
 use Rattle.xmp_base.specs.declared.place.Fault.TheVariants as fault
@@ -7,8 +7,10 @@ use Rattle.xmp_base.specs.declared.place.Phase.TheVariants as phase
 use Rattle.xmp_lex.specs.declared.token.Token.{Token}
 use Rattle.xmp_lex.specs.declared.token.TokenKind.TheVariants as t
 use Rattle.xmp_lex.specs.declared.output.Output.{Output}
+use Rattle.xmp_lex.specs.declared.token.TokenKind.{TokenKind}
+use Rattle.xmp_lex.specs.declared.definitions.Use.{Use}
 use Rattle.xmp_lex.specs.Cut.{most}
-use Rattle.xmp_lex.specs.Expand.{Definition, Event, Replaces, moved, tokens_of, body_of, IsBody}
+use Rattle.xmp_lex.specs.Expand.{Definition, Event, again, Replaces, IsDefine, moved, tokens_of, body_of, IsBody}
 
 -- the refusal by a rule E
 abbrev pub breaks_macro : ℕ → Place → Fault
@@ -45,6 +47,17 @@ pub data Pending (known : List Definition) (at : Place) : List (List ℕ) → Li
 abbrev pub names_of : List Definition → List (List ℕ)
 names_of uses = map (λ u. u.0) uses
 
+abbrev pub frame : Use → Definition
+frame use_ = (use_.name.now, use_.rest.now)
+
+abbrev pub frames : List Use → List Definition
+frames uses = map frame uses
+
+-- a use that has tokens left can't go on
+abbrev pub IsStopped : ℕ → List Token → Place → Fault → Type 0
+IsStopped count left at fault.NoMemory = ⊤
+IsStopped count left at (fault.Refused r) = (fault.Refused r ≡ breaks_macro 2 at) × (count ≡ most) × (0 < length left)
+
 -- one step of the innermost use
 pub record Advances (known : List Definition) (at : Place) (before after : List Definition) (hidden : List (List ℕ)) (old new : Output) : Type 0 where
   pub events : List Event
@@ -66,3 +79,23 @@ pub record Defines (known new : List Definition) (name : List ℕ) (behind rest 
 abbrev pub IsSecond : List Definition → List ℕ → Place → Fault → Type 0
 IsSecond known name at fault.NoMemory = ⊤
 IsSecond known name at (fault.Refused r) = (fault.Refused r ≡ breaks_macro 1 at) × ((body : List Token) × (body_of known name ≡ Some body))
+
+abbrev pub is_close : TokenKind → Bool
+is_close t.Close = true
+is_close _ = false
+
+-- the first Close
+pub record IsClosePlace (tokens : List Token) (n : ℕ) : Type 0 where
+  pub within : n < length tokens
+  pub here : (x : Token) → slice_get tokens n ≡ Some x → is_close x.kind ≡ true
+  pub before : (k : ℕ) (x : Token) → k < n → slice_get tokens k ≡ Some x → is_close x.kind ≡ false
+
+-- expansion goes on behind a token of this kind: a definition is read, or events are put out
+abbrev pub Steps : TokenKind → List Definition → List Definition → Token → List Token → List Token → Output → Output → Type 0
+Steps (t.Define name) known new token behind rest old output = Defines known new name behind rest × (output ≡ old)
+Steps _ known new token behind rest old output = (new ≡ known) × (rest ≡ behind) × Puts (Replaces known [] (token ∷ [])) old output
+
+-- a rule E breaks at a token of this kind
+abbrev pub BreaksAt : TokenKind → List Definition → Token → Output → Fault → Type 0
+BreaksAt (t.Define name) known token old fault = IsSecond known name token.at fault
+BreaksAt _ known token old fault = Overflows (Replaces known [] (token ∷ [])) old token.at fault

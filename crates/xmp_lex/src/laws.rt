@@ -18,3 +18,7 @@ pub fn one_cut()
 pub fn one_refusal()
     ensures { (text : List ℕ) (r s : ℕ) (a b : Place) → Breaks text r a → Breaks text s b → (r ≡ s) × (a ≡ b) }
 {}
+
+pub fn probe()
+    ensures { ℕ }
+{}

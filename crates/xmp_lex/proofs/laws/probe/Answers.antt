@@ -1,0 +1,5 @@
+use Rattle.xmp_lex.proofs.ExpandLemmas as lemmas
+use Rattle.xmp_lex.proofs.laws.probe.Goals as goal
+
+pub returns : goal.returns
+returns c = 0
