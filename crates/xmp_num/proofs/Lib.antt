@@ -1,0 +1,5 @@
+pub mod Wraps
+pub mod BitLaws
+pub mod ReductionLaws
+pub mod Runs
+pub mod Scanning

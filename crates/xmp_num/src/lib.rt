@@ -1,0 +1,14 @@
+//! C's numbers: operators, conversions, reductions and decimal text.
+#![tactic(auto)]
+
+mod arithmetic;
+mod decimal;
+mod reduction;
+#[cfg(test)]
+mod tests;
+mod types;
+
+pub use arithmetic::{binary, convert};
+pub use decimal::{render, scan};
+pub use reduction::{combine, unit};
+pub use types::{BinOp, RedOp, TrapKind, Ty};
