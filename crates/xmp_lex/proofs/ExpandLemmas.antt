@@ -3,10 +3,10 @@ use Rattle.std.proofs.Common.{◌≡◌, ◌≢◌, ◌<◌, ◌≤◌, ◌+◌,
 use Rattle.std.proofs.lemmas.List.Elements.{All-nil, All-cons, All-head, All-tail, All-append}
 use Rattle.std.proofs.Math.Seq.{get_or-append_seam}
 use Rattle.xmp_base.specs.declared.place.Place.{Place}
-use Rattle.xmp_base.specs.declared.place.Refusal.{Refusal}
-use Rattle.xmp_base.specs.declared.place.Fault.{Fault}
-use Rattle.xmp_base.specs.declared.place.Fault.TheVariants as fault
-use Rattle.xmp_base.specs.declared.place.Phase.TheVariants as phase
+use Rattle.xmp_base.specs.declared.refusal.Refusal.{Refusal}
+use Rattle.xmp_base.specs.declared.refusal.Fault.{Fault}
+use Rattle.xmp_base.specs.declared.refusal.Fault.TheVariants as fault
+use Rattle.xmp_base.specs.declared.refusal.Phase.TheVariants as phase
 use Rattle.xmp_lex.specs.declared.token.Token.{Token}
 use Rattle.xmp_lex.specs.declared.token.TokenKind.{TokenKind}
 use Rattle.xmp_lex.specs.declared.token.TokenKind.TheVariants as t

@@ -4,7 +4,7 @@ use Rattle.xmp_lex.specs.declared.token.TokenKind.{TokenKind}
 use Rattle.xmp_lex.specs.declared.token.TokenKind.TheVariants as t
 use Rattle.xmp_lex.specs.declared.token.Mark.{Mark}
 use Rattle.xmp_lex.specs.declared.token.Reserved.{Reserved}
-use Rattle.xmp_lex.specs.declared.ty.Ty.{Ty}
+use Rattle.xmp_num.specs.declared.types.Ty.{Ty}
 use Rattle.xmp_lex.specs.Bytes.{is_digit, is_letter, is_word, IsRun, IsNumber, IsTextEnd, IsBadEscape, has_suffix, escaped, escapes, escape_value, content, content_of, IsFirstPlace}
 use Rattle.xmp_lex.specs.Words.{mark_text, word_text, IsMark}
 use Rattle.xmp_lex.specs.Pieces.{Spelled, name, word, number, quoted, mark, Malformed, stray, unknown_escape, unclosed, no_number, IsBlockStart, IsLineStart, type_of}

@@ -8,9 +8,9 @@ use Rattle.xmp_lex.specs.declared.mode.Mode.{Mode}
 use Rattle.xmp_lex.specs.declared.mode.Mode.TheVariants as mode
 use Rattle.xmp_lex.specs.Bytes.{is_white, is_word, IsRun}
 use Rattle.xmp_lex.specs.Pieces.{Spelled, Malformed, Comment, Unclosed, Gap, Formed, Join}
-use Rattle.xmp_base.specs.declared.place.Fault.{Fault}
-use Rattle.xmp_base.specs.declared.place.Fault.TheVariants as fault
-use Rattle.xmp_base.specs.declared.place.Phase.TheVariants as phase
+use Rattle.xmp_base.specs.declared.refusal.Fault.{Fault}
+use Rattle.xmp_base.specs.declared.refusal.Fault.TheVariants as fault
+use Rattle.xmp_base.specs.declared.refusal.Phase.TheVariants as phase
 
 -- the place behind these bytes
 abbrev pub step : Place → Bool → Place

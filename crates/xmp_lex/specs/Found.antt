@@ -1,9 +1,9 @@
 -- What the functions below `lex` find, in the form that their answers have.
 use Rattle.std.specs.Prelude.{◌≡◌, ◌≢◌, ◌≤◌, ◌<◌, ◌+◌, ◌++◌, ℕ, List, length, Bool, true, false, take, slice_index_or, slice_get, Some, None, ⊤, option_to_list, IfSome}
 use Rattle.xmp_base.specs.declared.place.Place.{Place}
-use Rattle.xmp_base.specs.declared.place.Fault.{Fault}
-use Rattle.xmp_base.specs.declared.place.Fault.TheVariants as fault
-use Rattle.xmp_base.specs.declared.place.Phase.TheVariants as phase
+use Rattle.xmp_base.specs.declared.refusal.Fault.{Fault}
+use Rattle.xmp_base.specs.declared.refusal.Fault.TheVariants as fault
+use Rattle.xmp_base.specs.declared.refusal.Phase.TheVariants as phase
 use Rattle.xmp_lex.specs.declared.token.Mark.{Mark}
 use Rattle.xmp_lex.specs.declared.token.Mark.TheVariants as m
 use Rattle.xmp_lex.specs.declared.token.Token.{Token}

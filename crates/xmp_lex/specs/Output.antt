@@ -1,9 +1,9 @@
 -- What the functions below `expand` do, in the form that their answers have.
 use Rattle.std.specs.Prelude.{Bool, true, false, slice_get, ◌≡◌, ◌≢◌, ◌≤◌, ◌<◌, ◌+◌, ◌*◌, ℕ, List, [], ◌∷◌, ◌++◌, length, map, Some, None, ⊤}
 use Rattle.xmp_base.specs.declared.place.Place.{Place}
-use Rattle.xmp_base.specs.declared.place.Fault.{Fault}
-use Rattle.xmp_base.specs.declared.place.Fault.TheVariants as fault
-use Rattle.xmp_base.specs.declared.place.Phase.TheVariants as phase
+use Rattle.xmp_base.specs.declared.refusal.Fault.{Fault}
+use Rattle.xmp_base.specs.declared.refusal.Fault.TheVariants as fault
+use Rattle.xmp_base.specs.declared.refusal.Phase.TheVariants as phase
 use Rattle.xmp_lex.specs.declared.token.Token.{Token}
 use Rattle.xmp_lex.specs.declared.token.TokenKind.TheVariants as t
 use Rattle.xmp_lex.specs.declared.output.Output.{Output}

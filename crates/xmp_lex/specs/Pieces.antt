@@ -4,8 +4,8 @@ use Rattle.xmp_lex.specs.declared.token.TokenKind.{TokenKind}
 use Rattle.xmp_lex.specs.declared.token.TokenKind.TheVariants as t
 use Rattle.xmp_lex.specs.declared.token.Mark.{Mark}
 use Rattle.xmp_lex.specs.declared.token.Reserved.{Reserved}
-use Rattle.xmp_lex.specs.declared.ty.Ty.{Ty}
-use Rattle.xmp_lex.specs.declared.ty.Ty.TheVariants as ty
+use Rattle.xmp_num.specs.declared.types.Ty.{Ty}
+use Rattle.xmp_num.specs.declared.types.Ty.TheVariants as ty
 use Rattle.xmp_lex.specs.declared.mode.Mode.{Mode}
 use Rattle.xmp_lex.specs.declared.mode.Mode.TheVariants as mode
 use Rattle.xmp_lex.specs.Bytes.{is_white, is_digit, is_letter, is_word, IsRun, IsLine, IsBlock, IsTextEnd, IsBadEscape, content, content_of, escape_value, IsNumber, has_suffix, IsClose}

@@ -4,7 +4,7 @@ ghost use Rattle.std.specs.List.{list_any};
 ghost use Rattle.xmp_lex.specs.Expand.{same, out, used, Replaces, moved, definition_of, Expanded, IsMacroRefusal};
 ghost use Rattle.xmp_lex.specs.Lines.{IsFinished, IsClosed, Closes, IsClosedBehind};
 ghost use Rattle.xmp_lex.specs.Output.{frame, frames, Puts, PutsOut, Overflows, Advances, IsFull, IsStopped, names_of, is_close, IsClosePlace, Defines, IsSecond, Steps, BreaksAt};
-ghost use Rattle.xmp_base.specs.declared.place.Fault.TheVariants.{NoMemory};
+ghost use Rattle.xmp_base.specs.declared.refusal.Fault.TheVariants.{NoMemory};
 
 use crate::definitions::{Definitions, Hidden, Use};
 use crate::output::{Output, count_name, put, refused};

@@ -12,7 +12,6 @@ mod mode;
 mod output;
 mod token;
 mod tokens;
-mod ty;
 mod words;
 
 pub use cut::lex;

@@ -1,7 +1,7 @@
 // The tokens of a text.
 ghost use Rattle.std.specs.Prelude.{◌≡◌, IfOk};
 
-use crate::ty::Ty;
+use xmp_num::Ty;
 use std::alloc::Global;
 use xmp_base::{Bytes, NoMemory, Place};
 

@@ -8,7 +8,7 @@ use crate::bytes::{
     byte_at, escapes, from, front, has_suffix, is_digit, is_letter, number_of, run, text_end,
 };
 use crate::token::{TokenKind, bytes_of};
-use crate::ty::Ty;
+use xmp_num::Ty;
 use crate::words::{mark_at, mark_text, word_of};
 use std::alloc::Global;
 use xmp_base::{Bytes, NoMemory};

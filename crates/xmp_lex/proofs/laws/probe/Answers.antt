@@ -1,4 +1,4 @@
-use Rattle.xmp_lex.proofs.ExpandLemmas as lemmas
+use Rattle.xmp_lex.proofs.LineLemmas as lemmas
 use Rattle.xmp_lex.proofs.laws.probe.Goals as goal
 
 pub returns : goal.returns
