@@ -18,7 +18,7 @@ use Rattle.xmp_lex.specs.Bytes.{is_white}
 use Rattle.xmp_lex.specs.Pieces.{Gap, Join}
 use Rattle.xmp_lex.specs.Found.{IsMalformed}
 use Rattle.xmp_lex.specs.Pieces as pieces
-use Rattle.xmp_lex.specs.Cut.{no_token, IsOutside, behind_white, white, behind, step, Cuts, none, piece, Front, start, after, placed, Piece, Cut, Breaks, broken, too_many, too_many_last, last, most, IsRefused, at_end, ending}
+use Rattle.xmp_lex.specs.Cut.{no_token, IsOutside, behind_white, white, behind, step, Cuts, none, piece, Front, start, after, placed, Piece, Cut, BreaksLexRule, broken, too_many, too_many_last, last, most, IsRefused, at_end, ending}
 use Rattle.xmp_lex.specs.Found.{IsBroken, IsPiece, is_directive, IsTooMany, IsWithin, refusal, breaks}
 
 pub behind_next : (p : Place) (xs : List ℕ) (i : ℕ) → i < length xs → behind p (drop i xs) ≡ behind (step p (get_or xs i 0 == 10)) (drop (i + 1) xs)
@@ -98,14 +98,14 @@ broken_within rest x (error.Rule rule k) b = b.1
 pub passed : (text : List ℕ) (tokens : List Token) (at : Place) (x : Mode) (rest : List ℕ) (n : ℕ) (o : Option (ℕ × TokenKind)) (y : Mode) (e : Fault) → In text tokens at x rest → 0 < length rest → IsPiece rest x (record { length = n; token = o; mode = y }) → IsTooMany tokens (placed at rest (option_to_list o)) e → IsRefused text e
 passed text tokens at x rest n o y fault.NoMemory i some is m = tt
 passed text tokens at x rest n o y (fault.Refused q) i some is m =
-    let r : Breaks text 5 m.2.0.at = too_many (record { tokens = tokens; at = at; mode = x; rest = rest }) n (option_to_list o) y m.2.0 i.cuts i.few some is.0 m.2.1 in
-    (m.0, subst (λ z. Breaks text z q.at) (sym m.1) (subst (Breaks text 5) (sym m.2.2) r))
+    let r : BreaksLexRule text 5 m.2.0.at = too_many (record { tokens = tokens; at = at; mode = x; rest = rest }) n (option_to_list o) y m.2.0 i.cuts i.few some is.0 m.2.1 in
+    (m.0, subst (λ z. BreaksLexRule text z q.at) (sym m.1) (subst (BreaksLexRule text 5) (sym m.2.2) r))
 
 pub passed_last : (text : List ℕ) (tokens : List Token) (at : Place) (x : Mode) (rest : List ℕ) (e : Fault) → In text tokens at x rest → rest ≡ [] → IsTooMany tokens (ending x at) e → IsRefused text e
 passed_last text tokens at x rest fault.NoMemory i z m = tt
 passed_last text tokens at x rest (fault.Refused q) i z m =
-    let r : Breaks text 5 m.2.0.at = too_many_last (record { tokens = tokens; at = at; mode = x; rest = rest }) m.2.0 i.cuts i.few z m.2.1 in
-    (m.0, subst (λ z. Breaks text z q.at) (sym m.1) (subst (Breaks text 5) (sym m.2.2) r))
+    let r : BreaksLexRule text 5 m.2.0.at = too_many_last (record { tokens = tokens; at = at; mode = x; rest = rest }) m.2.0 i.cuts i.few z m.2.1 in
+    (m.0, subst (λ z. BreaksLexRule text z q.at) (sym m.1) (subst (BreaksLexRule text 5) (sym m.2.2) r))
 
 pub cut_whole : (text : List ℕ) (tokens : List Token) (at : Place) (x : Mode) (rest : List ℕ) (new : List Token) → In text tokens at x rest → rest ≡ [] → (new ≡ tokens ++ ending x at) × (length new ≤ 200000) → Cut text new
 cut_whole text tokens at x rest new i z n = record { front = record { tokens = tokens; at = at; mode = x; rest = rest }; cuts = i.cuts; whole = z; tokens_are = n.0; few = n.1 }

@@ -60,6 +60,9 @@ text_of (suc n) (x ∷ ts) h c known = by x.kind refl c.0 (λ us l g. text_of n 
   by t.Close e g next = plain (not_define x _ e (λ i. i)) next
   by t.Finish e g next = plain (not_define x _ e (λ i. i)) next
 
+pub some_text : (tokens : List Token) → IsClosed tokens → (es : List Event) × Expands [] tokens es
+some_text tokens c = text_of (length tokens) tokens (omega arith) c []
+
 -- where the loop over a text's tokens stands
 pub record InText (tokens : List Token) (known : List Definition) (rest : List Token) (output : Output) : Type 0 where
   pub sofar : List Event

@@ -11,7 +11,7 @@ use Rattle.xmp_lex.specs.Bytes.{is_white, is_digit, is_letter, is_word, IsRun, I
 use Rattle.xmp_lex.specs.Words.{mark_text, BeginsWith}
 use Rattle.xmp_lex.specs.Pieces.{Spelled, name, word, number, quoted, mark, Malformed, stray, unknown_escape, unclosed, no_number, Comment, block, line, Unclosed, Gap, IsBlockStart, IsLineStart}
 use Rattle.xmp_lex.specs.Pieces as p
-use Rattle.xmp_lex.specs.Cut.{Piece, white, comment, token, hash, gap, skip, close, Broken, unclosed_comment, no_form, no_token, IsOutside, IsHashLine, Front, start, after, placed, behind, Cuts, none, piece, Cut, Breaks, broken, too_many, too_many_last, last, most, ending}
+use Rattle.xmp_lex.specs.Cut.{Piece, white, comment, token, hash, gap, skip, close, Broken, unclosed_comment, no_form, no_token, IsOutside, IsHashLine, Front, start, after, placed, behind, Cuts, none, piece, Cut, BreaksLexRule, broken, too_many, too_many_last, last, most, ending}
 use Rattle.xmp_lex.proofs.Spaces as sp
 use Rattle.xmp_lex.proofs.Unique.{one_run, class, class_of, first_class}
 use Rattle.xmp_lex.proofs.OnePiece.{first_fine, fine, one_piece, comment_spelled}
@@ -174,7 +174,7 @@ sticks : (f g : Front) (rule k : ℕ) → Broken f.rest f.mode rule k → Reach 
 sticks f g rule k b (here _ _ e) = e
 sticks f g rule k b (step _ _ n o x l q r) = absurd (piece_broken f.rest f.mode n o x rule k q b)
 
-pub never_both : (text : List ℕ) (tokens : List Token) (rule : ℕ) (at : Place) → Cut text tokens → Breaks text rule at → ⊥
+pub never_both : (text : List ℕ) (tokens : List Token) (rule : ℕ) (at : Place) → Cut text tokens → BreaksLexRule text rule at → ⊥
 never_both text tokens rule at c (broken g _ k d few some b) =
     let z : length c.front.rest ≡ 0 = ap length c.whole in
     elim (linear (start text) c.front g (ahead text c.front c.cuts) (ahead text g d)) [
@@ -277,7 +277,7 @@ passing f g n k o u x y (step _ _ i w z l a r) p2 q few m2 =
 one_bad : (f g : Front) (a b : Token) → f ≡ g → slice_get f.tokens most ≡ Some a → slice_get g.tokens most ≡ Some b → Agreed 5 5 a.at b.at
 one_bad f g a b e p2 q = (refl, ap (λ (t : Token). t.at) (some_same a b (sym p2 ∙ ap (λ (h : Front). slice_get h.tokens most) e ∙ q)))
 
-pub one_refusal : (text : List ℕ) (r s : ℕ) (a b : Place) → Breaks text r a → Breaks text s b → Agreed r s a b
+pub one_refusal : (text : List ℕ) (r s : ℕ) (a b : Place) → BreaksLexRule text r a → BreaksLexRule text s b → Agreed r s a b
 one_refusal text r s a b (broken f _ k c few some d) (broken g _ j c2 few2 some2 d2) = elim (meet text f g c c2) [
   | inl t ↦ same_broken f g r s k j (sticks f g r k d t) d d2
   | inr t ↦ same_broken f g r s k j (sym (sticks g f s j d2 t)) d d2

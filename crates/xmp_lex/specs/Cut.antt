@@ -99,13 +99,13 @@ pub record Cut (text : List ℕ) (tokens : List Token) : Type 0 where
   pub few : length tokens ≤ most
 
 -- A rule breaks, at this place and nowhere before it.
-pub data Breaks (text : List ℕ) : ℕ → Place → Type 0 where
-  broken : (f : Front) (rule k : ℕ) → Cuts text f → length f.tokens ≤ most → 0 < length f.rest → Broken f.rest f.mode rule k → Breaks text rule (behind f.at (take k f.rest))
+pub data BreaksLexRule (text : List ℕ) : ℕ → Place → Type 0 where
+  broken : (f : Front) (rule k : ℕ) → Cuts text f → length f.tokens ≤ most → 0 < length f.rest → Broken f.rest f.mode rule k → BreaksLexRule text rule (behind f.at (take k f.rest))
   too_many : (f : Front) (n : ℕ) (out : List (ℕ × TokenKind)) (x : Mode) (bad : Token) → Cuts text f → length f.tokens ≤ most → 0 < length f.rest → Piece f.rest f.mode n out x
-      → slice_get (f.tokens ++ placed f.at f.rest out) most ≡ Some bad → Breaks text 5 bad.at
-  too_many_last : (f : Front) (bad : Token) → Cuts text f → length f.tokens ≤ most → f.rest ≡ [] → slice_get (last f) most ≡ Some bad → Breaks text 5 bad.at
+      → slice_get (f.tokens ++ placed f.at f.rest out) most ≡ Some bad → BreaksLexRule text 5 bad.at
+  too_many_last : (f : Front) (bad : Token) → Cuts text f → length f.tokens ≤ most → f.rest ≡ [] → slice_get (last f) most ≡ Some bad → BreaksLexRule text 5 bad.at
 
 -- The refusal of a text by a rule L, and want of memory, which no clause ties to anything.
 abbrev pub IsRefused : List ℕ → Fault → Type 0
 IsRefused text fault.NoMemory = ⊤
-IsRefused text (fault.Refused r) = (r.phase ≡ phase.Lex) × Breaks text r.rule r.at
+IsRefused text (fault.Refused r) = (r.phase ≡ phase.Lex) × BreaksLexRule text r.rule r.at

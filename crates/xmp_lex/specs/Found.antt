@@ -20,7 +20,7 @@ use Rattle.xmp_lex.specs.declared.tokens.Meaning.TheVariants as meaning
 use Rattle.xmp_lex.specs.Bytes.{content, content_of, escape_value, IsBadEscape}
 use Rattle.xmp_lex.specs.Words.{BeginsWith, mark_text}
 use Rattle.xmp_lex.specs.Pieces.{IsBlockStart, IsLineStart, Comment, Unclosed, Gap, Spelled, Malformed}
-use Rattle.xmp_lex.specs.Cut.{Piece, Broken, Breaks, behind, most}
+use Rattle.xmp_lex.specs.Cut.{Piece, Broken, BreaksLexRule, behind, most}
 
 -- none of the first n marks is at the front
 abbrev pub IsNone : List Mark → List ℕ → ℕ → Type 0

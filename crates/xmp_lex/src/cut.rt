@@ -5,6 +5,7 @@ ghost use Rattle.xmp_lex.specs.Pieces.{Join, IsBlockStart, IsLineStart};
 ghost use Rattle.xmp_lex.specs.Found.{IsGap};
 ghost use Rattle.xmp_lex.specs.declared.gaps.Found.TheVariants.{Nothing};
 ghost use Rattle.xmp_lex.specs.declared.mode.Mode.TheVariants.{Start, Directive, Ignored};
+ghost use Rattle.xmp_lex.specs.Lines.{IsFinished, IsClosed};
 ghost use Rattle.xmp_lex.specs.Cut.{IsRefused, Cut, behind, step, behind_white, behind_token, IsOutside, placed, ending};
 ghost use Rattle.xmp_lex.specs.Found.{IsPiece, IsBroken, IsTooMany, IsWithin, refusal, is_directive, breaks};
 
@@ -275,11 +276,17 @@ fn refusal(bad: PieceError, at: Place, rest: &[u8]) -> Fault
     }
 }
 
-/// Cuts a text into its tokens.
+/// Cuts a text into its tokens, with the tokens of its definitions in their lines.
+///
+/// A text is at most 1 MiB. Time and memory grow with its length.
 pub fn lex(alloc: Global, text: &[u8]) -> Result<Vec<Token>, Fault>
     requires { length text.now ≤ 1048576 }
     ensures ok { IfOk result (λ tokens. Cut text.now tokens.items) }
-    ensures err { IfErr result (λ e. IsRefused text.now e) }
+    ensures err { IfErr result (IsRefused text.now) }
+
+    // What `expand` asks for.
+    ensures finished { IfOk result (λ tokens. IsFinished tokens.items) }
+    ensures closed { IfOk result (λ tokens. IsClosed tokens.items) }
 {
     let mut tokens: Vec<Token> = Vec::new(alloc);
     let mut rest = text;

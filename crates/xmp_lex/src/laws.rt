@@ -1,24 +1,42 @@
-//! Laws of cutting.
-ghost use Rattle.std.specs.Prelude.{◌≡◌, ℕ, List};
-ghost use Rattle.xmp_lex.specs.declared.token.Token.{Token};
+// Laws of the tokens and of the macros of a text.
+ghost use Rattle.std.specs.Prelude.{◌≡◌, ℕ, List, []};
 ghost use Rattle.xmp_base.specs.declared.place.Place.{Place};
-ghost use Rattle.xmp_lex.specs.Cut.{Cut, Breaks};
+ghost use Rattle.xmp_lex.specs.declared.token.Token.{Token};
+ghost use Rattle.xmp_lex.specs.Cut.{Cut, BreaksLexRule};
+ghost use Rattle.xmp_lex.specs.Expand.{Event, Expands, Expanded, BreaksMacros};
+ghost use Rattle.xmp_lex.specs.Lines.{IsClosed};
 
-/// No text is both cut and refused.
-pub fn never_both()
-    ensures { (text : List ℕ) (tokens : List Token) (rule : ℕ) (at : Place) → Cut text tokens → Breaks text rule at → ⊥ }
-{}
-
-/// A text is cut in one way.
+/// A text is cut in at most one way.
 pub fn one_cut()
     ensures { (text : List ℕ) (tokens others : List Token) → Cut text tokens → Cut text others → tokens ≡ others }
 {}
 
-/// A refused text is refused by one rule at one place.
-pub fn one_refusal()
-    ensures { (text : List ℕ) (r s : ℕ) (a b : Place) → Breaks text r a → Breaks text s b → (r ≡ s) × (a ≡ b) }
+/// No text is both cut and refused.
+pub fn cut_or_refused()
+    ensures { (text : List ℕ) (tokens : List Token) (rule : ℕ) (at : Place) → Cut text tokens → BreaksLexRule text rule at → ⊥ }
 {}
 
-pub fn probe()
-    ensures { ℕ }
+/// A text is refused by one rule L at one place.
+pub fn one_lex_refusal()
+    ensures { (text : List ℕ) (rule other : ℕ) (at place : Place) → BreaksLexRule text rule at → BreaksLexRule text other place → (rule ≡ other) × (at ≡ place) }
+{}
+
+/// Tokens whose definitions are closed come to something.
+pub fn some_expansion()
+    ensures { (tokens : List Token) → IsClosed tokens → (events : List Event) × Expands [] tokens events }
+{}
+
+/// Tokens come to at most one list of events.
+pub fn one_expansion()
+    ensures { (tokens : List Token) (events others : List Event) → Expands [] tokens events → Expands [] tokens others → events ≡ others }
+{}
+
+/// No tokens are both expanded and refused.
+pub fn expanded_or_refused()
+    ensures { (tokens result : List Token) (rule : ℕ) (at : Place) → Expanded tokens result → BreaksMacros tokens rule at → ⊥ }
+{}
+
+/// Tokens are refused by one rule E at one place.
+pub fn one_macro_refusal()
+    ensures { (tokens : List Token) (rule other : ℕ) (at place : Place) → BreaksMacros tokens rule at → BreaksMacros tokens other place → (rule ≡ other) × (at ≡ place) }
 {}

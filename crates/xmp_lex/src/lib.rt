@@ -4,7 +4,7 @@
 mod bytes;
 mod cut;
 mod definitions;
-mod expand;
+mod macros;
 mod gaps;
 mod hash;
 mod laws;
@@ -15,5 +15,9 @@ mod tokens;
 mod words;
 
 pub use cut::lex;
-pub use laws::{never_both, one_cut, one_refusal};
+pub use macros::expand;
+pub use laws::{
+    cut_or_refused, expanded_or_refused, one_cut, one_expansion, one_lex_refusal, one_macro_refusal,
+    some_expansion,
+};
 pub use token::{Mark, Reserved, Token, TokenKind};

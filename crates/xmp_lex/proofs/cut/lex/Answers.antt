@@ -2,7 +2,8 @@ use Rattle.std.proofs.Common.{◌≡◌, ◌<◌, ◌≤◌, ◌+◌, ◌*◌, �
 use Rattle.std.proofs.lemmas.Grind.{common_steps}
 use Rattle.xmp_lex.specs.Cut.{IsRefused}
 use Rattle.xmp_lex.specs.declared.mode.Mode.TheVariants as mode
-use Rattle.xmp_lex.proofs.CutLemmas.{In, in_start, in_next, refused, passed, passed_last, nonempty, is_nil}
+use Rattle.xmp_lex.proofs.CutLemmas.{In, in_start, in_next, refused, passed, passed_last, cut_whole, nonempty, is_nil}
+use Rattle.xmp_lex.proofs.LineLemmas.{cut_finished, cut_closed}
 use Rattle.xmp_lex.proofs.cut.lex.Goals as goal
 
 pub loop-rest-init : goal.loop-rest-init
@@ -21,3 +22,11 @@ loop-rest-preserved c = in_next c.args.text.now c.loop-rest.tokens.items c.loop-
 
 pub returns-in-Err-finish-clause-err : goal.returns-in-Err-finish-clause-err
 returns-in-Err-finish-clause-err c = passed_last _ _ _ _ _ _ c.loop-rest.invariant (is_nil _ _ c.is_empty.ensures c.loop-rest-test.false) c.in-Err-finish.ensures.err
+
+pub returns-in-Ok-finish-clause-finished : goal.returns-in-Ok-finish-clause-finished
+returns-in-Ok-finish-clause-finished c = cut_finished c.args.text.now c.finish.new.tokens.items
+    (cut_whole c.args.text.now _ _ _ _ c.finish.new.tokens.items c.loop-rest.invariant (is_nil _ _ c.is_empty.ensures c.loop-rest-test.false) c.in-Ok-finish.ensures.ok)
+
+pub returns-in-Ok-finish-clause-closed : goal.returns-in-Ok-finish-clause-closed
+returns-in-Ok-finish-clause-closed c = cut_closed c.args.text.now c.finish.new.tokens.items
+    (cut_whole c.args.text.now _ _ _ _ c.finish.new.tokens.items c.loop-rest.invariant (is_nil _ _ c.is_empty.ensures c.loop-rest-test.false) c.in-Ok-finish.ensures.ok)

@@ -1,6 +1,6 @@
 use Rattle.std.proofs.Common.{◌≡◌, refl, sym, ap, subst, [], ◌∷◌}
 use Rattle.xmp_lex.proofs.ExpandLemmas.{InText, text_next, text_end, text_breaks, expanded_finished}
-use Rattle.xmp_lex.proofs.expand.expand_all.Goals as goal
+use Rattle.xmp_lex.proofs.macros.expand_all.Goals as goal
 
 pub returns-in-Err-clause-err : goal.returns-in-Err-clause-err
 returns-in-Err-clause-err c = text_breaks c.args.tokens.now c.loop-token.definitions c.in-Some.token.now c.in-Some.behind.now c.loop-token.output c.in-Err.fault

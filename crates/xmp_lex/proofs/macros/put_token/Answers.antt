@@ -3,7 +3,7 @@ use Rattle.std.proofs.lemmas.Result.{on_ok_weaker}
 use Rattle.xmp_lex.specs.Expand.{definition_of}
 use Rattle.xmp_lex.specs.Output.{frame}
 use Rattle.xmp_lex.proofs.UseLemmas.{if_err, token_stays, token_full, token_used, token_over}
-use Rattle.xmp_lex.proofs.expand.put_token.Goals as goal
+use Rattle.xmp_lex.proofs.macros.put_token.Goals as goal
 
 pub returns-in-None-clause-ok : goal.returns-in-None-clause-ok
 returns-in-None-clause-ok c = on_ok_weaker c.put.result (token_stays c.args.definitions.now c.args.token.now c.args.output.now c.put.new.output (c.in-None.ensures ∙ ap (λ ns. definition_of c.args.definitions.now ns c.args.token.now.kind) c.new.ensures)) c.put.ensures.ok

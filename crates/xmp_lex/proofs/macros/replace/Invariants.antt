@@ -1,7 +1,7 @@
 use Rattle.std.proofs.Common.{◌+◌, ◌-◌, ◌*◌, length}
 use Rattle.xmp_lex.specs.Output.{frame, frames}
 use Rattle.xmp_lex.proofs.UseLemmas.{InUse}
-use Rattle.xmp_lex.proofs.expand.replace.Given as goal
+use Rattle.xmp_lex.proofs.macros.replace.Given as goal
 
 abbrev pub invariant-loop-current : goal.invariant-loop-current
 invariant-loop-current l = InUse l.definitions l.at (frame l.fn.first) (frames l.uses.items) l.hidden l.fn.output l.output

@@ -1,7 +1,7 @@
 use Rattle.std.proofs.Common.{◌≡◌, ◌∙◌, ◌++◌, [], ◌∷◌, sym, ap, subst, arith}
 use Rattle.xmp_lex.specs.Output.{frame, frames}
 use Rattle.xmp_lex.proofs.UseLemmas.{InUse, frames_last, no_frames, use_start, use_next, use_end, use_stops}
-use Rattle.xmp_lex.proofs.expand.replace.Goals as goal
+use Rattle.xmp_lex.proofs.macros.replace.Goals as goal
 
 pub loop-current-init : goal.loop-current-init
 loop-current-init c = rw (c.in-Ok.ensures.uses, c.new-uses.ensures.items)

@@ -1,7 +1,7 @@
 use Rattle.std.proofs.Common.{◌≡◌, ◌∙◌, ◌++◌, [], ◌∷◌, sym, ap, subst}
 use Rattle.xmp_lex.specs.Output.{frame, frames, Advances}
 use Rattle.xmp_lex.proofs.UseLemmas.{on_both, on_three, frames_last, names_last, advance_done, advance_keep, advance_use}
-use Rattle.xmp_lex.proofs.expand.advance.Goals as goal
+use Rattle.xmp_lex.proofs.macros.advance.Goals as goal
 
 pub returns-in-None-clause-ok : goal.returns-in-None-clause-ok
 returns-in-None-clause-ok c =

@@ -1,6 +1,6 @@
 use Rattle.std.proofs.Common.{length}
 use Rattle.xmp_lex.proofs.ExpandLemmas.{InText}
-use Rattle.xmp_lex.proofs.expand.expand_all.Given as goal
+use Rattle.xmp_lex.proofs.macros.expand_all.Given as goal
 
 abbrev pub invariant-loop-token : goal.invariant-loop-token
 invariant-loop-token l = InText l.tokens l.definitions l.rest l.output
