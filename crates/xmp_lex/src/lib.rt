@@ -10,6 +10,8 @@ mod hash;
 mod laws;
 mod mode;
 mod output;
+#[cfg(test)]
+mod tests;
 mod token;
 mod tokens;
 mod words;
