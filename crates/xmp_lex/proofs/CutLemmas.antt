@@ -15,10 +15,10 @@ use Rattle.xmp_base.specs.declared.refusal.Fault.TheVariants as fault
 use Rattle.xmp_lex.specs.declared.tokens.PieceError.{PieceError}
 use Rattle.xmp_lex.specs.declared.tokens.PieceError.TheVariants as error
 use Rattle.xmp_lex.specs.Bytes.{is_white}
-use Rattle.xmp_lex.specs.Pieces.{Gap, Join}
+use Rattle.xmp_lex.specs.Pieces.{LineSpace, Splice}
 use Rattle.xmp_lex.specs.Found.{IsMalformed}
 use Rattle.xmp_lex.specs.Pieces as pieces
-use Rattle.xmp_lex.specs.Cut.{no_token, IsOutside, behind_white, white, behind, step, Cuts, none, piece, Front, start, after, placed, Piece, Cut, BreaksLexRule, broken, too_many, too_many_last, last, most, IsRefused, at_end, ending}
+use Rattle.xmp_lex.specs.Cut.{no_token, IsOutside, behind_white, white, behind, step, Cuts, none, piece, Front, start, after, placed, Piece, Cut, BreaksLexRule, broken, too_many, too_many_last, last, token_limit, IsRefused, at_end, ending}
 use Rattle.xmp_lex.specs.Found.{IsBroken, IsPiece, is_directive, IsTooMany, IsWithin, refusal, breaks}
 
 pub behind_next : (p : Place) (xs : List ℕ) (i : ℕ) → i < length xs → behind p (drop i xs) ≡ behind (step p (get_or xs i 0 == 10)) (drop (i + 1) xs)
@@ -37,11 +37,11 @@ pub step_column : (p : Place) (b : Bool) → (step p b).column ≤ p.column + 1
 step_column p true = omega arith
 step_column p false = omega arith
 
-pub malformed_broken : (text : List ℕ) (x : Mode) (e : PieceError) → x ≢ mode.Ignored → (x ≡ mode.Start → get_or text 0 0 ≡ 35 → ⊥) → (x ≡ mode.Directive → (n : ℕ) → Join text n → ⊥) → IsMalformed text e → IsBroken text x e
+pub malformed_broken : (text : List ℕ) (x : Mode) (e : PieceError) → x ≢ mode.Ignored → (x ≡ mode.Start → get_or text 0 0 ≡ 35 → ⊥) → (x ≡ mode.Directive → (n : ℕ) → Splice text n → ⊥) → IsMalformed text e → IsBroken text x e
 malformed_broken text x error.NoMemory i f l s = tt
 malformed_broken text x (error.Rule rule k) i f l s = (no_token x rule k i f l s.0, s.1)
 
-pub not_white : (text : List ℕ) → ((n : ℕ) → Gap text n → ⊥) → (get_or text 0 0 ≡ 10 → ⊥) → is_white (get_or text 0 0) ≡ false
+pub not_white : (text : List ℕ) → ((n : ℕ) → LineSpace text n → ⊥) → (get_or text 0 0 ≡ 10 → ⊥) → is_white (get_or text 0 0) ≡ false
 not_white text g h = by (is_white (get_or text 0 0)) refl where
   by : (b : Bool) → is_white (get_or text 0 0) ≡ b → is_white (get_or text 0 0) ≡ false
   by true e = absurd (g 1 (pieces.white 1 e h refl))

@@ -11,7 +11,7 @@ use Rattle.xmp_lex.specs.declared.token.Token.{Token}
 use Rattle.xmp_lex.specs.declared.token.TokenKind.{TokenKind}
 use Rattle.xmp_lex.specs.declared.token.TokenKind.TheVariants as t
 use Rattle.xmp_lex.specs.declared.output.Output.{Output}
-use Rattle.xmp_lex.specs.Cut.{most}
+use Rattle.xmp_lex.specs.Cut.{token_limit}
 use Rattle.xmp_lex.specs.Expand.{Definition, definition_of, body_of, Event, out, used, again, Replaces, done, keep, replace, IsDefine, IsBody, Expands, end, token, define, define_again, tokens_of, counts, place_of, IsFine, BreaksMacroRule, twice, too_many, Expanded, BreaksMacros, IsMacroRefusal}
 use Rattle.xmp_lex.specs.Lines.{IsClosed, IsClosedBehind, IsFinished}
 use Rattle.xmp_lex.specs.Output.{PutsOut, Puts, Overflows, breaks_macro, Defines, IsSecond, Steps, BreaksAt}
@@ -70,7 +70,7 @@ pub record InText (tokens : List Token) (known : List Definition) (rest : List T
   pub once : All (λ e. counts e ≡ true) sofar
   pub out_is : output.tokens.items ≡ tokens_of sofar
   pub count_is : output.count ≡ length sofar
-  pub few : output.count ≤ most
+  pub few : output.count ≤ token_limit
   pub closed : IsClosed rest
 
 pub text_start : (tokens : List Token) (o : Output) → IsClosed tokens → o.tokens.items ≡ [] → o.count ≡ 0 → InText tokens [] tokens o
@@ -106,7 +106,7 @@ text_next tokens known new x behind rest old output i (t.Define name) e s =
       once = i.once;
       out_is = ap (λ (o : Output). o.tokens.items) s.1 ∙ i.out_is;
       count_is = ap (λ (o : Output). o.count) s.1 ∙ i.count_is;
-      few = subst (λ (o : Output). o.count ≤ most) (sym s.1) i.few;
+      few = subst (λ (o : Output). o.count ≤ token_limit) (sym s.1) i.few;
       closed = closed_behind d.body d.close rest (subst IsClosed d.line i.closed.1);
     }
 text_next tokens known new x behind rest old output i t.Pragma e s = text_put tokens known new x behind rest old output i (not_define x _ e (λ z. z)) s
@@ -143,11 +143,11 @@ text_over tokens known x behind old (fault.Refused r) i n o = refuse (refusal_is
   at_x : All (IsAt x.at) es
   at_x = all_at known x.at [] (x ∷ []) es (All-cons (λ (y : Token). y.at ≡ x.at) x [] refl (All-nil (λ (y : Token). y.at ≡ x.at))) o.1.1
 
-  n_is : most - length i.sofar < length es
+  n_is : token_limit - length i.sofar < length es
   n_is = let a = o.1.2 in let b = i.count_is in let c = i.few in omega arith
 
-  s : (before : List Event) × (e : Event) × (rest : List Event) × (es ≡ before ++ e ∷ rest) × (length before ≡ most - length i.sofar)
-  s = split (most - length i.sofar) es n_is
+  s : (before : List Event) × (e : Event) × (rest : List Event) × (es ≡ before ++ e ∷ rest) × (length before ≡ token_limit - length i.sofar)
+  s = split (token_limit - length i.sofar) es n_is
 
   front_at : All (IsAt x.at) (s.0 ++ s.1 ∷ s.2)
   front_at = subst (All (IsAt x.at)) s.3 at_x
@@ -161,7 +161,7 @@ text_over tokens known x behind old (fault.Refused r) i n o = refuse (refusal_is
   events_are : i.sofar ++ (es ++ later.0) ≡ (i.sofar ++ s.0) ++ s.1 ∷ (s.2 ++ later.0)
   events_are = ap (λ fs. i.sofar ++ (fs ++ later.0)) s.3 ∙ ap (λ fs. i.sofar ++ fs) (append_assoc s.0 (s.1 ∷ s.2) later.0) ∙ sym (append_assoc i.sofar s.0 (s.1 ∷ (s.2 ++ later.0)))
 
-  long : length (i.sofar ++ s.0) ≡ most
+  long : length (i.sofar ++ s.0) ≡ token_limit
   long = let a = s.4 in let b = i.count_is in let c = i.few in omega (arith, length-append i.sofar s.0)
 
   breaks : BreaksMacros tokens 2 x.at

@@ -5,8 +5,8 @@ use Rattle.xmp_lex.specs.declared.token.TokenKind.{TokenKind}
 use Rattle.xmp_lex.specs.declared.token.TokenKind.TheVariants as t
 use Rattle.xmp_lex.specs.declared.mode.Mode.{Mode}
 use Rattle.xmp_lex.specs.declared.mode.Mode.TheVariants as mode
-use Rattle.xmp_lex.specs.Pieces.{Spelled, name, word, number, quoted, mark, Formed, define, include, pragma, other_pragma}
-use Rattle.xmp_lex.specs.Cut.{Piece, white, comment, token, hash, gap, skip, close, IsOutside, IsHashLine, behind_white, behind_token, at_end, Front, Cuts, none, piece, placed, ending, last, Cut}
+use Rattle.xmp_lex.specs.Pieces.{Spelled, name, word, number, quoted, mark, LineForm, define, include, pragma, other_pragma}
+use Rattle.xmp_lex.specs.Cut.{Piece, white, comment, token, hash, line_space, skip, close, IsOutside, IsHashLine, behind_white, behind_token, at_end, Front, Cuts, none, piece, placed, ending, last, Cut}
 use Rattle.xmp_lex.specs.Lines.{IsFinished, closes, Closes, IsClosed, IsClosedBehind}
 
 -- a token that neither begins nor ends a line
@@ -174,7 +174,7 @@ lines_piece text _ _ n _ f (hash _ _ _ b (define m k r hd s p)) h = opened f.tok
 lines_piece text _ _ n _ f (hash _ _ _ b (include m hd e)) h = same f.tokens mode.Ignored h
 lines_piece text _ _ n _ f (hash _ _ _ b (pragma m k hd r e)) h = opened f.tokens _ h
 lines_piece text _ _ n _ f (hash _ _ _ b (other_pragma m k hd r e)) h = same f.tokens mode.Ignored h
-lines_piece text x _ n _ f (gap _ _ o g) h = same f.tokens x h
+lines_piece text x _ n _ f (line_space _ _ o g) h = same f.tokens x h
 lines_piece text _ _ n _ f (skip e g u) h = same f.tokens mode.Ignored h
 lines_piece text x _ n _ f (close _ o e) h = by x o h where
   by : (y : Mode) → IsHashLine y → Lines y f.tokens → IsClosed (f.tokens ++ placed f.at text (map (λ k. (0, k)) (at_end y)))

@@ -1,4 +1,4 @@
--- Tokens have one expansion, and break at most one rule first.
+-- Tokens have one expansion, and break at token_limit one rule first.
 use Rattle.std.proofs.Common.{◌≡◌, ◌≢◌, ◌<◌, ◌≤◌, ◌+◌, ◌++◌, ℕ, zero, suc, List, [], ◌∷◌, length, map, refl, sym, ap, ◌∙◌, subst, arith, true, false, Bool, Option, Some, None, All, length-append, true≢false, append_assoc, get_or}
 use Rattle.std.proofs.lemmas.List.Elements.{All-nil, All-cons, All-append, All-head, All-tail}
 use Rattle.std.proofs.Math.Seq.{get_or-append_seam}
@@ -6,7 +6,7 @@ use Rattle.xmp_base.specs.declared.place.Place.{Place}
 use Rattle.xmp_lex.specs.declared.token.Token.{Token}
 use Rattle.xmp_lex.specs.declared.token.TokenKind.{TokenKind}
 use Rattle.xmp_lex.specs.declared.token.TokenKind.TheVariants as t
-use Rattle.xmp_lex.specs.Cut.{most}
+use Rattle.xmp_lex.specs.Cut.{token_limit}
 use Rattle.xmp_lex.specs.Expand.{Definition, definition_of, body_of, moved, Event, out, used, again, Replaces, done, keep, replace, IsDefine, IsBody, Expands, end, token, define, define_again, tokens_of, counts, place_of, IsFine, BreaksMacroRule, twice, too_many, Expanded, BreaksMacros}
 
 some_is : {X : Type 0} {x y : X} → Some x ≡ Some y → x ≡ y
@@ -109,7 +109,7 @@ again_is a b e = ap place_of e
 counted_last : (before : List Event) (e : Event) → All (λ e. counts e ≡ true) before → counts e ≡ true → All (λ e. counts e ≡ true) (before ++ e ∷ [])
 counted_last before e a c = All-append (λ e. counts e ≡ true) before (e ∷ []) a (All-cons (λ e. counts e ≡ true) e [] c (All-nil (λ e. counts e ≡ true)))
 
-too_long : (before other us vs : List Event) (a : Place) (e : Event) → All (λ e. counts e ≡ true) other → counts e ≡ true → length before ≤ most → length other ≡ most → before ++ again a ∷ us ≡ other ++ e ∷ vs → ⊥
+too_long : (before other us vs : List Event) (a : Place) (e : Event) → All (λ e. counts e ≡ true) other → counts e ≡ true → length before ≤ token_limit → length other ≡ token_limit → before ++ again a ∷ us ≡ other ++ e ∷ vs → ⊥
 too_long before other us vs a e o c f l h = let r = front_within before (other ++ e ∷ []) a us vs (counted_last other e o c) (h ∙ sym (append_assoc other (e ∷ []) vs)) in omega (arith, length-append other (e ∷ []))
 
 pub one_rule : (es : List Event) (r s : ℕ) (a b : Place) → BreaksMacroRule es r a → BreaksMacroRule es s b → (r ≡ s) × (a ≡ b)

@@ -9,10 +9,10 @@ use Rattle.xmp_lex.specs.declared.mode.Mode.TheVariants as mode
 use Rattle.xmp_lex.specs.declared.token.Mark.TheVariants as m
 use Rattle.xmp_lex.specs.Bytes.{is_white, is_digit, is_letter, is_word, IsRun, IsNumber, IsTextEnd, is_end, escaped}
 use Rattle.xmp_lex.specs.Words.{mark_text, BeginsWith}
-use Rattle.xmp_lex.specs.Pieces.{Spelled, name, word, number, quoted, mark, Malformed, stray, unknown_escape, unclosed, no_number, Comment, block, line, Unclosed, Gap, IsBlockStart, IsLineStart}
+use Rattle.xmp_lex.specs.Pieces.{Spelled, name, word, number, quoted, mark, Malformed, stray, unknown_escape, unclosed, no_number, Comment, block, line, Unclosed, LineSpace, IsBlockStart, IsLineStart}
 use Rattle.xmp_lex.specs.Pieces as p
-use Rattle.xmp_lex.specs.Cut.{Piece, white, comment, token, hash, gap, skip, close, Broken, unclosed_comment, no_form, no_token, IsOutside, IsHashLine, Front, start, after, placed, behind, Cuts, none, piece, Cut, BreaksLexRule, broken, too_many, too_many_last, last, most, ending}
-use Rattle.xmp_lex.proofs.Spaces as sp
+use Rattle.xmp_lex.specs.Cut.{Piece, white, comment, token, hash, line_space, skip, close, Broken, unclosed_comment, no_form, no_token, IsOutside, IsHashLine, Front, start, after, placed, behind, Cuts, none, piece, Cut, BreaksLexRule, broken, too_many, too_many_last, last, token_limit, ending}
+use Rattle.xmp_lex.proofs.SpaceLemmas as sp
 use Rattle.xmp_lex.proofs.Unique.{one_run, class, class_of, first_class}
 use Rattle.xmp_lex.proofs.OnePiece.{first_fine, fine, one_piece, comment_spelled}
 
@@ -105,11 +105,11 @@ white_at b c w e f = let x = ap is_white e in cc
 fine_at : (b c : ℕ) → fine b ≡ true → b ≡ c → fine c ≡ false → ⊥
 fine_at b c w e f = let x = ap fine e in cc
 
-malformed_gap : (text : List ℕ) (n rule k : ℕ) → Gap text n → ((i : ℕ) → p.Join text i → ⊥) → Malformed text rule k → ⊥
+malformed_gap : (text : List ℕ) (n rule k : ℕ) → LineSpace text n → ((i : ℕ) → p.Splice text i → ⊥) → Malformed text rule k → ⊥
 malformed_gap text n rule k (p.white _ w x e) j s = malformed_white text rule k w s
-malformed_gap text n rule k (p.join _ i) j s = j n i
+malformed_gap text n rule k (p.splice _ i) j s = j n i
 malformed_gap text n rule k (p.comment _ c d) j s = malformed_slash text rule k (sp.slash text n c) s
-malformed_gap text n rule k (p.comment_join i _ c d e) j s = malformed_slash text rule k (sp.slash text i c) s
+malformed_gap text n rule k (p.comment_splice i _ c d e) j s = malformed_slash text rule k (sp.slash text i c) s
 
 line_is : (x : Mode) → IsHashLine x → x ≢ mode.Ignored → x ≡ mode.Directive
 line_is mode.Start l i = absurd l
@@ -130,9 +130,9 @@ piece_broken text x n out y rule k (token _ _ kind g s) (no_token _ _ _ i h j r)
 piece_broken text x n out y rule k (hash _ _ _ e g) (unclosed_comment _ d) = let s = d.begins.0 in omega arith
 piece_broken text x n out y rule k (hash _ _ _ e g) (no_form d f) = f n out y g
 piece_broken text x n out y rule k (hash _ _ _ e g) (no_token _ _ _ i h j r) = h refl e
-piece_broken text x n out y rule k (gap _ _ l a) (unclosed_comment _ d) = sp.open_gap text n d a
-piece_broken text x n out y rule k (gap _ _ l a) (no_form e f) = l
-piece_broken text x n out y rule k (gap _ _ l a) (no_token _ _ _ i h j r) = malformed_gap text n rule k a (j (line_is x l i)) r
+piece_broken text x n out y rule k (line_space _ _ l a) (unclosed_comment _ d) = sp.open_gap text n d a
+piece_broken text x n out y rule k (line_space _ _ l a) (no_form e f) = l
+piece_broken text x n out y rule k (line_space _ _ l a) (no_token _ _ _ i h j r) = malformed_gap text n rule k a (j (line_is x l i)) r
 piece_broken text x n out y rule k (skip e a b) (unclosed_comment _ d) = b d
 piece_broken text x n out y rule k (skip e a b) (no_token _ _ _ i h j r) = i refl
 piece_broken text x n out y rule k (close _ l e) (unclosed_comment _ d) = let s = d.begins.0 in omega arith
@@ -183,7 +183,7 @@ never_both text tokens rule at c (broken g _ k d few some b) =
     ]
 never_both text tokens rule at c (too_many g n out x bad d few some q s) =
     let z : length c.front.rest ≡ 0 = ap length c.whole in
-    let w : 200000 < length (g.tokens ++ placed g.at g.rest out) = slice_get_within (g.tokens ++ placed g.at g.rest out) most bad s in
+    let w : 200000 < length (g.tokens ++ placed g.at g.rest out) = slice_get_within (g.tokens ++ placed g.at g.rest out) token_limit bad s in
     let many : length c.front.tokens ≤ length tokens = (let e = ap length c.tokens_are in omega (arith, length-append c.front.tokens (ending c.front.mode c.front.at))) in
     elim (linear (start text) c.front (after g n out x) (ahead text c.front c.cuts) (on (start text) g n out x (ahead text g d) some q)) [
       | inl r ↦ (let e = ap (λ (h : Front). length h.tokens) (stops c.front (after g n out x) z r) in let f = c.few in omega arith)
@@ -192,7 +192,7 @@ never_both text tokens rule at c (too_many g n out x bad d few some q s) =
 never_both text tokens rule at c (too_many_last g bad d few zr s) =
     let z : length c.front.rest ≡ 0 = ap length c.whole in
     let y : length g.rest ≡ 0 = ap length zr in
-    let w : 200000 < length (last g) = slice_get_within (last g) most bad s in
+    let w : 200000 < length (last g) = slice_get_within (last g) token_limit bad s in
     let same : c.front ≡ g = elim (linear (start text) c.front g (ahead text c.front c.cuts) (ahead text g d)) [ inl r ↦ stops c.front g z r | inr r ↦ sym (stops g c.front y r) ] in
     let e = ap length c.tokens_are in let h = ap (λ (v : Front). length (last v)) same in let f = c.few in omega arith
 
@@ -274,24 +274,24 @@ passing f g n k o u x y (step _ _ i w z l a r) p2 q few m2 =
     let e = ap (λ (h : Front). length h.tokens) (same_after f n i o w x z (one_piece f.rest f.mode n i o w x z p2 a)) in
     let h = grows (after f i w z) g r in absurd (omega arith)
 
-one_bad : (f g : Front) (a b : Token) → f ≡ g → slice_get f.tokens most ≡ Some a → slice_get g.tokens most ≡ Some b → Agreed 5 5 a.at b.at
-one_bad f g a b e p2 q = (refl, ap (λ (t : Token). t.at) (some_same a b (sym p2 ∙ ap (λ (h : Front). slice_get h.tokens most) e ∙ q)))
+one_bad : (f g : Front) (a b : Token) → f ≡ g → slice_get f.tokens token_limit ≡ Some a → slice_get g.tokens token_limit ≡ Some b → Agreed 5 5 a.at b.at
+one_bad f g a b e p2 q = (refl, ap (λ (t : Token). t.at) (some_same a b (sym p2 ∙ ap (λ (h : Front). slice_get h.tokens token_limit) e ∙ q)))
 
 pub one_refusal : (text : List ℕ) (r s : ℕ) (a b : Place) → BreaksLexRule text r a → BreaksLexRule text s b → Agreed r s a b
 one_refusal text r s a b (broken f _ k c few some d) (broken g _ j c2 few2 some2 d2) = elim (meet text f g c c2) [
   | inl t ↦ same_broken f g r s k j (sticks f g r k d t) d d2
   | inr t ↦ same_broken f g r s k j (sym (sticks g f s j d2 t)) d d2
 ]
-one_refusal text r s a b (broken f _ k c few some d) (too_many g n out x bad c2 few2 some2 p2 e) = absurd (broken_many text f g r k n out x c few d (piece g n out x c2 some2 p2) (slice_get_within (after g n out x).tokens most bad e))
+one_refusal text r s a b (broken f _ k c few some d) (too_many g n out x bad c2 few2 some2 p2 e) = absurd (broken_many text f g r k n out x c few d (piece g n out x c2 some2 p2) (slice_get_within (after g n out x).tokens token_limit bad e))
 one_refusal text r s a b (broken f _ k c few some d) (too_many_last g bad c2 few2 z e) = absurd (broken_last text f g r k c some d c2 (ap length z))
-one_refusal text r s a b (too_many g n out x bad c2 few2 some2 p2 e) (broken f _ k c few some d) = absurd (broken_many text f g s k n out x c few d (piece g n out x c2 some2 p2) (slice_get_within (after g n out x).tokens most bad e))
+one_refusal text r s a b (too_many g n out x bad c2 few2 some2 p2 e) (broken f _ k c few some d) = absurd (broken_many text f g s k n out x c few d (piece g n out x c2 some2 p2) (slice_get_within (after g n out x).tokens token_limit bad e))
 one_refusal text r s a b (too_many f n o x bad c few some p2 e) (too_many g k u y bad2 c2 few2 some2 q e2) = elim (meet text f g c c2) [
-  | inl t ↦ one_bad (after f n o x) (after g k u y) bad bad2 (passing f g n k o u x y t p2 q few2 (slice_get_within (after f n o x).tokens most bad e)) e e2
-  | inr t ↦ one_bad (after f n o x) (after g k u y) bad bad2 (sym (passing g f k n u o y x t q p2 few (slice_get_within (after g k u y).tokens most bad2 e2))) e e2
+  | inl t ↦ one_bad (after f n o x) (after g k u y) bad bad2 (passing f g n k o u x y t p2 q few2 (slice_get_within (after f n o x).tokens token_limit bad e)) e e2
+  | inr t ↦ one_bad (after f n o x) (after g k u y) bad bad2 (sym (passing g f k n u o y x t q p2 few (slice_get_within (after g k u y).tokens token_limit bad2 e2))) e e2
 ]
-one_refusal text r s a b (too_many g n out x bad c2 few2 some2 p2 e) (too_many_last f bad2 c few z e2) = absurd (last_many text f g n out x c few (ap length z) (piece g n out x c2 some2 p2) (slice_get_within (after g n out x).tokens most bad e))
+one_refusal text r s a b (too_many g n out x bad c2 few2 some2 p2 e) (too_many_last f bad2 c few z e2) = absurd (last_many text f g n out x c few (ap length z) (piece g n out x c2 some2 p2) (slice_get_within (after g n out x).tokens token_limit bad e))
 one_refusal text r s a b (too_many_last g bad c2 few2 z e) (broken f _ k c few some d) = absurd (broken_last text f g s k c some d c2 (ap length z))
-one_refusal text r s a b (too_many_last f bad2 c few z e2) (too_many g n out x bad c2 few2 some2 p2 e) = absurd (last_many text f g n out x c few (ap length z) (piece g n out x c2 some2 p2) (slice_get_within (after g n out x).tokens most bad e))
+one_refusal text r s a b (too_many_last f bad2 c few z e2) (too_many g n out x bad c2 few2 some2 p2 e) = absurd (last_many text f g n out x c few (ap length z) (piece g n out x c2 some2 p2) (slice_get_within (after g n out x).tokens token_limit bad e))
 one_refusal text r s a b (too_many_last f bad c few z e) (too_many_last g bad2 c2 few2 z2 e2) =
     let same : f ≡ g = elim (meet text f g c c2) [ inl t ↦ stops f g (ap length z) t | inr t ↦ sym (stops g f (ap length z2) t) ] in
-    (refl, ap (λ (t : Token). t.at) (some_same bad bad2 (sym e ∙ ap (λ (h : Front). slice_get (last h) most) same ∙ e2)))
+    (refl, ap (λ (t : Token). t.at) (some_same bad bad2 (sym e ∙ ap (λ (h : Front). slice_get (last h) token_limit) same ∙ e2)))

@@ -8,10 +8,10 @@ use Rattle.xmp_lex.specs.declared.token.Mark.{Mark}
 use Rattle.xmp_lex.specs.declared.token.Mark.TheVariants as m
 use Rattle.xmp_lex.specs.Bytes.{is_white, is_digit, is_letter, is_word, IsRun}
 use Rattle.xmp_lex.specs.Words.{mark_text, IsMark}
-use Rattle.xmp_lex.specs.Pieces.{Spelled, name, word, number, quoted, mark, Comment, block, line, Unclosed, Gap, Gaps, Head, Formed, define, include, pragma, other_pragma, IsBlockStart, IsLineStart}
+use Rattle.xmp_lex.specs.Pieces.{Spelled, name, word, number, quoted, mark, Comment, block, line, Unclosed, LineSpace, LineSpaces, LineHead, LineForm, define, include, pragma, other_pragma, IsBlockStart, IsLineStart}
 use Rattle.xmp_lex.specs.Pieces as p
-use Rattle.xmp_lex.specs.Cut.{Piece, white, comment, token, hash, gap, skip, close, IsOutside, IsHashLine, behind_white, behind_token, at_end}
-use Rattle.xmp_lex.proofs.Spaces.{one_place, one_comment, one_gap, slash, backslash}
+use Rattle.xmp_lex.specs.Cut.{Piece, white, comment, token, hash, line_space, skip, close, IsOutside, IsHashLine, behind_white, behind_token, at_end}
+use Rattle.xmp_lex.proofs.SpaceLemmas.{one_place, one_comment, one_space, slash, backslash}
 use Rattle.xmp_lex.proofs.Heads.{one_head}
 use Rattle.xmp_lex.proofs.Unique.{one_spelled, first_of, one_run}
 
@@ -115,17 +115,17 @@ comment_spelled text n k kind c (quoted j _ q e f b l) = let s = slash text n c 
 comment_spelled text n k kind (block i _ s b2 e2) (mark _ x b l f e) = b s
 comment_spelled text n k kind (line i _ s b2 e2) (mark _ x b l f e) = l s
 
-pub gap_spelled : (text : List ℕ) (n k : ℕ) (kind : TokenKind) → Gap text n → Spelled text k kind → ⊥
+pub gap_spelled : (text : List ℕ) (n k : ℕ) (kind : TokenKind) → LineSpace text n → Spelled text k kind → ⊥
 gap_spelled text n k kind (p.white _ w x e) s = fine_white (get_or text 0 0) (first_fine text k kind s) w
-gap_spelled text n k kind (p.join _ j) s = fine_back (get_or text 0 0) (first_fine text k kind s) (backslash text n j)
+gap_spelled text n k kind (p.splice _ j) s = fine_back (get_or text 0 0) (first_fine text k kind s) (backslash text n j)
 gap_spelled text n k kind (p.comment _ c d) s = comment_spelled text n k kind c s
-gap_spelled text n k kind (p.comment_join i _ c d e) s = comment_spelled text i k kind c s
+gap_spelled text n k kind (p.comment_splice i _ c d e) s = comment_spelled text i k kind c s
 
-pub gap_feed : (text : List ℕ) (n : ℕ) → Gap text n → get_or text 0 0 ≡ 10 → ⊥
+pub gap_feed : (text : List ℕ) (n : ℕ) → LineSpace text n → get_or text 0 0 ≡ 10 → ⊥
 gap_feed text n (p.white _ w x e) h = x h
-gap_feed text n (p.join _ j) h = let b = backslash text n j in omega arith
+gap_feed text n (p.splice _ j) h = let b = backslash text n j in omega arith
 gap_feed text n (p.comment _ c d) h = let b = slash text n c in omega arith
-gap_feed text n (p.comment_join i _ c d e) h = let b = slash text i c in omega arith
+gap_feed text n (p.comment_splice i _ c d e) h = let b = slash text i c in omega arith
 
 out_line : (x : Mode) → IsOutside x → IsHashLine x → ⊥
 out_line mode.Start o l = l
@@ -154,23 +154,23 @@ define_same text n j k l r q e s z =
     define_out : (a b : ℕ) (c d : List ℕ) → a ≡ b → c ≡ d → one_out a (t.Define c) ≡ one_out b (t.Define d)
     define_out a b c d h g = cc
 
-pub one_formed : (text : List ℕ) (n k : ℕ) (out out2 : List (ℕ × TokenKind)) (y z : Mode) → Formed text n out y → Formed text k out2 z → Same n k out out2 y z
-one_formed text n k out out2 y z (define n1 k1 r1 h1 s1 p1) (define n2 k2 r2 h2 s2 p2) = let d = define_same text n1 n2 k1 k2 r1 r2 (one_head text n1 n2 _ _ h1 h2).0 s1 s2 in (d.0, d.1, refl)
-one_formed text n k out out2 y z (define n1 k1 r1 h1 s1 p1) (include n2 h2 e2) = absurd (let e = ap (λ xs. get_or xs 0 0) (one_head text n1 n2 _ _ h1 h2).1 in omega arith)
-one_formed text n k out out2 y z (define n1 k1 r1 h1 s1 p1) (pragma n2 k2 h2 r2 e2) = absurd (let e = ap (λ xs. get_or xs 0 0) (one_head text n1 n2 _ _ h1 h2).1 in omega arith)
-one_formed text n k out out2 y z (define n1 k1 r1 h1 s1 p1) (other_pragma n2 k2 h2 r2 e2) = absurd (let e = ap (λ xs. get_or xs 0 0) (one_head text n1 n2 _ _ h1 h2).1 in omega arith)
-one_formed text n k out out2 y z (include n1 h1 e1) (define n2 k2 r2 h2 s2 p2) = absurd (let e = ap (λ xs. get_or xs 0 0) (one_head text n1 n2 _ _ h1 h2).1 in omega arith)
-one_formed text n k out out2 y z (include n1 h1 e1) (include n2 h2 e2) = ((one_head text n1 n2 _ _ h1 h2).0, refl, refl)
-one_formed text n k out out2 y z (include n1 h1 e1) (pragma n2 k2 h2 r2 e2) = absurd (let e = ap (λ xs. get_or xs 0 0) (one_head text n1 n2 _ _ h1 h2).1 in omega arith)
-one_formed text n k out out2 y z (include n1 h1 e1) (other_pragma n2 k2 h2 r2 e2) = absurd (let e = ap (λ xs. get_or xs 0 0) (one_head text n1 n2 _ _ h1 h2).1 in omega arith)
-one_formed text n k out out2 y z (pragma n1 k1 h1 r1 e1) (define n2 k2 r2 h2 s2 p2) = absurd (let e = ap (λ xs. get_or xs 0 0) (one_head text n1 n2 _ _ h1 h2).1 in omega arith)
-one_formed text n k out out2 y z (pragma n1 k1 h1 r1 e1) (include n2 h2 e2) = absurd (let e = ap (λ xs. get_or xs 0 0) (one_head text n1 n2 _ _ h1 h2).1 in omega arith)
-one_formed text n k out out2 y z (pragma n1 k1 h1 r1 e1) (pragma n2 k2 h2 r2 e2) = (let e = one_run (drop n1 text) k1 k2 r1 (subst (λ i. IsRun (drop i text) k2) (sym (one_head text n1 n2 _ _ h1 h2).0) r2) in let a = (one_head text n1 n2 _ _ h1 h2).0 in omega arith, refl, refl)
-one_formed text n k out out2 y z (pragma n1 k1 h1 r1 e1) (other_pragma n2 k2 h2 r2 e2) = absurd (let e = one_run (drop n1 text) k1 k2 r1 (subst (λ i. IsRun (drop i text) k2) (sym (one_head text n1 n2 _ _ h1 h2).0) r2) in e2 (ap (λ i. take i (drop n2 text)) (sym e) ∙ ap (λ i. take k1 (drop i text)) (sym (one_head text n1 n2 _ _ h1 h2).0) ∙ e1))
-one_formed text n k out out2 y z (other_pragma n1 k1 h1 r1 e1) (define n2 k2 r2 h2 s2 p2) = absurd (let e = ap (λ xs. get_or xs 0 0) (one_head text n1 n2 _ _ h1 h2).1 in omega arith)
-one_formed text n k out out2 y z (other_pragma n1 k1 h1 r1 e1) (include n2 h2 e2) = absurd (let e = ap (λ xs. get_or xs 0 0) (one_head text n1 n2 _ _ h1 h2).1 in omega arith)
-one_formed text n k out out2 y z (other_pragma n1 k1 h1 r1 e1) (pragma n2 k2 h2 r2 e2) = absurd (let e = one_run (drop n1 text) k1 k2 r1 (subst (λ i. IsRun (drop i text) k2) (sym (one_head text n1 n2 _ _ h1 h2).0) r2) in e1 (ap (λ i. take i (drop n1 text)) e ∙ ap (λ i. take k2 (drop i text)) (one_head text n1 n2 _ _ h1 h2).0 ∙ e2))
-one_formed text n k out out2 y z (other_pragma n1 k1 h1 r1 e1) (other_pragma n2 k2 h2 r2 e2) = ((one_head text n1 n2 _ _ h1 h2).0, refl, refl)
+pub one_form : (text : List ℕ) (n k : ℕ) (out out2 : List (ℕ × TokenKind)) (y z : Mode) → LineForm text n out y → LineForm text k out2 z → Same n k out out2 y z
+one_form text n k out out2 y z (define n1 k1 r1 h1 s1 p1) (define n2 k2 r2 h2 s2 p2) = let d = define_same text n1 n2 k1 k2 r1 r2 (one_head text n1 n2 _ _ h1 h2).0 s1 s2 in (d.0, d.1, refl)
+one_form text n k out out2 y z (define n1 k1 r1 h1 s1 p1) (include n2 h2 e2) = absurd (let e = ap (λ xs. get_or xs 0 0) (one_head text n1 n2 _ _ h1 h2).1 in omega arith)
+one_form text n k out out2 y z (define n1 k1 r1 h1 s1 p1) (pragma n2 k2 h2 r2 e2) = absurd (let e = ap (λ xs. get_or xs 0 0) (one_head text n1 n2 _ _ h1 h2).1 in omega arith)
+one_form text n k out out2 y z (define n1 k1 r1 h1 s1 p1) (other_pragma n2 k2 h2 r2 e2) = absurd (let e = ap (λ xs. get_or xs 0 0) (one_head text n1 n2 _ _ h1 h2).1 in omega arith)
+one_form text n k out out2 y z (include n1 h1 e1) (define n2 k2 r2 h2 s2 p2) = absurd (let e = ap (λ xs. get_or xs 0 0) (one_head text n1 n2 _ _ h1 h2).1 in omega arith)
+one_form text n k out out2 y z (include n1 h1 e1) (include n2 h2 e2) = ((one_head text n1 n2 _ _ h1 h2).0, refl, refl)
+one_form text n k out out2 y z (include n1 h1 e1) (pragma n2 k2 h2 r2 e2) = absurd (let e = ap (λ xs. get_or xs 0 0) (one_head text n1 n2 _ _ h1 h2).1 in omega arith)
+one_form text n k out out2 y z (include n1 h1 e1) (other_pragma n2 k2 h2 r2 e2) = absurd (let e = ap (λ xs. get_or xs 0 0) (one_head text n1 n2 _ _ h1 h2).1 in omega arith)
+one_form text n k out out2 y z (pragma n1 k1 h1 r1 e1) (define n2 k2 r2 h2 s2 p2) = absurd (let e = ap (λ xs. get_or xs 0 0) (one_head text n1 n2 _ _ h1 h2).1 in omega arith)
+one_form text n k out out2 y z (pragma n1 k1 h1 r1 e1) (include n2 h2 e2) = absurd (let e = ap (λ xs. get_or xs 0 0) (one_head text n1 n2 _ _ h1 h2).1 in omega arith)
+one_form text n k out out2 y z (pragma n1 k1 h1 r1 e1) (pragma n2 k2 h2 r2 e2) = (let e = one_run (drop n1 text) k1 k2 r1 (subst (λ i. IsRun (drop i text) k2) (sym (one_head text n1 n2 _ _ h1 h2).0) r2) in let a = (one_head text n1 n2 _ _ h1 h2).0 in omega arith, refl, refl)
+one_form text n k out out2 y z (pragma n1 k1 h1 r1 e1) (other_pragma n2 k2 h2 r2 e2) = absurd (let e = one_run (drop n1 text) k1 k2 r1 (subst (λ i. IsRun (drop i text) k2) (sym (one_head text n1 n2 _ _ h1 h2).0) r2) in e2 (ap (λ i. take i (drop n2 text)) (sym e) ∙ ap (λ i. take k1 (drop i text)) (sym (one_head text n1 n2 _ _ h1 h2).0) ∙ e1))
+one_form text n k out out2 y z (other_pragma n1 k1 h1 r1 e1) (define n2 k2 r2 h2 s2 p2) = absurd (let e = ap (λ xs. get_or xs 0 0) (one_head text n1 n2 _ _ h1 h2).1 in omega arith)
+one_form text n k out out2 y z (other_pragma n1 k1 h1 r1 e1) (include n2 h2 e2) = absurd (let e = ap (λ xs. get_or xs 0 0) (one_head text n1 n2 _ _ h1 h2).1 in omega arith)
+one_form text n k out out2 y z (other_pragma n1 k1 h1 r1 e1) (pragma n2 k2 h2 r2 e2) = absurd (let e = one_run (drop n1 text) k1 k2 r1 (subst (λ i. IsRun (drop i text) k2) (sym (one_head text n1 n2 _ _ h1 h2).0) r2) in e1 (ap (λ i. take i (drop n1 text)) e ∙ ap (λ i. take k2 (drop i text)) (one_head text n1 n2 _ _ h1 h2).0 ∙ e2))
+one_form text n k out out2 y z (other_pragma n1 k1 h1 r1 e1) (other_pragma n2 k2 h2 r2 e2) = ((one_head text n1 n2 _ _ h1 h2).0, refl, refl)
 
 token_same : (text : List ℕ) (x : Mode) (n k : ℕ) (a b : TokenKind) → Spelled text n a → Spelled text k b → Same n k ((0, a) ∷ []) ((0, b) ∷ []) (behind_token x) (behind_token x)
 token_same text x n k a b s r = let o = one_spelled text n k a b s r in (o.0, out_same a b o.1, refl) where
@@ -182,46 +182,46 @@ one_piece text x n k out out2 y z (white _ o1 w1) (white _ o2 w2) = (refl, refl,
 one_piece text x n k out out2 y z (white _ o1 w1) (comment _ n2 o2 c2) = absurd (white_comment text _ w1 c2)
 one_piece text x n k out out2 y z (white _ o1 w1) (token _ n2 k2 g2 s2) = absurd (fine_white (get_or text 0 0) (first_fine text _ _ s2) w1)
 one_piece text x n k out out2 y z (white _ o1 w1) (hash n2 u2 y2 e2 f2) = absurd (white_hash text w1 e2)
-one_piece text x n k out out2 y z (white _ o1 w1) (gap _ n2 l2 a2) = absurd (out_line _ o1 l2)
+one_piece text x n k out out2 y z (white _ o1 w1) (line_space _ n2 l2 a2) = absurd (out_line _ o1 l2)
 one_piece text x n k out out2 y z (white _ o1 w1) (skip e2 a2 b2) = absurd (o1)
 one_piece text x n k out out2 y z (white _ o1 w1) (close _ l2 e2) = absurd (out_line _ o1 l2)
 one_piece text x n k out out2 y z (comment _ n1 o1 c1) (white _ o2 w2) = absurd (white_comment text _ w2 c1)
 one_piece text x n k out out2 y z (comment _ n1 o1 c1) (comment _ n2 o2 c2) = (one_comment text _ _ c1 c2, refl, refl)
 one_piece text x n k out out2 y z (comment _ n1 o1 c1) (token _ n2 k2 g2 s2) = absurd (comment_spelled text _ _ _ c1 s2)
 one_piece text x n k out out2 y z (comment _ n1 o1 c1) (hash n2 u2 y2 e2 f2) = absurd (hash_comment text _ e2 c1)
-one_piece text x n k out out2 y z (comment _ n1 o1 c1) (gap _ n2 l2 a2) = absurd (out_line _ o1 l2)
+one_piece text x n k out out2 y z (comment _ n1 o1 c1) (line_space _ n2 l2 a2) = absurd (out_line _ o1 l2)
 one_piece text x n k out out2 y z (comment _ n1 o1 c1) (skip e2 a2 b2) = absurd (o1)
 one_piece text x n k out out2 y z (comment _ n1 o1 c1) (close _ l2 e2) = absurd (out_line _ o1 l2)
 one_piece text x n k out out2 y z (token _ n1 k1 g1 s1) (white _ o2 w2) = absurd (fine_white (get_or text 0 0) (first_fine text _ _ s1) w2)
 one_piece text x n k out out2 y z (token _ n1 k1 g1 s1) (comment _ n2 o2 c2) = absurd (comment_spelled text _ _ _ c2 s1)
 one_piece text x n k out out2 y z (token _ n1 k1 g1 s1) (token _ n2 k2 g2 s2) = token_same text x _ _ _ _ s1 s2
 one_piece text x n k out out2 y z (token _ n1 k1 g1 s1) (hash n2 u2 y2 e2 f2) = absurd (fine_hash (get_or text 0 0) (first_fine text _ _ s1) e2)
-one_piece text x n k out out2 y z (token _ n1 k1 g1 s1) (gap _ n2 l2 a2) = absurd (gap_spelled text _ _ _ a2 s1)
+one_piece text x n k out out2 y z (token _ n1 k1 g1 s1) (line_space _ n2 l2 a2) = absurd (gap_spelled text _ _ _ a2 s1)
 one_piece text x n k out out2 y z (token _ n1 k1 g1 s1) (skip e2 a2 b2) = absurd (g1 refl)
 one_piece text x n k out out2 y z (token _ n1 k1 g1 s1) (close _ l2 e2) = absurd (fine_feed (get_or text 0 0) (first_fine text _ _ s1) e2)
 one_piece text x n k out out2 y z (hash n1 u1 y1 e1 f1) (white _ o2 w2) = absurd (white_hash text w2 e1)
 one_piece text x n k out out2 y z (hash n1 u1 y1 e1 f1) (comment _ n2 o2 c2) = absurd (hash_comment text _ e1 c2)
 one_piece text x n k out out2 y z (hash n1 u1 y1 e1 f1) (token _ n2 k2 g2 s2) = absurd (fine_hash (get_or text 0 0) (first_fine text _ _ s2) e1)
-one_piece text x n k out out2 y z (hash n1 u1 y1 e1 f1) (hash n2 u2 y2 e2 f2) = one_formed text _ _ _ _ _ _ f1 f2
-one_piece text x n k out out2 y z (hash n1 u1 y1 e1 f1) (gap _ n2 l2 a2) = absurd (l2)
+one_piece text x n k out out2 y z (hash n1 u1 y1 e1 f1) (hash n2 u2 y2 e2 f2) = one_form text _ _ _ _ _ _ f1 f2
+one_piece text x n k out out2 y z (hash n1 u1 y1 e1 f1) (line_space _ n2 l2 a2) = absurd (l2)
 one_piece text x n k out out2 y z (hash n1 u1 y1 e1 f1) (close _ l2 e2) = absurd (l2)
-one_piece text x n k out out2 y z (gap _ n1 l1 a1) (white _ o2 w2) = absurd (out_line _ o2 l1)
-one_piece text x n k out out2 y z (gap _ n1 l1 a1) (comment _ n2 o2 c2) = absurd (out_line _ o2 l1)
-one_piece text x n k out out2 y z (gap _ n1 l1 a1) (token _ n2 k2 g2 s2) = absurd (gap_spelled text _ _ _ a1 s2)
-one_piece text x n k out out2 y z (gap _ n1 l1 a1) (hash n2 u2 y2 e2 f2) = absurd (l1)
-one_piece text x n k out out2 y z (gap _ n1 l1 a1) (gap _ n2 l2 a2) = (one_gap text _ _ a1 a2, refl, refl)
-one_piece text x n k out out2 y z (gap _ n1 l1 a1) (skip e2 a2 b2) = absurd (a2 _ a1)
-one_piece text x n k out out2 y z (gap _ n1 l1 a1) (close _ l2 e2) = absurd (gap_feed text _ a1 e2)
+one_piece text x n k out out2 y z (line_space _ n1 l1 a1) (white _ o2 w2) = absurd (out_line _ o2 l1)
+one_piece text x n k out out2 y z (line_space _ n1 l1 a1) (comment _ n2 o2 c2) = absurd (out_line _ o2 l1)
+one_piece text x n k out out2 y z (line_space _ n1 l1 a1) (token _ n2 k2 g2 s2) = absurd (gap_spelled text _ _ _ a1 s2)
+one_piece text x n k out out2 y z (line_space _ n1 l1 a1) (hash n2 u2 y2 e2 f2) = absurd (l1)
+one_piece text x n k out out2 y z (line_space _ n1 l1 a1) (line_space _ n2 l2 a2) = (one_space text _ _ a1 a2, refl, refl)
+one_piece text x n k out out2 y z (line_space _ n1 l1 a1) (skip e2 a2 b2) = absurd (a2 _ a1)
+one_piece text x n k out out2 y z (line_space _ n1 l1 a1) (close _ l2 e2) = absurd (gap_feed text _ a1 e2)
 one_piece text x n k out out2 y z (skip e1 a1 b1) (white _ o2 w2) = absurd (o2)
 one_piece text x n k out out2 y z (skip e1 a1 b1) (comment _ n2 o2 c2) = absurd (o2)
 one_piece text x n k out out2 y z (skip e1 a1 b1) (token _ n2 k2 g2 s2) = absurd (g2 refl)
-one_piece text x n k out out2 y z (skip e1 a1 b1) (gap _ n2 l2 a2) = absurd (a1 _ a2)
+one_piece text x n k out out2 y z (skip e1 a1 b1) (line_space _ n2 l2 a2) = absurd (a1 _ a2)
 one_piece text x n k out out2 y z (skip e1 a1 b1) (skip e2 a2 b2) = (refl, refl, refl)
 one_piece text x n k out out2 y z (skip e1 a1 b1) (close _ l2 e2) = absurd (e1 e2)
 one_piece text x n k out out2 y z (close _ l1 e1) (white _ o2 w2) = absurd (out_line _ o2 l1)
 one_piece text x n k out out2 y z (close _ l1 e1) (comment _ n2 o2 c2) = absurd (out_line _ o2 l1)
 one_piece text x n k out out2 y z (close _ l1 e1) (token _ n2 k2 g2 s2) = absurd (fine_feed (get_or text 0 0) (first_fine text _ _ s2) e1)
 one_piece text x n k out out2 y z (close _ l1 e1) (hash n2 u2 y2 e2 f2) = absurd (l1)
-one_piece text x n k out out2 y z (close _ l1 e1) (gap _ n2 l2 a2) = absurd (gap_feed text _ a2 e1)
+one_piece text x n k out out2 y z (close _ l1 e1) (line_space _ n2 l2 a2) = absurd (gap_feed text _ a2 e1)
 one_piece text x n k out out2 y z (close _ l1 e1) (skip e2 a2 b2) = absurd (e2 e1)
 one_piece text x n k out out2 y z (close _ l1 e1) (close _ l2 e2) = (refl, refl, refl)

@@ -9,7 +9,7 @@ use Rattle.xmp_lex.specs.Bytes.{is_digit, is_letter, is_word, IsRun, IsNumber, I
 use Rattle.xmp_lex.specs.Words.{mark_text, word_text, IsMark}
 use Rattle.xmp_lex.specs.Pieces.{Spelled, name, word, number, quoted, mark, Malformed, stray, unknown_escape, unclosed, no_number, IsBlockStart, IsLineStart, type_of}
 use Rattle.xmp_lex.specs.Found.{Taken, IsMeaning}
-use Rattle.xmp_lex.proofs.Spaces.{inside}
+use Rattle.xmp_lex.proofs.SpaceLemmas.{inside}
 use Rattle.xmp_lex.proofs.MarkTable.{long, long_is, place, long_some}
 use Rattle.std.proofs.lemmas.Int.{to_z_pos}
 

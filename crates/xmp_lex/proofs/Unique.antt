@@ -9,7 +9,7 @@ use Rattle.xmp_lex.specs.declared.token.Reserved.TheVariants as w
 use Rattle.xmp_lex.specs.Bytes.{is_white, is_digit, is_letter, is_word, IsRun, IsNumber, IsTextEnd, has_suffix, content, is_end, escaped, base_of, digits_of, value}
 use Rattle.xmp_lex.specs.Words.{mark_text, word_text, IsMark, BeginsWith}
 use Rattle.xmp_lex.specs.Pieces.{Spelled, name, word, number, quoted, mark, type_of, IsBlockStart, IsLineStart}
-use Rattle.xmp_lex.proofs.Spaces.{one_place}
+use Rattle.xmp_lex.proofs.SpaceLemmas.{one_place}
 use Rattle.xmp_lex.proofs.MarkTable.{long_is, long, place, long_some, table}
 use Rattle.std.proofs.lemmas.List.{get_or-take}
 

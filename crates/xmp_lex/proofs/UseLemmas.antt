@@ -6,7 +6,7 @@ use Rattle.xmp_base.specs.declared.refusal.Fault.TheVariants as fault
 use Rattle.xmp_lex.specs.declared.token.Token.{Token}
 use Rattle.xmp_lex.specs.declared.definitions.Use.{Use}
 use Rattle.xmp_lex.specs.declared.output.Output.{Output}
-use Rattle.xmp_lex.specs.Cut.{most}
+use Rattle.xmp_lex.specs.Cut.{token_limit}
 use Rattle.xmp_lex.specs.Expand.{Definition, definition_of, moved, Event, out, used, Replaces, done, keep, replace, tokens_of}
 use Rattle.xmp_lex.specs.Output.{Pending, none, within, names_of, frame, frames, PutsOut, Puts, Overflows, IsFull, IsStopped, Advances}
 use Rattle.xmp_lex.proofs.ReplaceLemmas.{deep, definition_deep, pending_done, pending_keep, pending_use, pending_of, pending_some, result_of, some_event}
@@ -38,7 +38,7 @@ names_last (w ∷ uses) u = ap (λ ns. w.0 ∷ ns) (names_last uses u)
 length_last : (uses : List Definition) (u : Definition) → length (uses ++ u ∷ []) ≡ length uses + 1
 length_last uses u = length-append uses (u ∷ [])
 
-pub puts_nothing : (o : Output) → o.count ≤ most → PutsOut [] o o
+pub puts_nothing : (o : Output) → o.count ≤ token_limit → PutsOut [] o o
 puts_nothing o h = record { tokens = sym (append-nil o.tokens.items); count = omega arith; few = h }
 
 pub tokens_append : (ds bs : List Event) → tokens_of (ds ++ bs) ≡ tokens_of ds ++ tokens_of bs
@@ -54,7 +54,7 @@ puts_both ds bs o p q h k = record {
   few = k.few;
 }
 
-pub advance_done : (known : List Definition) (at : Place) (uses : List Definition) (u : Definition) (hidden : List (List ℕ)) (o : Output) → u.1 ≡ [] → hidden ≡ names_of uses → o.count ≤ most → Advances known at (uses ++ u ∷ []) uses hidden o o
+pub advance_done : (known : List Definition) (at : Place) (uses : List Definition) (u : Definition) (hidden : List (List ℕ)) (o : Output) → u.1 ≡ [] → hidden ≡ names_of uses → o.count ≤ token_limit → Advances known at (uses ++ u ∷ []) uses hidden o o
 advance_done known at uses u hidden o e h few = record {
   events = [];
   to_come = λ later p. subst (λ left. Pending known at [] (uses ++ (u.0, left) ∷ []) later) (sym e) (pending_done known at u.0 uses [] later p);
@@ -96,7 +96,7 @@ pub record InUse (known : List Definition) (at : Place) (first : Definition) (us
   pub names : hidden ≡ names_of uses
   pub put : PutsOut sofar old new
 
-pub use_start : (known : List Definition) (at : Place) (first : Definition) (hidden : List (List ℕ)) (o : Output) → hidden ≡ first.0 ∷ [] → o.count ≤ most → InUse known at first (first ∷ []) hidden o o
+pub use_start : (known : List Definition) (at : Place) (first : Definition) (hidden : List (List ℕ)) (o : Output) → hidden ≡ first.0 ∷ [] → o.count ≤ token_limit → InUse known at first (first ∷ []) hidden o o
 use_start known at first hidden o h few = record { sofar = []; to_come = λ later p. come later p; names = h; put = puts_nothing o few } where
   come : (later : List Event) → Pending known at [] (first ∷ []) later → Replaces known (first.0 ∷ []) (moved at first.1) later
   come _ (within _ _ _ _ es (none _) r) = r

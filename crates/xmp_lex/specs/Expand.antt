@@ -10,12 +10,13 @@ use Rattle.xmp_base.specs.declared.refusal.Phase.TheVariants as phase
 use Rattle.xmp_lex.specs.declared.token.Token.{Token}
 use Rattle.xmp_lex.specs.declared.token.TokenKind.{TokenKind}
 use Rattle.xmp_lex.specs.declared.token.TokenKind.TheVariants as t
-use Rattle.xmp_lex.specs.Cut.{most}
+use Rattle.xmp_lex.specs.Cut.{token_limit}
 
 -- a definition: a name and its tokens
 abbrev pub Definition : Type 0
 Definition = List ℕ × List Token
 
+-- equal names
 abbrev pub same : List ℕ → List ℕ → Bool
 same a b = pointwise nat_eq a b
 
@@ -45,6 +46,7 @@ pub data Replaces (known : List Definition) : List (List ℕ) → List Token →
   replace : (hidden : List (List ℕ)) (x : Token) (d : Definition) (ts : List Token) (inner es : List Event) → definition_of known hidden x.kind ≡ Some d
       → Replaces known (d.0 ∷ hidden) (moved x.at d.1) inner → Replaces known hidden ts es → Replaces known hidden (x ∷ ts) (used x.at ∷ inner ++ es)
 
+-- the start of a definition
 abbrev pub IsDefine : TokenKind → Type 0
 IsDefine (t.Define name) = ⊤
 IsDefine _ = ⊥
@@ -62,6 +64,7 @@ pub data Expands : List Definition → List Token → List Event → Type 0 wher
   define_again : (known : List Definition) (x close : Token) (name : List ℕ) (old body ts : List Token) (es : List Event) → x.kind ≡ t.Define name → body_of known name ≡ Some old → IsBody body → close.kind ≡ t.Close
       → Expands known ts es → Expands known (x ∷ (body ++ close ∷ ts)) (again x.at ∷ es)
 
+-- the tokens that stay
 abbrev pub tokens_of : List Event → List Token
 tokens_of [] = []
 tokens_of (out x ∷ es) = x ∷ tokens_of es
@@ -74,6 +77,7 @@ counts (out x) = true
 counts (used at) = true
 counts (again at) = false
 
+-- where an event is: for a use the place of the name
 abbrev pub place_of : Event → Place
 place_of (out x) = x.at
 place_of (used at) = at
@@ -82,12 +86,12 @@ place_of (again at) = at
 -- no rule E breaks in these events
 pub record IsFine (es : List Event) : Type 0 where
   pub once : All (λ e. counts e ≡ true) es
-  pub few : length es ≤ most
+  pub few : length es ≤ token_limit
 
 -- The first event at which a rule E breaks: the rule, and the event's place.
 pub data BreaksMacroRule (es : List Event) : ℕ → Place → Type 0 where
   twice : (before after : List Event) (at : Place) → es ≡ before ++ again at ∷ after → IsFine before → BreaksMacroRule es 1 at
-  too_many : (before after : List Event) (e : Event) → es ≡ before ++ e ∷ after → counts e ≡ true → IsFine before → length before ≡ most → BreaksMacroRule es 2 (place_of e)
+  too_many : (before after : List Event) (e : Event) → es ≡ before ++ e ∷ after → counts e ≡ true → IsFine before → length before ≡ token_limit → BreaksMacroRule es 2 (place_of e)
 
 -- The expansion of a text's tokens.
 pub record Expanded (tokens result : List Token) : Type 0 where

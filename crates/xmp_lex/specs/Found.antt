@@ -10,8 +10,8 @@ use Rattle.xmp_lex.specs.declared.token.Token.{Token}
 use Rattle.xmp_lex.specs.declared.token.TokenKind.{TokenKind}
 use Rattle.xmp_lex.specs.declared.mode.Mode.{Mode}
 use Rattle.xmp_lex.specs.declared.mode.Mode.TheVariants as mode
-use Rattle.xmp_lex.specs.declared.gaps.Found.{Found}
-use Rattle.xmp_lex.specs.declared.gaps.Found.TheVariants as found
+use Rattle.xmp_lex.specs.declared.spaces.Found.{Found}
+use Rattle.xmp_lex.specs.declared.spaces.Found.TheVariants as found
 use Rattle.xmp_lex.specs.declared.cut.NextPiece.{NextPiece}
 use Rattle.xmp_lex.specs.declared.tokens.PieceError.{PieceError}
 use Rattle.xmp_lex.specs.declared.tokens.PieceError.TheVariants as error
@@ -19,8 +19,8 @@ use Rattle.xmp_lex.specs.declared.tokens.Meaning.{Meaning}
 use Rattle.xmp_lex.specs.declared.tokens.Meaning.TheVariants as meaning
 use Rattle.xmp_lex.specs.Bytes.{content, content_of, escape_value, IsBadEscape}
 use Rattle.xmp_lex.specs.Words.{BeginsWith, mark_text}
-use Rattle.xmp_lex.specs.Pieces.{IsBlockStart, IsLineStart, Comment, Unclosed, Gap, Spelled, Malformed}
-use Rattle.xmp_lex.specs.Cut.{Piece, Broken, BreaksLexRule, behind, most}
+use Rattle.xmp_lex.specs.Pieces.{IsBlockStart, IsLineStart, Comment, Unclosed, LineSpace, Spelled, Malformed}
+use Rattle.xmp_lex.specs.Cut.{Piece, Broken, BreaksLexRule, behind, token_limit}
 
 -- none of the first n marks is at the front
 abbrev pub IsNone : List Mark → List ℕ → ℕ → Type 0
@@ -40,10 +40,10 @@ IsComment text found.Nothing = (IsBlockStart text → ⊥) × (IsLineStart text 
 IsComment text found.Unclosed = Unclosed text
 IsComment text (found.Some n) = Comment text n × (n ≤ length text) × (2 ≤ n)
 
-abbrev pub IsGap : List ℕ → Found → Type 0
-IsGap text found.Nothing = ((n : ℕ) → Gap text n → ⊥) × (Unclosed text → ⊥) × (IsBlockStart text → ⊥) × (IsLineStart text → ⊥)
-IsGap text found.Unclosed = Unclosed text
-IsGap text (found.Some n) = Gap text n × (n ≤ length text) × (1 ≤ n)
+abbrev pub IsLineSpace : List ℕ → Found → Type 0
+IsLineSpace text found.Nothing = ((n : ℕ) → LineSpace text n → ⊥) × (Unclosed text → ⊥) × (IsBlockStart text → ⊥) × (IsLineStart text → ⊥)
+IsLineSpace text found.Unclosed = Unclosed text
+IsLineSpace text (found.Some n) = LineSpace text n × (n ≤ length text) × (1 ≤ n)
 
 -- the token at the front, as the code takes it
 abbrev pub Taken : List ℕ → ℕ → TokenKind → Type 0
@@ -73,7 +73,7 @@ IsBroken text x (error.Rule rule k) = Broken text x rule k × (k ≤ length text
 -- putting down these tokens passes the limit
 abbrev pub IsTooMany : List Token → List Token → Fault → Type 0
 IsTooMany old new fault.NoMemory = ⊤
-IsTooMany old new (fault.Refused r) = (r.phase ≡ phase.Lex) × (r.rule ≡ 5) × ((bad : Token) × (slice_get (old ++ new) most ≡ Some bad) × (r.at ≡ bad.at))
+IsTooMany old new (fault.Refused r) = (r.phase ≡ phase.Lex) × (r.rule ≡ 5) × ((bad : Token) × (slice_get (old ++ new) token_limit ≡ Some bad) × (r.at ≡ bad.at))
 
 abbrev pub is_directive : Mode → Bool
 is_directive mode.Directive = true

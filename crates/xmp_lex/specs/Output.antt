@@ -9,7 +9,7 @@ use Rattle.xmp_lex.specs.declared.token.TokenKind.TheVariants as t
 use Rattle.xmp_lex.specs.declared.output.Output.{Output}
 use Rattle.xmp_lex.specs.declared.token.TokenKind.{TokenKind}
 use Rattle.xmp_lex.specs.declared.definitions.Use.{Use}
-use Rattle.xmp_lex.specs.Cut.{most}
+use Rattle.xmp_lex.specs.Cut.{token_limit}
 use Rattle.xmp_lex.specs.Expand.{Definition, Event, again, Replaces, IsDefine, moved, tokens_of, body_of, IsBody}
 
 -- the refusal by a rule E
@@ -19,13 +19,13 @@ breaks_macro rule at = fault.Refused (record { phase = phase.Macro; rule = rule;
 -- there is no room for one more
 abbrev pub IsFull : ℕ → Place → Fault → Type 0
 IsFull count at fault.NoMemory = ⊤
-IsFull count at (fault.Refused r) = (fault.Refused r ≡ breaks_macro 2 at) × (count ≡ most)
+IsFull count at (fault.Refused r) = (fault.Refused r ≡ breaks_macro 2 at) × (count ≡ token_limit)
 
 -- these events are put out
 pub record PutsOut (events : List Event) (old new : Output) : Type 0 where
   pub tokens : new.tokens.items ≡ old.tokens.items ++ tokens_of events
   pub count : new.count ≡ old.count + length events
-  pub few : new.count ≤ most
+  pub few : new.count ≤ token_limit
 
 -- events of which P holds are put out
 pub record Puts (P : List Event → Type 0) (old new : Output) : Type 0 where
@@ -36,7 +36,7 @@ pub record Puts (P : List Event → Type 0) (old new : Output) : Type 0 where
 -- events of which P holds are too many
 abbrev pub Overflows : (List Event → Type 0) → Output → Place → Fault → Type 0
 Overflows P old at fault.NoMemory = ⊤
-Overflows P old at (fault.Refused r) = (fault.Refused r ≡ breaks_macro 2 at) × ((events : List Event) × P events × (most < old.count + length events))
+Overflows P old at (fault.Refused r) = (fault.Refused r ≡ breaks_macro 2 at) × ((events : List Event) × P events × (token_limit < old.count + length events))
 
 -- What is still to come from the uses that stand open, the outermost first, each with its name and the tokens that it has left.
 pub data Pending (known : List Definition) (at : Place) : List (List ℕ) → List Definition → List Event → Type 0 where
@@ -56,7 +56,7 @@ frames uses = map frame uses
 -- a use that has tokens left can't go on
 abbrev pub IsStopped : ℕ → List Token → Place → Fault → Type 0
 IsStopped count left at fault.NoMemory = ⊤
-IsStopped count left at (fault.Refused r) = (fault.Refused r ≡ breaks_macro 2 at) × (count ≡ most) × (0 < length left)
+IsStopped count left at (fault.Refused r) = (fault.Refused r ≡ breaks_macro 2 at) × (count ≡ token_limit) × (0 < length left)
 
 -- one step of the innermost use
 pub record Advances (known : List Definition) (at : Place) (before after : List Definition) (hidden : List (List ℕ)) (old new : Output) : Type 0 where

@@ -1,16 +1,16 @@
 //! A text cut into tokens.
 ghost use Rattle.std.specs.Prelude.{◌≡◌, ◌≢◌, ◌+◌, ◌<◌, ◌≤◌, ℕ, IfOk, IfErr, IfSome, option_to_list, OnOk, [], ◌∷◌, length, slice_index, drop, take, false, true, ◌++◌, ◌==◌, None, ◌^◌};
 ghost use Rattle.xmp_lex.specs.Bytes.{is_white};
-ghost use Rattle.xmp_lex.specs.Pieces.{Join, IsBlockStart, IsLineStart};
-ghost use Rattle.xmp_lex.specs.Found.{IsGap};
-ghost use Rattle.xmp_lex.specs.declared.gaps.Found.TheVariants.{Nothing};
+ghost use Rattle.xmp_lex.specs.Pieces.{Splice, IsBlockStart, IsLineStart};
+ghost use Rattle.xmp_lex.specs.Found.{IsLineSpace};
+ghost use Rattle.xmp_lex.specs.declared.spaces.Found.TheVariants.{Nothing};
 ghost use Rattle.xmp_lex.specs.declared.mode.Mode.TheVariants.{Start, Directive, Ignored};
 ghost use Rattle.xmp_lex.specs.Lines.{IsFinished, IsClosed};
 ghost use Rattle.xmp_lex.specs.Cut.{IsRefused, Cut, behind, step, behind_white, behind_token, IsOutside, placed, ending};
 ghost use Rattle.xmp_lex.specs.Found.{IsPiece, IsBroken, IsTooMany, IsWithin, refusal, is_directive, breaks};
 
 use crate::bytes::{byte_at, from, front, is_white};
-use crate::gaps::{Found, comment, gap};
+use crate::spaces::{Found, comment, line_space};
 use crate::hash::hash;
 use crate::mode::Mode;
 use crate::token::{Token, TokenKind};
@@ -39,7 +39,7 @@ fn gives_nothing(length: usize, mode: Mode) -> NextPiece
 fn plain(alloc: Global, mode: Mode, text: &[u8]) -> Result<NextPiece, PieceError>
     requires mode { mode ≢ Ignored }
     requires hash { mode ≡ Start → slice_index text.now 0 ≢ 35 }
-    requires join { mode ≡ Directive → (n : ℕ) → Join text.now n → ⊥ }
+    requires splice { mode ≡ Directive → (n : ℕ) → Splice text.now n → ⊥ }
     requires block { IsBlockStart text.now → ⊥ }
     requires line { IsLineStart text.now → ⊥ }
     requires some { 0 < length text.now }
@@ -94,7 +94,7 @@ fn behind_white(mode: Mode, byte: u8) -> Mode
 
 /// A piece of a line whose tokens are cut, behind its white space.
 fn in_line(alloc: Global, text: &[u8]) -> Result<NextPiece, PieceError>
-    requires gap { IsGap text.now Nothing }
+    requires line_space { IsLineSpace text.now Nothing }
     requires some { 0 < length text.now }
     ensures ok { IfOk result (λ c. IsPiece text.now Directive c) }
     ensures err { IfErr result (λ e. IsBroken text.now Directive e) }
@@ -110,7 +110,7 @@ fn in_line(alloc: Global, text: &[u8]) -> Result<NextPiece, PieceError>
 }
 
 fn ignored(text: &[u8]) -> NextPiece
-    requires gap { IsGap text.now Nothing }
+    requires line_space { IsLineSpace text.now Nothing }
     requires some { 0 < length text.now }
     ensures { IsPiece text.now Ignored result }
 {
@@ -130,12 +130,12 @@ pub fn piece_at(alloc: Global, mode: Mode, text: &[u8]) -> Result<NextPiece, Pie
     match mode {
         Mode::Start => piece_outside(alloc, Mode::Start, text),
         Mode::Middle => piece_outside(alloc, Mode::Middle, text),
-        Mode::Directive => match gap(text) {
+        Mode::Directive => match line_space(text) {
             Found::Unclosed => Err(PieceError::Rule(2, 0)),
             Found::Some(n) => Ok(gives_nothing(n, Mode::Directive)),
             Found::Nothing => in_line(alloc, text),
         },
-        Mode::Ignored => match gap(text) {
+        Mode::Ignored => match line_space(text) {
             Found::Unclosed => Err(PieceError::Rule(2, 0)),
             Found::Some(n) => Ok(gives_nothing(n, Mode::Ignored)),
             Found::Nothing => Ok(ignored(text)),
@@ -278,7 +278,7 @@ fn refusal(bad: PieceError, at: Place, rest: &[u8]) -> Fault
 
 /// Cuts a text into its tokens, with the tokens of its definitions in their lines.
 ///
-/// A text is at most 1 MiB. Time and memory grow with its length.
+/// A text is at token_limit 1 MiB. Time and memory grow with its length.
 pub fn lex(alloc: Global, text: &[u8]) -> Result<Vec<Token>, Fault>
     requires { length text.now ≤ 1048576 }
     ensures ok { IfOk result (λ tokens. Cut text.now tokens.items) }

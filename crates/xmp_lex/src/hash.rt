@@ -1,12 +1,12 @@
 //! `#` lines.
 ghost use Rattle.std.specs.Prelude.{◌≡◌, ◌+◌, ◌<◌, ◌≤◌, ℕ, IfOk, IfErr, length, slice_index, drop, codes, true, false, ◌≢◌};
 ghost use Rattle.xmp_lex.specs.declared.mode.Mode.TheVariants.{Start};
-ghost use Rattle.xmp_lex.specs.Pieces.{Gaps, Head};
+ghost use Rattle.xmp_lex.specs.Pieces.{LineSpaces, LineHead};
 ghost use Rattle.xmp_lex.specs.Found.{IsPiece, IsBroken};
 
 use crate::bytes::{byte_at, from, front, is_letter, run};
 use crate::cut::NextPiece;
-use crate::gaps::gaps;
+use crate::spaces::line_spaces;
 use crate::mode::Mode;
 use crate::token::{TokenKind, bytes_of};
 use crate::tokens::PieceError;
@@ -20,7 +20,7 @@ pub fn hash(alloc: Global, text: &[u8]) -> Result<NextPiece, PieceError>
     ensures ok { IfOk result (λ c. IsPiece text.now Start c) }
     ensures err { IfErr result (λ e. IsBroken text.now Start e) }
 {
-    match gaps(from(text, 1)) {
+    match line_spaces(from(text, 1)) {
         None => Err(PieceError::Rule(6, 0)),
         Some(first) => behind_hash(alloc, text, first),
     }
@@ -28,14 +28,14 @@ pub fn hash(alloc: Global, text: &[u8]) -> Result<NextPiece, PieceError>
 
 fn behind_hash(alloc: Global, text: &[u8], first: usize) -> Result<NextPiece, PieceError>
     requires begins { slice_index text.now 0 ≡ 35 }
-    requires gaps { Gaps (drop 1 text.now) first }
+    requires line_spaces { LineSpaces (drop 1 text.now) first }
     requires within { 1 + first ≤ length text.now }
     ensures ok { IfOk result (λ c. IsPiece text.now Start c) }
     ensures err { IfErr result (λ e. IsBroken text.now Start e) }
 {
     let on = from(text, 1 + first);
     let n = run(on);
-    match gaps(from(text, 1 + first + n)) {
+    match line_spaces(from(text, 1 + first + n)) {
         None => Err(PieceError::Rule(6, 0)),
         Some(second) => form(alloc, text, 1 + first + n + second, front(on, n)),
     }
@@ -50,7 +50,7 @@ fn is(word: &[u8], other: &[u8]) -> bool
 
 /// The form of a `#` line, by its word.
 fn form(alloc: Global, text: &[u8], n: usize, word: &[u8]) -> Result<NextPiece, PieceError>
-    requires head { Head text.now n word.now }
+    requires head { LineHead text.now n word.now }
     requires within { n ≤ length text.now }
     ensures ok { IfOk result (λ c. IsPiece text.now Start c) }
     ensures err { IfErr result (λ e. IsBroken text.now Start e) }
@@ -68,7 +68,7 @@ fn form(alloc: Global, text: &[u8], n: usize, word: &[u8]) -> Result<NextPiece, 
 }
 
 fn include(text: &[u8], n: usize) -> Result<NextPiece, PieceError>
-    requires head { Head text.now n (codes "include") }
+    requires head { LineHead text.now n (codes "include") }
     requires within { n ≤ length text.now }
     ensures ok { IfOk result (λ c. IsPiece text.now Start c) }
     ensures err { IfErr result (λ e. IsBroken text.now Start e) }
@@ -85,7 +85,7 @@ fn include(text: &[u8], n: usize) -> Result<NextPiece, PieceError>
 }
 
 fn pragma(text: &[u8], n: usize) -> NextPiece
-    requires head { Head text.now n (codes "pragma") }
+    requires head { LineHead text.now n (codes "pragma") }
     requires within { n ≤ length text.now }
     ensures { IsPiece text.now Start result }
 {
@@ -107,7 +107,7 @@ fn pragma(text: &[u8], n: usize) -> NextPiece
 }
 
 fn define(alloc: Global, text: &[u8], n: usize) -> Result<NextPiece, PieceError>
-    requires head { Head text.now n (codes "define") }
+    requires head { LineHead text.now n (codes "define") }
     requires within { n ≤ length text.now }
     ensures ok { IfOk result (λ c. IsPiece text.now Start c) }
     ensures err { IfErr result (λ e. IsBroken text.now Start e) }

@@ -5,7 +5,7 @@ mod bytes;
 mod cut;
 mod definitions;
 mod macros;
-mod gaps;
+mod spaces;
 mod hash;
 mod laws;
 mod mode;

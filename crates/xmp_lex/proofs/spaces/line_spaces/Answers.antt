@@ -1,5 +1,5 @@
-use Rattle.xmp_lex.proofs.Spaces.{along_start, along_step, along_end, along_open}
-use Rattle.xmp_lex.proofs.gaps.gaps.Goals as goal
+use Rattle.xmp_lex.proofs.SpaceLemmas.{along_start, along_step, along_end, along_open}
+use Rattle.xmp_lex.proofs.spaces.line_spaces.Goals as goal
 
 pub returns-in-Nothing : goal.returns-in-Nothing
 returns-in-Nothing c = along_end _ _ _ c.loop-k.invariant c.in-Nothing.ensures.0 c.in-Nothing.ensures.1

@@ -1,8 +1,8 @@
 //! White space and comments.
 ghost use Rattle.std.specs.Prelude.{◌≡◌, ◌+◌, ◌-◌, ◌<◌, ◌≤◌, ℕ, MatchOption, length, slice_index, drop, take};
-ghost use Rattle.xmp_lex.specs.declared.gaps.Found.TheVariants.{Nothing, Some};
-ghost use Rattle.xmp_lex.specs.Pieces.{Gaps, is_joined, Join, IsBlockStart, IsLineStart};
-ghost use Rattle.xmp_lex.specs.Found.{IsGap, IsComment};
+ghost use Rattle.xmp_lex.specs.declared.spaces.Found.TheVariants.{Nothing, Some};
+ghost use Rattle.xmp_lex.specs.Pieces.{LineSpaces, is_spliced, Splice, IsBlockStart, IsLineStart};
+ghost use Rattle.xmp_lex.specs.Found.{IsLineSpace, IsComment};
 
 use crate::bytes::{block, byte_at, from, is_white, line};
 
@@ -46,23 +46,23 @@ fn block_comment(text: &[u8]) -> Found
 }
 
 /// A `\` that joins a line to the next, with its line feed.
-pub fn join(text: &[u8]) -> Option<usize>
-    ensures { MatchOption result ((n : ℕ) → Join text.now n → ⊥) (λ n. Join text.now n) }
+pub fn splice(text: &[u8]) -> Option<usize>
+    ensures { MatchOption result ((n : ℕ) → Splice text.now n → ⊥) (λ n. Splice text.now n) }
 {
     if byte_at(text, 0) != b'\\' {
         return None;
     }
     match byte_at(text, 1) {
         b'\n' => Some(2),
-        b'\r' => joined(text),
+        b'\r' => spliced(text),
         _ => None,
     }
 }
 
-fn joined(text: &[u8]) -> Option<usize>
+fn spliced(text: &[u8]) -> Option<usize>
     requires back { slice_index text.now 0 ≡ 92 }
     requires carriage { slice_index text.now 1 ≡ 13 }
-    ensures { MatchOption result ((n : ℕ) → Join text.now n → ⊥) (λ n. Join text.now n) }
+    ensures { MatchOption result ((n : ℕ) → Splice text.now n → ⊥) (λ n. Splice text.now n) }
 {
     if byte_at(text, 2) == b'\n' {
         Some(3)
@@ -71,9 +71,9 @@ fn joined(text: &[u8]) -> Option<usize>
     }
 }
 
-fn is_joined(text: &[u8], n: usize) -> bool
+fn is_spliced(text: &[u8], n: usize) -> bool
     requires { 2 ≤ n }
-    ensures { result ≡ is_joined text.now n }
+    ensures { result ≡ is_spliced text.now n }
 {
     byte_at(text, n) == b'\n'
         && (byte_at(text, n - 1) == b'\\'
@@ -81,41 +81,41 @@ fn is_joined(text: &[u8], n: usize) -> bool
 }
 
 /// The white space of a `#` line at the front.
-pub fn gap(text: &[u8]) -> Found
-    ensures { IsGap text.now result }
+pub fn line_space(text: &[u8]) -> Found
+    ensures { IsLineSpace text.now result }
 {
     match comment(text) {
         Found::Unclosed => Found::Unclosed,
-        Found::Some(n) => comment_gap(text, n),
-        Found::Nothing => plain_gap(text),
+        Found::Some(n) => comment_space(text, n),
+        Found::Nothing => plain_space(text),
     }
 }
 
-fn comment_gap(text: &[u8], n: usize) -> Found
+fn comment_space(text: &[u8], n: usize) -> Found
     requires { IsComment text.now (Some n) }
-    ensures { IsGap text.now result }
+    ensures { IsLineSpace text.now result }
 {
-    if is_joined(text, n) {
+    if is_spliced(text, n) {
         Found::Some(n + 1)
     } else {
         Found::Some(n)
     }
 }
 
-fn plain_gap(text: &[u8]) -> Found
+fn plain_space(text: &[u8]) -> Found
     requires { IsComment text.now Nothing }
-    ensures { IsGap text.now result }
+    ensures { IsLineSpace text.now result }
 {
-    match join(text) {
+    match splice(text) {
         Some(n) => Found::Some(n),
-        None => white_gap(text),
+        None => white_space(text),
     }
 }
 
-fn white_gap(text: &[u8]) -> Found
+fn white_space(text: &[u8]) -> Found
     requires comment { IsComment text.now Nothing }
-    requires join { (n : ℕ) → Join text.now n → ⊥ }
-    ensures { IsGap text.now result }
+    requires splice { (n : ℕ) → Splice text.now n → ⊥ }
+    ensures { IsLineSpace text.now result }
 {
     let byte = byte_at(text, 0);
     if is_white(byte) && byte != b'\n' {
@@ -126,13 +126,13 @@ fn white_gap(text: &[u8]) -> Found
 }
 
 /// All white space of a `#` line at the front.
-pub fn gaps(text: &[u8]) -> Option<usize>
-    ensures { MatchOption result ((n : ℕ) → Gaps text.now n → ⊥) (λ n. Gaps text.now n × (n ≤ length text.now)) }
+pub fn line_spaces(text: &[u8]) -> Option<usize>
+    ensures { MatchOption result ((n : ℕ) → LineSpaces text.now n → ⊥) (λ n. LineSpaces text.now n × (n ≤ length text.now)) }
 {
     let mut n = 0;
     let mut rest = text;
     loop {
-        match gap(rest) {
+        match line_space(rest) {
             Found::Nothing => return Some(n),
             Found::Unclosed => return None,
             Found::Some(k) => {
