@@ -105,11 +105,11 @@ white_at b c w e f = let x = ap is_white e in cc
 fine_at : (b c : ℕ) → fine b ≡ true → b ≡ c → fine c ≡ false → ⊥
 fine_at b c w e f = let x = ap fine e in cc
 
-malformed_gap : (text : List ℕ) (n rule k : ℕ) → LineSpace text n → ((i : ℕ) → p.Splice text i → ⊥) → Malformed text rule k → ⊥
-malformed_gap text n rule k (p.white _ w x e) j s = malformed_white text rule k w s
-malformed_gap text n rule k (p.splice _ i) j s = j n i
-malformed_gap text n rule k (p.comment _ c d) j s = malformed_slash text rule k (sp.slash text n c) s
-malformed_gap text n rule k (p.comment_splice i _ c d e) j s = malformed_slash text rule k (sp.slash text i c) s
+malformed_space : (text : List ℕ) (n rule k : ℕ) → LineSpace text n → ((i : ℕ) → p.Splice text i → ⊥) → Malformed text rule k → ⊥
+malformed_space text n rule k (p.white _ w x e) j s = malformed_white text rule k w s
+malformed_space text n rule k (p.splice _ i) j s = j n i
+malformed_space text n rule k (p.comment _ c d) j s = malformed_slash text rule k (sp.slash text n c) s
+malformed_space text n rule k (p.comment_splice i _ c d e) j s = malformed_slash text rule k (sp.slash text i c) s
 
 line_is : (x : Mode) → IsHashLine x → x ≢ mode.Ignored → x ≡ mode.Directive
 line_is mode.Start l i = absurd l
@@ -130,9 +130,9 @@ piece_broken text x n out y rule k (token _ _ kind g s) (no_token _ _ _ i h j r)
 piece_broken text x n out y rule k (hash _ _ _ e g) (unclosed_comment _ d) = let s = d.begins.0 in omega arith
 piece_broken text x n out y rule k (hash _ _ _ e g) (no_form d f) = f n out y g
 piece_broken text x n out y rule k (hash _ _ _ e g) (no_token _ _ _ i h j r) = h refl e
-piece_broken text x n out y rule k (line_space _ _ l a) (unclosed_comment _ d) = sp.open_gap text n d a
+piece_broken text x n out y rule k (line_space _ _ l a) (unclosed_comment _ d) = sp.open_space text n d a
 piece_broken text x n out y rule k (line_space _ _ l a) (no_form e f) = l
-piece_broken text x n out y rule k (line_space _ _ l a) (no_token _ _ _ i h j r) = malformed_gap text n rule k a (j (line_is x l i)) r
+piece_broken text x n out y rule k (line_space _ _ l a) (no_token _ _ _ i h j r) = malformed_space text n rule k a (j (line_is x l i)) r
 piece_broken text x n out y rule k (skip e a b) (unclosed_comment _ d) = b d
 piece_broken text x n out y rule k (skip e a b) (no_token _ _ _ i h j r) = i refl
 piece_broken text x n out y rule k (close _ l e) (unclosed_comment _ d) = let s = d.begins.0 in omega arith

@@ -115,17 +115,17 @@ comment_spelled text n k kind c (quoted j _ q e f b l) = let s = slash text n c 
 comment_spelled text n k kind (block i _ s b2 e2) (mark _ x b l f e) = b s
 comment_spelled text n k kind (line i _ s b2 e2) (mark _ x b l f e) = l s
 
-pub gap_spelled : (text : List ℕ) (n k : ℕ) (kind : TokenKind) → LineSpace text n → Spelled text k kind → ⊥
-gap_spelled text n k kind (p.white _ w x e) s = fine_white (get_or text 0 0) (first_fine text k kind s) w
-gap_spelled text n k kind (p.splice _ j) s = fine_back (get_or text 0 0) (first_fine text k kind s) (backslash text n j)
-gap_spelled text n k kind (p.comment _ c d) s = comment_spelled text n k kind c s
-gap_spelled text n k kind (p.comment_splice i _ c d e) s = comment_spelled text i k kind c s
+pub space_spelled : (text : List ℕ) (n k : ℕ) (kind : TokenKind) → LineSpace text n → Spelled text k kind → ⊥
+space_spelled text n k kind (p.white _ w x e) s = fine_white (get_or text 0 0) (first_fine text k kind s) w
+space_spelled text n k kind (p.splice _ j) s = fine_back (get_or text 0 0) (first_fine text k kind s) (backslash text n j)
+space_spelled text n k kind (p.comment _ c d) s = comment_spelled text n k kind c s
+space_spelled text n k kind (p.comment_splice i _ c d e) s = comment_spelled text i k kind c s
 
-pub gap_feed : (text : List ℕ) (n : ℕ) → LineSpace text n → get_or text 0 0 ≡ 10 → ⊥
-gap_feed text n (p.white _ w x e) h = x h
-gap_feed text n (p.splice _ j) h = let b = backslash text n j in omega arith
-gap_feed text n (p.comment _ c d) h = let b = slash text n c in omega arith
-gap_feed text n (p.comment_splice i _ c d e) h = let b = slash text i c in omega arith
+pub space_feed : (text : List ℕ) (n : ℕ) → LineSpace text n → get_or text 0 0 ≡ 10 → ⊥
+space_feed text n (p.white _ w x e) h = x h
+space_feed text n (p.splice _ j) h = let b = backslash text n j in omega arith
+space_feed text n (p.comment _ c d) h = let b = slash text n c in omega arith
+space_feed text n (p.comment_splice i _ c d e) h = let b = slash text i c in omega arith
 
 out_line : (x : Mode) → IsOutside x → IsHashLine x → ⊥
 out_line mode.Start o l = l
@@ -196,7 +196,7 @@ one_piece text x n k out out2 y z (token _ n1 k1 g1 s1) (white _ o2 w2) = absurd
 one_piece text x n k out out2 y z (token _ n1 k1 g1 s1) (comment _ n2 o2 c2) = absurd (comment_spelled text _ _ _ c2 s1)
 one_piece text x n k out out2 y z (token _ n1 k1 g1 s1) (token _ n2 k2 g2 s2) = token_same text x _ _ _ _ s1 s2
 one_piece text x n k out out2 y z (token _ n1 k1 g1 s1) (hash n2 u2 y2 e2 f2) = absurd (fine_hash (get_or text 0 0) (first_fine text _ _ s1) e2)
-one_piece text x n k out out2 y z (token _ n1 k1 g1 s1) (line_space _ n2 l2 a2) = absurd (gap_spelled text _ _ _ a2 s1)
+one_piece text x n k out out2 y z (token _ n1 k1 g1 s1) (line_space _ n2 l2 a2) = absurd (space_spelled text _ _ _ a2 s1)
 one_piece text x n k out out2 y z (token _ n1 k1 g1 s1) (skip e2 a2 b2) = absurd (g1 refl)
 one_piece text x n k out out2 y z (token _ n1 k1 g1 s1) (close _ l2 e2) = absurd (fine_feed (get_or text 0 0) (first_fine text _ _ s1) e2)
 one_piece text x n k out out2 y z (hash n1 u1 y1 e1 f1) (white _ o2 w2) = absurd (white_hash text w2 e1)
@@ -207,11 +207,11 @@ one_piece text x n k out out2 y z (hash n1 u1 y1 e1 f1) (line_space _ n2 l2 a2) 
 one_piece text x n k out out2 y z (hash n1 u1 y1 e1 f1) (close _ l2 e2) = absurd (l2)
 one_piece text x n k out out2 y z (line_space _ n1 l1 a1) (white _ o2 w2) = absurd (out_line _ o2 l1)
 one_piece text x n k out out2 y z (line_space _ n1 l1 a1) (comment _ n2 o2 c2) = absurd (out_line _ o2 l1)
-one_piece text x n k out out2 y z (line_space _ n1 l1 a1) (token _ n2 k2 g2 s2) = absurd (gap_spelled text _ _ _ a1 s2)
+one_piece text x n k out out2 y z (line_space _ n1 l1 a1) (token _ n2 k2 g2 s2) = absurd (space_spelled text _ _ _ a1 s2)
 one_piece text x n k out out2 y z (line_space _ n1 l1 a1) (hash n2 u2 y2 e2 f2) = absurd (l1)
 one_piece text x n k out out2 y z (line_space _ n1 l1 a1) (line_space _ n2 l2 a2) = (one_space text _ _ a1 a2, refl, refl)
 one_piece text x n k out out2 y z (line_space _ n1 l1 a1) (skip e2 a2 b2) = absurd (a2 _ a1)
-one_piece text x n k out out2 y z (line_space _ n1 l1 a1) (close _ l2 e2) = absurd (gap_feed text _ a1 e2)
+one_piece text x n k out out2 y z (line_space _ n1 l1 a1) (close _ l2 e2) = absurd (space_feed text _ a1 e2)
 one_piece text x n k out out2 y z (skip e1 a1 b1) (white _ o2 w2) = absurd (o2)
 one_piece text x n k out out2 y z (skip e1 a1 b1) (comment _ n2 o2 c2) = absurd (o2)
 one_piece text x n k out out2 y z (skip e1 a1 b1) (token _ n2 k2 g2 s2) = absurd (g2 refl)
@@ -222,6 +222,6 @@ one_piece text x n k out out2 y z (close _ l1 e1) (white _ o2 w2) = absurd (out_
 one_piece text x n k out out2 y z (close _ l1 e1) (comment _ n2 o2 c2) = absurd (out_line _ o2 l1)
 one_piece text x n k out out2 y z (close _ l1 e1) (token _ n2 k2 g2 s2) = absurd (fine_feed (get_or text 0 0) (first_fine text _ _ s2) e1)
 one_piece text x n k out out2 y z (close _ l1 e1) (hash n2 u2 y2 e2 f2) = absurd (l1)
-one_piece text x n k out out2 y z (close _ l1 e1) (line_space _ n2 l2 a2) = absurd (gap_feed text _ a2 e1)
+one_piece text x n k out out2 y z (close _ l1 e1) (line_space _ n2 l2 a2) = absurd (space_feed text _ a2 e1)
 one_piece text x n k out out2 y z (close _ l1 e1) (skip e2 a2 b2) = absurd (e2 e1)
 one_piece text x n k out out2 y z (close _ l1 e1) (close _ l2 e2) = (refl, refl, refl)

@@ -65,11 +65,11 @@ one_space text n m (comment_splice k _ b e f) (splice _ j) = let a = backslash t
 one_space text n m (comment_splice k _ b e f) (comment _ c d) = absurd (let h = ap (is_spliced text) (one_comment text m k c b) in cc)
 one_space text n m (comment_splice k _ b e f) (comment_splice j _ c d g) = let h = one_comment text k j b c in omega arith
 
-pub open_gap : (text : List ℕ) (n : ℕ) → Unclosed text → LineSpace text n → ⊥
-open_gap text n o (white _ w x e) = white_slash _ w o.begins.0
-open_gap text n o (splice _ j) = let a = backslash text n j in let b = o.begins.0 in omega arith
-open_gap text n o (comment _ c d) = unclosed_comment text n o c
-open_gap text n o (comment_splice k _ c d e) = unclosed_comment text k o c
+pub open_space : (text : List ℕ) (n : ℕ) → Unclosed text → LineSpace text n → ⊥
+open_space text n o (white _ w x e) = white_slash _ w o.begins.0
+open_space text n o (splice _ j) = let a = backslash text n j in let b = o.begins.0 in omega arith
+open_space text n o (comment _ c d) = unclosed_comment text n o c
+open_space text n o (comment_splice k _ c d e) = unclosed_comment text k o c
 
 pub one_spaces : (text : List ℕ) (n m : ℕ) → LineSpaces text n → LineSpaces text m → n ≡ m
 one_spaces text n m (done _ a b) (done _ c d) = refl
@@ -79,13 +79,13 @@ one_spaces text n m (more _ k j _ g h e) (more _ i l _ f d z) =
     let p = one_space text k i g f in
     let q = one_spaces (drop k text) j l h (subst (λ x. LineSpaces (drop x text) l) (sym p) d) in omega arith
 
-pub no_gaps : (text : List ℕ) (n : ℕ) → Unclosed text → LineSpaces text n → ⊥
-no_gaps text n o (done _ a b) = b o
-no_gaps text n o (more _ k j _ g h e) = open_gap text k o g
+pub no_spaces : (text : List ℕ) (n : ℕ) → Unclosed text → LineSpaces text n → ⊥
+no_spaces text n o (done _ a b) = b o
+no_spaces text n o (more _ k j _ g h e) = open_space text k o g
 
-pub behind_gap : (text : List ℕ) (k n : ℕ) → LineSpace text k → LineSpaces text n → (j : ℕ) × LineSpaces (drop k text) j
-behind_gap text k n g (done _ a b) = absurd (a k g)
-behind_gap text k n g (more _ i j _ f h e) = (j, subst (λ x. LineSpaces (drop x text) j) (one_space text i k f g) h)
+pub behind_space : (text : List ℕ) (k n : ℕ) → LineSpace text k → LineSpaces text n → (j : ℕ) × LineSpaces (drop k text) j
+behind_space text k n g (done _ a b) = absurd (a k g)
+behind_space text k n g (more _ i j _ f h e) = (j, subst (λ x. LineSpaces (drop x text) j) (one_space text i k f g) h)
 
 -- the loop over line_spaces
 pub record Along (text rest : List ℕ) (n : ℕ) : Type 0 where
@@ -102,14 +102,14 @@ along_step text rest n k a g le = record {
   rest_is = ap (drop k) a.rest_is ∙ drop-drop k n text;
   within = (let e = ap length a.rest_is in let w = a.within in omega (arith, length-drop n text));
   there = λ j h. subst (LineSpaces text) (omega arith) (a.there (k + j) (more rest k j (k + j) g h refl));
-  back = λ j h. behind_gap rest k _ g (a.back j h).1;
+  back = λ j h. behind_space rest k _ g (a.back j h).1;
 }
 
 pub along_end : (text rest : List ℕ) (n : ℕ) → Along text rest n → ((k : ℕ) → LineSpace rest k → ⊥) → (Unclosed rest → ⊥) → LineSpaces text n × (n ≤ length text)
 along_end text rest n a g o = (subst (LineSpaces text) (omega arith) (a.there 0 (done rest g o)), a.within)
 
 pub along_open : (text rest : List ℕ) (n : ℕ) → Along text rest n → Unclosed rest → (k : ℕ) → LineSpaces text k → ⊥
-along_open text rest n a o k g = let h = a.back k g in no_gaps rest h.0 o h.1
+along_open text rest n a o k g = let h = a.back k g in no_spaces rest h.0 o h.1
 
 pub inside : (text : List ℕ) (k : ℕ) → (get_or text k 0 ≡ 0 → ⊥) → k < length text
 inside text k h = elim (cases_lt k (length text)) [ inl a ↦ a | inr b ↦ absurd (h (get_or_past text k 0 b)) ]
@@ -121,16 +121,16 @@ line_found text k s b = (line k (k + 2) s b refl, (let i = inside text 1 (λ e. 
 pub block_found : (text : List ℕ) (k : ℕ) → IsBlockStart text → IsBlock (drop 2 text) k → Comment text (k + 4) × (k + 4 ≤ length text) × (2 ≤ k + 4)
 block_found text k s b = (block k (k + 4) s b refl, (let i = inside (drop 2 text) (k + 1) (λ e. let f = b.here.1 in omega arith) in omega (arith, length-drop 2 text)), omega arith)
 
-pub no_join : (text : List ℕ) → (get_or text 0 0 ≡ 92 → ⊥) → (n : ℕ) → Splice text n → ⊥
-no_join text h n j = h (backslash text n j)
+pub no_splice : (text : List ℕ) → (get_or text 0 0 ≡ 92 → ⊥) → (n : ℕ) → Splice text n → ⊥
+no_splice text h n j = h (backslash text n j)
 
-pub no_join_at : (text : List ℕ) → (get_or text 1 0 ≡ 10 → ⊥) → (get_or text 1 0 ≡ 13 → ⊥) → (n : ℕ) → Splice text n → ⊥
-no_join_at text h g n (two _ a b e) = h b
-no_join_at text h g n (three _ a b d e) = g b
+pub no_splice_at : (text : List ℕ) → (get_or text 1 0 ≡ 10 → ⊥) → (get_or text 1 0 ≡ 13 → ⊥) → (n : ℕ) → Splice text n → ⊥
+no_splice_at text h g n (two _ a b e) = h b
+no_splice_at text h g n (three _ a b d e) = g b
 
-pub no_join_three : (text : List ℕ) → get_or text 1 0 ≡ 13 → (get_or text 2 0 ≡ 10 → ⊥) → (n : ℕ) → Splice text n → ⊥
-no_join_three text c h n (two _ a b e) = omega arith
-no_join_three text c h n (three _ a b d e) = h d
+pub no_splice_three : (text : List ℕ) → get_or text 1 0 ≡ 13 → (get_or text 2 0 ≡ 10 → ⊥) → (n : ℕ) → Splice text n → ⊥
+no_splice_three text c h n (two _ a b e) = omega arith
+no_splice_three text c h n (three _ a b d e) = h d
 
 pub splice_fits : (text : List ℕ) (n : ℕ) → Splice text n → n ≤ length text
 splice_fits text n (two _ a b e) = let i = inside text 1 (λ z. omega arith) in omega arith
@@ -140,22 +140,22 @@ pub splice_some : (text : List ℕ) (n : ℕ) → Splice text n → 1 ≤ n
 splice_some text n (two _ a b e) = omega arith
 splice_some text n (three _ a b d e) = omega arith
 
-pub no_gap : (text : List ℕ) → (IsBlockStart text → ⊥) → (IsLineStart text → ⊥) → ((n : ℕ) → Splice text n → ⊥) → (is_white (get_or text 0 0) ≡ true → get_or text 0 0 ≡ 10) → (n : ℕ) → LineSpace text n → ⊥
-no_gap text b l j w n (white _ a x e) = x (w a)
-no_gap text b l j w n (splice _ a) = j n a
-no_gap text b l j w n (comment _ (block k _ s d e) f) = b s
-no_gap text b l j w n (comment _ (line k _ s d e) f) = l s
-no_gap text b l j w n (comment_splice m _ (block k _ s d e) f g) = b s
-no_gap text b l j w n (comment_splice m _ (line k _ s d e) f g) = l s
+pub no_space : (text : List ℕ) → (IsBlockStart text → ⊥) → (IsLineStart text → ⊥) → ((n : ℕ) → Splice text n → ⊥) → (is_white (get_or text 0 0) ≡ true → get_or text 0 0 ≡ 10) → (n : ℕ) → LineSpace text n → ⊥
+no_space text b l j w n (white _ a x e) = x (w a)
+no_space text b l j w n (splice _ a) = j n a
+no_space text b l j w n (comment _ (block k _ s d e) f) = b s
+no_space text b l j w n (comment _ (line k _ s d e) f) = l s
+no_space text b l j w n (comment_splice m _ (block k _ s d e) f g) = b s
+no_space text b l j w n (comment_splice m _ (line k _ s d e) f g) = l s
 
-pub joined_fits : (text : List ℕ) (n : ℕ) → is_spliced text n ≡ true → n < length text
-joined_fits text n h = inside text n (λ e. ten (get_or text n 0) _ h e) where
+pub spliced_fits : (text : List ℕ) (n : ℕ) → is_spliced text n ≡ true → n < length text
+spliced_fits text n h = inside text n (λ e. ten (get_or text n 0) _ h e) where
   ten : (b : ℕ) (c : Bool) → ((b == 10) && c) ≡ true → b ≡ 0 → ⊥
   ten b c h e = grind arith
 
 -- the forms that the code's goals have
-pub comment_gap_joined : (text : List ℕ) (n : ℕ) → Comment text n → is_spliced text n ≡ true → LineSpace text (n + 1) × (n + 1 ≤ length text) × (1 ≤ n + 1)
-comment_gap_joined text n c j = (comment_splice n (n + 1) c j refl, (let f = joined_fits text n j in omega arith), omega arith)
+pub comment_space_spliced : (text : List ℕ) (n : ℕ) → Comment text n → is_spliced text n ≡ true → LineSpace text (n + 1) × (n + 1 ≤ length text) × (1 ≤ n + 1)
+comment_space_spliced text n c j = (comment_splice n (n + 1) c j refl, (let f = spliced_fits text n j in omega arith), omega arith)
 
 pub white_found : (text : List ℕ) (b : ℕ) → b ≡ get_or text 0 0 → is_white b ≡ true → (b ≡ 10 → ⊥) → LineSpace text 1 × (1 ≤ length text) × (1 ≤ 1)
 white_found text b e w n = (white 1 (ap is_white (sym e) ∙ w) (λ h. n (e ∙ h)) refl, (let i = inside text 0 (λ z. zero_white b w (e ∙ z)) in omega arith), omega arith) where
@@ -163,4 +163,4 @@ white_found text b e w n = (white 1 (ap is_white (sym e) ∙ w) (λ h. n (e ∙ 
   zero_white c v z = grind arith
 
 pub no_white : (text : List ℕ) (b : ℕ) → b ≡ get_or text 0 0 → (IsBlockStart text → ⊥) × (IsLineStart text → ⊥) → ((n : ℕ) → Splice text n → ⊥) → (is_white b ≡ true → b ≡ 10) → ((n : ℕ) → LineSpace text n → ⊥) × (Unclosed text → ⊥) × (IsBlockStart text → ⊥) × (IsLineStart text → ⊥)
-no_white text b e c j w = (no_gap text c.0 c.1 j (λ h. sym e ∙ w (ap is_white e ∙ h)), λ o. c.0 o.begins, c.0, c.1)
+no_white text b e c j w = (no_space text c.0 c.1 j (λ h. sym e ∙ w (ap is_white e ∙ h)), λ o. c.0 o.begins, c.0, c.1)

@@ -1,5 +1,3 @@
-ghost use Rattle.std.specs.Prelude.{◌≤◌, length};
-
 use super::*;
 use crate::words::{mark_text, word_text};
 use std::alloc::Global;
@@ -125,9 +123,10 @@ fn show_fault(row: &mut String, fault: Fault) -> Result<(), Fail> {
     Ok(())
 }
 
-fn show_lexed(alloc: Global, text: &[u8]) -> Result<String, Fail>
-    requires { length text.now ≤ 1048576 }
-{
+fn show_lexed(alloc: Global, text: &[u8]) -> Result<String, Fail> {
+    if text.len() > 1048576 {
+        return Ok(String::new(alloc));
+    }
     let mut row = String::new(alloc);
     match lex(alloc, text) {
         Err(fault) => show_fault(&mut row, fault)?,
@@ -136,9 +135,10 @@ fn show_lexed(alloc: Global, text: &[u8]) -> Result<String, Fail>
     Ok(row)
 }
 
-fn show_expanded(alloc: Global, text: &[u8]) -> Result<String, Fail>
-    requires { length text.now ≤ 1048576 }
-{
+fn show_expanded(alloc: Global, text: &[u8]) -> Result<String, Fail> {
+    if text.len() > 1048576 {
+        return Ok(String::new(alloc));
+    }
     let mut row = String::new(alloc);
     match lex(alloc, text) {
         Err(fault) => show_fault(&mut row, fault)?,
@@ -150,6 +150,39 @@ fn show_expanded(alloc: Global, text: &[u8]) -> Result<String, Fail>
     Ok(row)
 }
 
+fn repeated(alloc: Global, piece: &str, count: usize) -> Result<String, Fail> {
+    let mut text = String::new(alloc);
+    for _ in 0..count {
+        text.push_str(piece)?;
+    }
+    Ok(text)
+}
+
+const LETTERS: &[u8; 52] = b"ABCDEFGHIJKLMNOPQRSTUVWXYZabcdefghijklmnopqrstuvwxyz";
+
+/// The name of a number below 52 * 52 * 52.
+fn push_name(text: &mut String, number: usize) -> Result<(), Fail> {
+    for digit in [number / 2704, number / 52, number] {
+        text.push(char::from(LETTERS[digit % 52]))?;
+    }
+    Ok(())
+}
+
+/// A text that defines the first name as a mark, and each further name by so many of the one before.
+fn defined(alloc: Global, names: usize, each: usize) -> Result<String, Fail> {
+    let mut text = String::new(alloc);
+    text.push_str("#define AAA ;")?;
+    for i in 1..names {
+        text.push_str("\n#define ")?;
+        push_name(&mut text, i)?;
+        for _ in 0..each {
+            text.push(' ')?;
+            push_name(&mut text, i - 1)?;
+        }
+    }
+    Ok(text)
+}
+
 #[test]
 fn tokens_and_macros(rt: HostRuntime) -> Result<(), Fail> {
     for (text, expected) in LEXED {
@@ -159,6 +192,41 @@ fn tokens_and_macros(rt: HostRuntime) -> Result<(), Fail> {
     for (text, expected) in EXPANDED {
         let row = show_expanded(rt.alloc(), text)?;
         assert_eq!(rt; row.as_str(), expected, "{text:?}");
+    }
+    Ok(())
+}
+
+#[test]
+fn limits(rt: HostRuntime) -> Result<(), Fail> {
+    let lexed = [
+        (";", 200000, "", "L5 at 1:200001"),
+        (";", 200001, "", "L5 at 1:200001"),
+        (";", 200000, "08", "L4 at 1:200001"),
+        (";", 199998, "\n#define N", "L5 at 2:10"),
+        (";", 199999, "\n#pragma xmp", "L5 at 2:12"),
+        ("{ }", 100000, " ", "L5 at 1:300002"),
+    ];
+    for (piece, count, end, expected) in lexed {
+        let mut text = repeated(rt.alloc(), piece, count)?;
+        text.push_str(end)?;
+        let row = show_lexed(rt.alloc(), text.as_bytes())?;
+        assert_eq!(rt; row.as_str(), expected, "{count} {end}");
+    }
+    // so many names, each defined by so many of the one before, and so many uses of the last, one a line
+    let expanded = [
+        (31, 2, 1, "E2 at 32:1"),
+        (60000, 1, 1, ";@60001:1 Finish@60001:4"),
+        (60000, 1, 4, "E2 at 60004:1"),
+        (60000, 1, 3, ";@60001:1 ;@60002:1 ;@60003:1 Finish@60003:4"),
+    ];
+    for (names, each, uses, expected) in expanded {
+        let mut text = defined(rt.alloc(), names, each)?;
+        for _ in 0..uses {
+            text.push('\n')?;
+            push_name(&mut text, names - 1)?;
+        }
+        let row = show_expanded(rt.alloc(), text.as_bytes())?;
+        assert_eq!(rt; row.as_str(), expected, "{names} {each} {uses}");
     }
     Ok(())
 }
