@@ -83,3 +83,12 @@ defined known new name behind body back rest n p b k r o a = let d : Token = rec
         let w : i < n = (let q = ap length b in omega (arith, length-take n behind)) in
         let q : get_or body i e ≡ get_or behind i e = ap (λ us. get_or us i e) b ∙ get_or-take n behind i e w in
         ap (λ (y : Token). is_close y.kind) q ∙ p.before i (get_or behind i e) w (slice_get-get_or behind i e (let m = p.within in omega arith))
+
+-- tokens that end in a Finish
+fin_cons : (x : Token) (ts : List Token) → IsFinished ts → IsFinished (x ∷ ts)
+fin_cons x [] h = absurd h
+fin_cons x (y ∷ ts) h = h
+
+pub fin_append : (ss ts : List Token) → IsFinished ts → IsFinished (ss ++ ts)
+fin_append [] ts h = h
+fin_append (x ∷ ss) ts h = fin_cons x (ss ++ ts) (fin_append ss ts h)

@@ -17,7 +17,7 @@ use Rattle.xmp_lex.specs.Lines.{IsClosed, IsClosedBehind, IsFinished}
 use Rattle.xmp_lex.specs.Output.{PutsOut, Puts, Overflows, breaks_macro, Defines, IsSecond, Steps, BreaksAt}
 use Rattle.xmp_lex.proofs.ReplaceLemmas.{result_of, all_at, IsAt}
 use Rattle.xmp_lex.proofs.UseLemmas.{tokens_append}
-use Rattle.xmp_lex.proofs.CloseLemmas.{Line, line_of}
+use Rattle.xmp_lex.proofs.CloseLemmas.{Line, line_of, fin_append}
 
 pub closed_behind : (body : List Token) (close : Token) (rest : List Token) → IsClosed (body ++ close ∷ rest) → IsClosed rest
 closed_behind [] close rest h = h.1
@@ -206,14 +206,6 @@ text_breaks tokens known x behind old f i t.Close e s = text_over tokens known x
 text_breaks tokens known x behind old f i t.Finish e s = text_over tokens known x behind old f i (not_define x _ e (λ z. z)) s
 
 -- a text that ends in a Finish comes to one that does
-fin_cons : (x : Token) (ts : List Token) → IsFinished ts → IsFinished (x ∷ ts)
-fin_cons x [] h = absurd h
-fin_cons x (y ∷ ts) h = h
-
-fin_append : (ss ts : List Token) → IsFinished ts → IsFinished (ss ++ ts)
-fin_append [] ts h = h
-fin_append (x ∷ ss) ts h = fin_cons x (ss ++ ts) (fin_append ss ts h)
-
 fin_tail : (x : Token) (ts : List Token) → IsFinished (x ∷ ts) → ((ts ≡ []) × (x.kind ≡ t.Finish)) ⊎ IsFinished ts
 fin_tail x [] h = inl (refl, h)
 fin_tail x (y ∷ ts) h = inr h

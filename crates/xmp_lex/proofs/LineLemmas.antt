@@ -7,6 +7,7 @@ use Rattle.xmp_lex.specs.declared.mode.Mode.{Mode}
 use Rattle.xmp_lex.specs.declared.mode.Mode.TheVariants as mode
 use Rattle.xmp_lex.specs.Pieces.{Spelled, name, word, number, quoted, mark, LineForm, define, include, pragma, other_pragma}
 use Rattle.xmp_lex.specs.Cut.{Piece, white, comment, token, hash, line_space, skip, close, IsOutside, IsHashLine, behind_white, behind_token, at_end, Front, Cuts, none, piece, placed, ending, last, Cut}
+use Rattle.xmp_lex.proofs.CloseLemmas.{fin_append}
 use Rattle.xmp_lex.specs.Lines.{IsFinished, closes, Closes, IsClosed, IsClosedBehind}
 
 -- a token that neither begins nor ends a line
@@ -197,14 +198,6 @@ closed_ending mode.Ignored ts f h = closed_append ts _ h (tt, tt)
 
 pub cut_closed : (text : List ℕ) (tokens : List Token) → Cut text tokens → IsClosed tokens
 cut_closed text tokens c = subst IsClosed (sym c.tokens_are) (closed_ending c.front.mode c.front.tokens c.front (lines_cut text c.front c.cuts))
-
-fin_cons : (x : Token) (ts : List Token) → IsFinished ts → IsFinished (x ∷ ts)
-fin_cons x [] h = absurd h
-fin_cons x (y ∷ ts) h = h
-
-fin_append : (ss ts : List Token) → IsFinished ts → IsFinished (ss ++ ts)
-fin_append [] ts h = h
-fin_append (x ∷ ss) ts h = fin_cons x (ss ++ ts) (fin_append ss ts h)
 
 finished_ending : (x : Mode) (f : Front) → IsFinished (ending x f.at)
 finished_ending mode.Start f = refl

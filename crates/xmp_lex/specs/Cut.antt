@@ -120,3 +120,7 @@ pub data BreaksLexRule (text : List ℕ) : ℕ → Place → Type 0 where
 abbrev pub IsRefused : List ℕ → Fault → Type 0
 IsRefused text fault.NoMemory = ⊤
 IsRefused text (fault.Refused r) = (r.phase ≡ phase.Lex) × BreaksLexRule text r.rule r.at
+
+-- The place is the one behind some front of the text.
+abbrev pub IsPlaceOf : List ℕ → Place → Type 0
+IsPlaceOf text at = (n : ℕ) × (at ≡ behind (record { line = 1; column = 1 }) (take n text))

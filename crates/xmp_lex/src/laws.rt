@@ -1,14 +1,19 @@
 // Laws of the tokens and of the macros of a text.
-ghost use Rattle.std.specs.Prelude.{◌≡◌, ℕ, List, []};
+ghost use Rattle.std.specs.Prelude.{◌≡◌, ℕ, List, [], All};
 ghost use Rattle.xmp_base.specs.declared.place.Place.{Place};
 ghost use Rattle.xmp_lex.specs.declared.token.Token.{Token};
-ghost use Rattle.xmp_lex.specs.Cut.{Cut, BreaksLexRule};
+ghost use Rattle.xmp_lex.specs.Cut.{Cut, BreaksLexRule, IsPlaceOf};
 ghost use Rattle.xmp_lex.specs.Expand.{Event, Expands, Expanded, BreaksMacros};
 ghost use Rattle.xmp_lex.specs.Lines.{IsClosed};
 
 /// A text is cut in at token_limit one way.
 pub fn one_cut()
     ensures { (text : List ℕ) (tokens others : List Token) → Cut text tokens → Cut text others → tokens ≡ others }
+{}
+
+/// Each token stands at a place of the text.
+pub fn token_places()
+    ensures { (text : List ℕ) (tokens : List Token) → Cut text tokens → All (λ token. IsPlaceOf text token.at) tokens }
 {}
 
 /// No text is both cut and refused.

@@ -20,6 +20,6 @@ pub use cut::lex;
 pub use macros::expand;
 pub use laws::{
     cut_or_refused, expanded_or_refused, one_cut, one_expansion, one_lex_refusal, one_macro_refusal,
-    some_expansion,
+    some_expansion, token_places,
 };
 pub use token::{Mark, Reserved, Token, TokenKind};
