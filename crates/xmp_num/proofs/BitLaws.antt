@@ -8,7 +8,8 @@ use Rattle.std.proofs.lemmas.Int.{ints, of_z-to_z, to_z-of_z, to_z_pos}
 use Rattle.std.proofs.lemmas.Bool.{le-ltb}
 use Rattle.std.proofs.lemmas.Nat.{and_assoc, and_comm, or_comm, xor_comm, or_lt, xor_lt, and_shr, or_shr, xor_shr, and_mask}
 use Rattle.std.proofs.lemmas.Nat.Bits.{bit_at_or, same_from_bits}
-use Rattle.std.proofs.Math.Facts.{sfits_to_z, Fits-of_z, Fits-lt-pow}
+use Rattle.std.proofs.Math.Facts.{sfits_to_z}
+use Rattle.xmp_num.proofs.Wraps.{unsigned_below}
 use Rattle.xmp_num.specs.Arithmetic.{FitsType}
 use Rattle.xmp_num.specs.declared.types.Ty.{Ty}
 use Rattle.xmp_num.specs.declared.types.Ty.TheVariants.{Int, Long}
@@ -39,9 +40,6 @@ pub record IsBitwise (f : ℕ → ℕ → ℕ) : Type 0 where
 abbrev pub on_bits : (ℕ → ℕ → ℕ) → ℤ → ℤ → ℤ
 on_bits f a b = cast_signed w64 (f (cast_unsigned w64 a) (cast_unsigned w64 b))
 
-pub bits_below : (z : ℤ) → FitsSigned w64 z → cast_unsigned w64 z < 18446744073709551616
-bits_below z fits = Fits-lt-pow {w = w64} {n = cast_unsigned w64 z} (Fits-of_z {w = w64} {z = z} fits)
-
 pub wide_fits : (ty : Ty) (z : ℤ) → FitsType ty z → FitsSigned w64 z
 wide_fits Int z fits = omega (arith, ints)
 wide_fits Long z fits = fits
@@ -62,12 +60,12 @@ module _ {f : ℕ → ℕ → ℕ} (laws : IsBitwise f) where
   closed Int a b p q =
       let x = cast_unsigned w64 a in
       let y = cast_unsigned w64 b in
-      fits_from_high (f x y) (laws.below x y (bits_below a (wide_fits Int a p)) (bits_below b (wide_fits Int b q)))
+      fits_from_high (f x y) (laws.below x y (unsigned_below a (wide_fits Int a p)) (unsigned_below b (wide_fits Int b q)))
       (subst Repeats (sym (laws.high x y)) (laws.repeats _ _ (high_repeats a p) (high_repeats b q)))
   closed Long a b p q =
       let x = cast_unsigned w64 a in
       let y = cast_unsigned w64 b in
-      sfits_to_z {w = w64} {n = f x y} (record { fits = laws.below x y (bits_below a p) (bits_below b q) })
+      sfits_to_z {w = w64} {n = f x y} (record { fits = laws.below x y (unsigned_below a p) (unsigned_below b q) })
 
   pub commutative : (a b : ℤ) → on_bits f a b ≡ on_bits f b a
   commutative a b = ap (cast_signed w64) (laws.comm (cast_unsigned w64 a) (cast_unsigned w64 b))
@@ -77,9 +75,9 @@ module _ {f : ℕ → ℕ → ℕ} (laws : IsBitwise f) where
       let x = cast_unsigned w64 a in
       let y = cast_unsigned w64 b in
       let z = cast_unsigned w64 c in
-      ap (λ n. cast_signed w64 (f n z)) (of_z-to_z w64 (f x y) (laws.below x y (bits_below a p) (bits_below b q)))
+      ap (λ n. cast_signed w64 (f n z)) (of_z-to_z w64 (f x y) (laws.below x y (unsigned_below a p) (unsigned_below b q)))
       ∙ ap (cast_signed w64) (laws.assoc x y z)
-      ∙ sym (ap (λ n. cast_signed w64 (f x n)) (of_z-to_z w64 (f y z) (laws.below y z (bits_below b q) (bits_below c r))))
+      ∙ sym (ap (λ n. cast_signed w64 (f x n)) (of_z-to_z w64 (f y z) (laws.below y z (unsigned_below b q) (unsigned_below c r))))
 
 repeats_and : (a b : ℕ) → Repeats a → Repeats b → Repeats (bit_and a b)
 repeats_and a b (inl e) (inl g) = inl (ap (λ x. bit_and x b) e ∙ ap (bit_and 0) g)
@@ -130,7 +128,7 @@ xor_laws = record {
 pub ones_neutral : (a : ℤ) → FitsSigned w64 a → on_bits bit_and (negsuc 0) a ≡ a
 ones_neutral a fits =
     let x = cast_unsigned w64 a in
-    let below : x < 18446744073709551616 = bits_below a fits in
+    let below : x < 18446744073709551616 = unsigned_below a fits in
     let low : bit_and x 18446744073709551615 ≡ x % 18446744073709551616 = and_mask x 64 in
     ap (cast_signed w64) (and_comm 18446744073709551615 x ∙ low ∙ omega arith) ∙ to_z-of_z w64 a fits
 

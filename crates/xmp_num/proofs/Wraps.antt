@@ -13,6 +13,11 @@ use Rattle.std.proofs.lemmas.Bool.Decides.{nat_tests}
 use Rattle.xmp_num.specs.declared.types.Ty.{Ty}
 use Rattle.xmp_num.specs.declared.types.Ty.TheVariants.{Int, Long}
 
+-- the 64 bits of a number
+pub unsigned_below : (z : ℤ) → FitsSigned w64 z → cast_unsigned w64 z < 18446744073709551616
+unsigned_below z f = Fits-lt-pow {w = w64} {n = cast_unsigned w64 z} (Fits-of_z {w = w64} {z = z} f)
+
+-- the low 32 bits of 64, from a number and from the bits that it has
 low_pos : (n : ℕ) → (n % 18446744073709551616) % 4294967296 ≡ n % 4294967296
 low_pos n = omega arith
 
@@ -30,6 +35,7 @@ low_of (negsuc n) f = ap pos (low_neg n f.sfits)
 low_of_bits : (r : ℕ) → r < 18446744073709551616 → int_rem_euclid (cast_signed w64 r) (pos 4294967296) ≡ pos (r % 4294967296)
 low_of_bits r h = low_of (cast_signed w64 r) (sfits_to_z {w = w64} {n = r} (record { fits = h })) ∙ ap (λ m. pos (m % 4294967296)) (of_z-to_z w64 r h)
 
+-- a number cut to 64 bits and then to the type is the number cut to the type
 int_twice : (z : ℤ) → int_wrap w32 (int_wrap w64 z) ≡ int_wrap w32 z
 unfolding int_wrap
 int_twice (pos n) = ap (λ m. cast_signed w32 (unsigned_abs m)) (low_of_bits (n % 18446744073709551616) (omega arith) ∙ ap pos (low_pos n))
@@ -39,6 +45,7 @@ pub wrap_twice : (ty : Ty) (z : ℤ) → wrap ty (int_wrap w64 z) ≡ wrap ty z
 wrap_twice Int z = int_twice z
 wrap_twice Long z = int_wrap_fits w64 (int_wrap w64 z) (SFits-int_wrap w64 z)
 
+-- the wrapping operations of 64 bits, cut to the type
 pub wrap-add : (ty : Ty) (a b : ℤ) → FitsSigned w64 a → FitsSigned w64 b → wrap ty (int_wrapping_add w64 a b) ≡ wrap ty (a +ℤ b)
 wrap-add ty a b f g = ap (wrap ty) (wrapping_add_is w64 a b f g) ∙ wrap_twice ty (a +ℤ b)
 
@@ -62,6 +69,7 @@ neg_abs (negsuc n) = refl
 quot_le : (a b : ℕ) → a / b ≤ a
 quot_le a b = div-le_self a b
 
+-- a quotient that truncates is no larger than the dividend
 div_abs : (a b : ℤ) → unsigned_abs (int_div a b) ≤ unsigned_abs a
 div_abs (pos a) (pos b) = quot_le a b
 div_abs (pos a) (negsuc b) = rw neg_abs (quot_le a (suc b))
@@ -87,9 +95,6 @@ below_width ty k h = grind (arith, nat_tests)
 small_width : (ty : Ty) → bits_of ty ≤ 64
 small_width Int = omega arith
 small_width Long = omega arith
-
-unsigned_below : (z : ℤ) → FitsSigned w64 z → cast_unsigned w64 z < 18446744073709551616
-unsigned_below z f = Fits-lt-pow {w = w64} {n = cast_unsigned w64 z} (Fits-of_z {w = w64} {z = z} f)
 
 -- 64 bits read as a signed number are the wrapped number
 signed_bits : (n : ℕ) → n < 18446744073709551616 → cast_signed w64 n ≡ int_wrap w64 (pos n)

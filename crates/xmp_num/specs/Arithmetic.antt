@@ -1,4 +1,4 @@
--- C's operators on 32 and 64 bits in two's complement, over the integers (ISO C 6.5, with wrapping where C leaves the result open).
+-- C's operators on 32 and 64 bits in two's complement, over the integers (ISO C11 6.5; where C leaves a result open, this project wraps or traps).
 use Rattle.std.specs.Prelude.{ℕ, zero, suc, ◌^◌, ℤ, pos, negsuc, ◌+ℤ◌, ◌*ℤ◌, ◌-ℤ◌, Bool, true, false, not, if◌then◌else◌, Result, Ok, Err, int_lt, int_le, int_div, int_rem, nat_lt, FitsSigned}
 use Rattle.std.specs.Int.{int_wrap, int_div_euclid, int_bit_and, int_bit_or, int_bit_xor, w32, w64}
 use Rattle.std.specs.Ordering.{int_eq}
@@ -10,6 +10,7 @@ use Rattle.xmp_num.specs.declared.types.TrapKind.TheVariants.{Zero, Shift}
 use Rattle.xmp_num.specs.declared.types.BinOp.{BinOp}
 use Rattle.xmp_num.specs.declared.types.BinOp.TheVariants as op
 
+-- The type's width, and its number of bits.
 abbrev pub width_of : Ty → Width
 width_of Int = w32
 width_of Long = w64

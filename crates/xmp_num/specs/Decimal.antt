@@ -1,4 +1,5 @@
--- Numbers as decimal text: how they are written, and how they are read.
+-- Numbers as decimal text: how they are written (`%*ld` of ISO C11 7.21.6.1) and read (`%ld` of 7.21.6.2; this project reduces digits of any
+-- number to the type, and keeps white space and sign consumed where no digit follows).
 use Rattle.std.specs.Prelude.{◌≡◌, ⊤, ℕ, ◌+◌, ◌-◌, ◌≤◌, ◌==◌, ◌||◌, ℤ, pos, neg_ℤ, Bool, false, if◌then◌else◌, Option, Some, None, List, [], ◌∷◌, ◌++◌, length, drop, replicate}
 use Rattle.std.specs.List.{take_while, AllPass}
 use Rattle.std.specs.Int.{is_in_range}

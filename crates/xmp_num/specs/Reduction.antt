@@ -1,4 +1,4 @@
--- The reductions of XcalableMP (XcalableMP 1.4, section 4.4.3), on 32 and 64 bits in two's complement.
+-- The operations of a `reduction` clause of XcalableMP 1.4, on 32 and 64 bits in two's complement.
 use Rattle.std.specs.Prelude.{◌≡◌, ◌^◌, ◌-◌, ℤ, pos, negsuc, ◌+ℤ◌, ◌*ℤ◌}
 use Rattle.std.specs.Int.{int_bit_and, int_bit_or, int_bit_xor, int_max, int_min, w64}
 use Rattle.xmp_num.specs.declared.types.Ty.{Ty}

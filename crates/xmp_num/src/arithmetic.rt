@@ -4,7 +4,7 @@ ghost use Rattle.xmp_num.specs.Arithmetic.{binary_of, bits_of, wrap};
 use crate::types::{BinOp, TrapKind, Ty};
 
 /// The value of the type that is equal to `v` modulo the type's range, as C converts an integer
-/// (ISO C 6.3.1.3, with wrapping where C leaves the choice).
+/// (ISO C11 6.3.1.3, with wrapping where C leaves the choice).
 pub fn convert(v: i64, to: Ty) -> i64
     ensures { result ≡ wrap to v }
 {
@@ -15,7 +15,7 @@ pub fn convert(v: i64, to: Ty) -> i64
 }
 
 /// What an operator gives for two operands of the type, or the trap that it ends in. `ty` is the
-/// type of the operands, of a shift that of its left operand; the count of a shift may be any number.
+/// type of the operands, of a shift that of its left operand; a shift's count may be any number.
 #[tactic(auto, using(crate::proofs::Wraps::wrapped), unfolding(crate::specs::Arithmetic::binary_of))]
 pub fn binary(op: BinOp, ty: Ty, a: i64, b: i64) -> Result<i64, TrapKind>
     ensures { result ≡ binary_of op ty a b }

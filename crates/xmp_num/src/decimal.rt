@@ -1,10 +1,12 @@
-ghost use Rattle.std.specs.Prelude.{◌≡◌, ◌≤◌, ◌+◌, ◌++◌, ◌+ℤ◌, ◌*ℤ◌, ℕ, ℤ, pos, neg_ℤ, true, if◌then◌else◌, length, take, drop, OnOk, OnErr, IfOk, Option, replicate};
+ghost use Rattle.std.specs.Prelude.{◌≡◌, ◌≤◌, ◌+◌, ◌++◌, ◌+ℤ◌, ◌*ℤ◌, ℕ, ℤ, pos, neg_ℤ, true, if◌then◌else◌, length, take, drop, OnOk, OnErr, IfOk, List, Option, Some, replicate};
 ghost use Rattle.std.specs.Char.{digit_value, is_ascii_digit};
 ghost use Rattle.std.specs.Fmt.{signed_decimal};
 ghost use Rattle.std.specs.Int.{int_wrap, w64};
 ghost use Rattle.std.specs.List.{AllPass, prefix_len};
 ghost use Rattle.std.specs.Str.Parse.{digits_value, starts_with_minus};
-ghost use Rattle.xmp_num.specs.Decimal.{Scans, is_sign, is_white, number_of, padded, scan_of, sign_of};
+ghost use Rattle.xmp_num.specs.Arithmetic.{wrap};
+ghost use Rattle.xmp_num.specs.Decimal.{BeginsWithout, Scans, is_white, number_of, padded, scan_of, sign_of};
+ghost use Rattle.xmp_num.specs.declared.types.Ty.{Ty};
 
 use crate::arithmetic::convert;
 use crate::types::Ty;
@@ -12,10 +14,14 @@ use std::alloc::Global;
 use xmp_base::{Bytes, NoMemory};
 
 /// Appends the number in decimal, with spaces on its left up to `width` bytes; or appends nothing.
+/// What was appended is read back by `scan`, where no digit follows it.
 pub fn render(alloc: Global, out: &mut Bytes, v: i64, width: u32) -> Result<(), NoMemory>
     requires { width ≤ 255 }
     ensures ok { OnOk result (out.new ≡ out.old ++ padded width (signed_decimal v)) }
     ensures plain { width ≡ 0 → OnOk result (out.new ≡ out.old ++ signed_decimal v) }
+    ensures reads_back { OnOk result
+        ((ty : Ty) (rest : List ℕ) → BeginsWithout is_ascii_digit rest
+        → Scans ty (out.new ++ rest) (length out.old) (Some (wrap ty v)) (length out.new)) }
     ensures err { OnErr result (out.new ≡ out.old) }
 {
     let Ok(text) = v.to_string(alloc) else {
@@ -38,13 +44,15 @@ fn spaces(alloc: Global, count: usize) -> Result<Bytes, NoMemory>
     Ok(all)
 }
 
-/// Reads a decimal number at a place of the input: skips white space, takes a sign where there is one,
-/// and then all digits. Without a digit there is no value, and the place is behind the sign.
+/// Reads a decimal number at a place of the input: skips white space, takes a sign where there is
+/// one, and then all digits, however many. Gives the value and the place behind what was read.
+/// Without a digit there is no value, and white space and sign stay read.
 pub fn scan(input: &[u8], at: usize, ty: Ty) -> (Option<i64>, usize)
     requires { at ≤ length input.now }
     ensures value { result ≡ scan_of ty input.now at }
     ensures reads { Scans ty input.now at result.0 result.1 }
-    ensures only { (value : Option ℤ) (next : ℕ) → Scans ty input.now at value next → (value, next) ≡ result }
+    ensures only { (value : Option ℤ) (next : ℕ)
+        → Scans ty input.now at value next → (value, next) ≡ result }
 {
     let text = from(input, at);
     let white = white_len(text);

@@ -5,8 +5,8 @@ ghost use Rattle.xmp_num.specs.Reduction.{IsCommutativeMonoid, combine_of, unit_
 use crate::arithmetic::convert;
 use crate::types::{RedOp, Ty};
 
-/// One step of a reduction over values of the type. The values of a reduction can be combined in any
-/// order and in any groups.
+/// One step of a reduction over values of the type, which can be combined in any order and in any
+/// groups.
 #[tactic(auto, using(crate::proofs::Wraps::wrapped), unfolding(crate::specs::Reduction::combine_of))]
 pub fn combine(op: RedOp, ty: Ty, a: i64, b: i64) -> i64
     ensures value { result ≡ combine_of op ty a b }

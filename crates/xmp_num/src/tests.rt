@@ -23,8 +23,8 @@ const OPERATORS: [BinOp; 16] = [
     BinOp::Differ,
 ];
 
-// Two operands, and what + - * / % << >> & | ^ < <= > >= == != give for them: the values are those of a
-// C program (gcc -fwrapv, int32_t and int64_t), and `Zero` and `Shift` stand where C leaves the result open.
+// Two operands, and what + - * / % << >> & | ^ < <= > >= == != give for them: the values are those
+// of a C program (gcc -fwrapv, int32_t and int64_t); `Zero` and `Shift` stand where C has none.
 const IN_C: [(Ty, i64, i64, &str); 29] = [
     (
         Ty::Int,

@@ -1,14 +1,14 @@
 -- Words set one thing.
 use Rattle.std.proofs.Common.{◌≡◌, ◌∙◌, ◌++◌, ◌==◌, ℕ, List, [], ◌∷◌, sym, ap, refl, Some, rules, get_or, true, subst, if◌then◌else◌}
-use Rattle.std.proofs.lemmas.Str.Parse.{IsNumeralModel, numerals_by_fold}
+use Rattle.std.proofs.lemmas.Str.Parse.{IsNumeralModel, numerals_by_value}
 use Rattle.std.specs.Str.{all_ascii_digits}
-use Rattle.xmp_top.specs.Numbers.{read_on}
+use Rattle.std.specs.Str.Parse.{digits_value}
 use Rattle.xmp_top.specs.Settings.{Settings, Adds, Says, Sets, prefix_of}
 use Rattle.xmp_top.specs.declared.options.Name.{Name}
 use Rattle.xmp_top.specs.declared.options.Name.TheVariants.{Nodes, Steps, Input, Order, Node, Report}
 
-pub own : IsNumeralModel (λ ds. all_ascii_digits ds ≡ true) (read_on 0)
-own = numerals_by_fold _ (search rules) read_on (search rules)
+pub own : IsNumeralModel (λ ds. all_ascii_digits ds ≡ true) (digits_value 10)
+own = numerals_by_value _ (search rules)
 
 pub cancel : (front a b : List ℕ) → front ++ a ≡ front ++ b → a ≡ b
 cancel [] a b e = e

@@ -1,10 +1,28 @@
-//! What a program of this project answers to its command line.
+//! What a program of this project answers to its command line: what the words ask for (`command_line`), what is due
+//! (`prepare`), and how it is delivered (`deliver`). A program is these two calls; specs/Answer states the whole of one
+//! as a relation, and specs/Causes what follows from it for each status.
 #![tactic(auto)]
 
+mod answer;
+mod delivery;
+mod forms;
 mod numbers;
 mod options;
+mod prepared;
 mod settings;
+mod words;
 
+pub use answer::prepare;
+pub use delivery::deliver;
+pub use forms::{Command, CommandLine};
 pub use numbers::number;
 pub use options::{Name, Options};
-pub use settings::{is_option, options_of};
+pub use prepared::Prepared;
+pub use settings::options_of;
+pub use words::command_line;
+
+/// The most bytes that a source may have.
+pub const SOURCE_LIMIT: usize = 1_048_576;
+
+#[cfg(test)]
+mod tests;

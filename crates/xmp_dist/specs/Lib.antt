@@ -1,0 +1,4 @@
+pub mod Count
+pub mod Table
+pub mod Valid
+pub mod Owner

@@ -1,0 +1,13 @@
+pub mod Accepts
+pub mod Blocks
+pub mod Layout
+pub mod Nodes
+pub mod Numeral
+pub mod Reading
+pub mod World
+pub use Rattle.xmp_dist.specs.Count
+pub use Rattle.xmp_dist.specs.Table
+pub use Rattle.xmp_num.specs.Arithmetic
+pub use Rattle.xmp_serial.specs.First
+pub use Rattle.xmp_serial.specs.FirstGrammar
+pub use Rattle.xmp_serial.specs.FirstMeaning

@@ -1,0 +1,22 @@
+//! Programs of the first form: the reader of their text, and their run on nodes.
+//!
+//! A program of this form fills an array by an expression of the index, adds its cells up and prints
+//! the sum. Array and loops are spread over the nodes in blocks.
+#![tactic(auto)]
+
+mod blocks;
+mod items;
+mod layout;
+mod nodes;
+mod numbers;
+mod program;
+mod read;
+mod sum;
+#[cfg(test)]
+mod tests;
+mod world;
+
+pub use layout::{FOOT, HEAD, TO_FIRST_LOOP, TO_NODES, TO_SECOND_LOOP, TO_TEMPLATE, TO_VALUE};
+pub use nodes::run_first;
+pub use read::read_first;
+pub use world::FirstWorld;

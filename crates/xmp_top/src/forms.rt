@@ -1,0 +1,16 @@
+// A command line, as types.
+use crate::options::Options;
+
+/// The commands that there are.
+#[derive(Clone, Copy, Debug, PartialEq, Eq)]
+pub enum Command {
+    Run,
+}
+
+/// A command line that is one of the forms: a command, its options, and the file that has the source.
+#[derive(Clone, Copy)]
+pub struct CommandLine<'a> {
+    pub command: Command,
+    pub options: Options<'a>,
+    pub file: &'a str,
+}

@@ -1,0 +1,65 @@
+// Reads a command line.
+ghost use Rattle.std.specs.Prelude.{◌≡◌, ◌↔◌, List, ℕ, IsTrue, map, string_bytes, codes, IfSome, IfNone};
+ghost use Rattle.xmp_top.specs.declared.forms.Command.{Command};
+ghost use Rattle.xmp_top.specs.Settings.{settings_of, unset};
+ghost use Rattle.xmp_top.specs.Forms.{SpellsForm, SpellsNoForm, Takes, form_of, word_of};
+
+use crate::forms::{Command, CommandLine};
+use crate::options::Options;
+use crate::settings::{is_option, options_of};
+
+// The command that a word is.
+fn command_of(word: &str) -> Option<Command>
+    ensures some { IfSome result (λ command. word.now ≡ word_of command) }
+    ensures none { IfNone result ((command : Command) → word.now ≡ word_of command → ⊥) }
+{
+    if word == "run" {
+        Some(Command::Run)
+    } else {
+        None
+    }
+}
+
+fn is_unset(options: &Options<'_>) -> bool
+    ensures { IsTrue result ↔ (settings_of options.now ≡ unset) }
+{
+    if options.nodes.is_some() || options.steps.is_some() || options.input.is_some() {
+        return false;
+    }
+    if options.order.is_some() || options.node.is_some() {
+        return false;
+    }
+    !options.report
+}
+
+// Whether the command takes these options.
+fn takes(command: Command, options: &Options<'_>) -> bool
+    ensures { IsTrue result ↔ Takes command (settings_of options.now) }
+{
+    match command {
+        Command::Run => is_unset(options),
+    }
+}
+
+/// The form that the words, those after the program's name, are of, or none where they are of no form.
+pub fn command_line(words: &[String]) -> Option<CommandLine<'_>>
+    ensures form { IfSome result (λ line. SpellsForm (form_of line) (map (λ w. string_bytes w) words.now)) }
+    ensures none { IfNone result (SpellsNoForm (map (λ w. string_bytes w) words.now)) }
+{
+    let (first, rest) = words.split_first()?;
+    let command = command_of(first.as_str())?;
+    let (file, middle) = rest.split_last()?;
+    let file = file.as_str();
+    if is_option(file) {
+        return None;
+    }
+    let options = options_of(middle)?;
+    if !takes(command, &options) {
+        return None;
+    }
+    Some(CommandLine {
+        command,
+        options,
+        file,
+    })
+}
