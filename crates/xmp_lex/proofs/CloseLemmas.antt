@@ -1,5 +1,5 @@
 -- Lines of tokens: each Define has its Close.
-use Rattle.std.proofs.Common.{◌≡◌, ◌≢◌, ◌<◌, ◌≤◌, ◌+◌, ◌-◌, ◌++◌, ℕ, zero, suc, List, [], ◌∷◌, length, take, drop, get_or, refl, sym, ap, ◌∙◌, subst, arith, true, false, Bool, Option, Some, None, slice_get, All, true≢false, add-one, drop-cons, drop-drop, length-append, length-take}
+use Rattle.std.proofs.Common.{◌≡◌, ◌≢◌, ◌<◌, ◌+◌, ◌++◌, ℕ, suc, List, [], ◌∷◌, length, take, drop, get_or, refl, sym, ap, ◌∙◌, arith, true, false, Some, None, slice_get, true≢false, drop-cons, drop-drop, length-append, length-take}
 use Rattle.std.proofs.lemmas.List.{take-append-drop, get_or-take}
 use Rattle.std.proofs.lemmas.List.Elements.{All-nil, All-cons}
 use Rattle.std.proofs.lemmas.Option.{slice_get-get_or}
@@ -8,7 +8,7 @@ use Rattle.xmp_lex.specs.declared.token.Token.{Token}
 use Rattle.xmp_lex.specs.declared.token.TokenKind.{TokenKind}
 use Rattle.xmp_lex.specs.declared.token.TokenKind.TheVariants as t
 use Rattle.xmp_lex.specs.Expand.{Definition, body_of, IsBody}
-use Rattle.xmp_lex.specs.Lines.{Closes, closes, IsClosed, IsClosedBehind, IsFinished}
+use Rattle.xmp_lex.specs.Lines.{Closes, closes, IsFinished}
 use Rattle.xmp_lex.specs.Output.{is_close, IsClosePlace, Defines}
 
 pub close_is : (k : TokenKind) → is_close k ≡ true → k ≡ t.Close
@@ -64,14 +64,14 @@ closes_not ts h none =
 pub defined : (known new : List Definition) (name : List ℕ) (behind body back rest : List Token) (n : ℕ) → IsClosePlace behind n → body ≡ take n behind → back ≡ drop n behind → rest ≡ drop 1 back
     → None ≡ body_of known name → new ≡ known ++ (name, body) ∷ [] → Defines known new name behind rest
 defined known new name behind body back rest n p b k r o a = let d : Token = record { kind = t.Close; at = record { line = 1; column = 1 } } in let z : Token = get_or behind n d in record {
-    body = body;
-    close = z;
-    line = sym (take-append-drop n behind) ∙ ap (λ us. take n behind ++ us) (drop-cons behind n d p.within) ∙ ap (λ us. us ++ z ∷ drop (suc n) behind) (sym b) ∙ ap (λ us. body ++ z ∷ us) (sym tail);
-    is_body = λ i e l. close_not _ (before i e l);
-    closes = close_is z.kind (p.here z (slice_get-get_or behind n d p.within));
-    is_new = sym o;
-    added = a;
-  }
+  body = body;
+  close = z;
+  line = sym (take-append-drop n behind) ∙ ap (λ us. take n behind ++ us) (drop-cons behind n d p.within) ∙ ap (λ us. us ++ z ∷ drop (suc n) behind) (sym b) ∙ ap (λ us. body ++ z ∷ us) (sym tail);
+  is_body = λ i e l. close_not _ (before i e l);
+  closes = close_is z.kind (p.here z (slice_get-get_or behind n d p.within));
+  is_new = sym o;
+  added = a;
+}
   where
     tail : rest ≡ drop (suc n) behind
     tail = r ∙ ap (drop 1) k ∙ drop-drop 1 n behind ∙ ap (λ m. drop m behind) one where

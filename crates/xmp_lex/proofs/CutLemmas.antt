@@ -1,15 +1,13 @@
 -- NextPiece, in the forms that the code's goals have.
-use Rattle.std.proofs.Common.{◌≡◌, ◌≢◌, ◌<◌, ◌≤◌, ◌+◌, ◌-◌, ◌++◌, ◌==◌, ℕ, zero, suc, List, [], ◌∷◌, length, take, drop, get_or, refl, sym, ap, ◌∙◌, arith, subst, add-one, true, false, Bool, Option, Some, None, drop-cons, append_assoc, IfSome, option_to_list, map, slice_get, length-append, length-drop, length-take, append-nil}
+use Rattle.std.proofs.Common.{◌≡◌, ◌≢◌, ◌<◌, ◌≤◌, ◌+◌, ◌-◌, ◌++◌, ◌==◌, ℕ, List, [], ◌∷◌, length, take, drop, get_or, refl, sym, ap, ◌∙◌, arith, subst, add-one, true, false, Bool, Option, Some, drop-cons, option_to_list, slice_get, length-append, length-drop, length-take}
 use Rattle.std.proofs.lemmas.List.{drop_all}
 use Rattle.std.proofs.lemmas.Option.{slice_get_read}
 use Rattle.std.proofs.Math.Seq.{get_or-append_seam}
 use Rattle.xmp_base.specs.declared.place.Place.{Place}
 use Rattle.xmp_lex.specs.declared.token.Token.{Token}
 use Rattle.xmp_lex.specs.declared.token.TokenKind.{TokenKind}
-use Rattle.xmp_lex.specs.declared.token.TokenKind.TheVariants as t
 use Rattle.xmp_lex.specs.declared.mode.Mode.{Mode}
 use Rattle.xmp_lex.specs.declared.mode.Mode.TheVariants as mode
-use Rattle.xmp_lex.specs.declared.cut.NextPiece.{NextPiece}
 use Rattle.xmp_base.specs.declared.refusal.Fault.{Fault}
 use Rattle.xmp_base.specs.declared.refusal.Fault.TheVariants as fault
 use Rattle.xmp_lex.specs.declared.tokens.PieceError.{PieceError}
@@ -18,8 +16,8 @@ use Rattle.xmp_lex.specs.Bytes.{is_white}
 use Rattle.xmp_lex.specs.Pieces.{LineSpace, Splice}
 use Rattle.xmp_lex.specs.Found.{IsMalformed}
 use Rattle.xmp_lex.specs.Pieces as pieces
-use Rattle.xmp_lex.specs.Cut.{no_token, IsOutside, behind_white, white, behind, step, Cuts, none, piece, Front, start, after, placed, Piece, Cut, BreaksLexRule, broken, too_many, too_many_last, last, token_limit, IsRefused, at_end, ending}
-use Rattle.xmp_lex.specs.Found.{IsBroken, IsPiece, is_directive, IsTooMany, IsWithin, refusal, breaks}
+use Rattle.xmp_lex.specs.Cut.{no_token, IsOutside, behind_white, white, behind, step, Cuts, none, piece, Front, placed, Piece, Cut, BreaksLexRule, broken, too_many, too_many_last, IsRefused, ending}
+use Rattle.xmp_lex.specs.Found.{IsBroken, IsPiece, IsTooMany, IsWithin, refusal, breaks}
 
 pub behind_next : (p : Place) (xs : List ℕ) (i : ℕ) → i < length xs → behind p (drop i xs) ≡ behind (step p (get_or xs i 0 == 10)) (drop (i + 1) xs)
 unfolding behind

@@ -1,5 +1,5 @@
 -- Expansion of a text: that it comes to something, and the loop over its tokens.
-use Rattle.std.proofs.Common.{◌≡◌, ◌≢◌, ◌<◌, ◌≤◌, ◌+◌, ◌-◌, ◌++◌, ◌⊎◌, inl, inr, ℕ, zero, suc, List, [], ◌∷◌, length, map, refl, sym, ap, ◌∙◌, subst, arith, true, false, Bool, Option, Some, None, append_assoc, append-nil, All, length-append}
+use Rattle.std.proofs.Common.{◌≡◌, ◌<◌, ◌≤◌, ◌-◌, ◌++◌, ◌⊎◌, inl, inr, ℕ, zero, suc, List, [], ◌∷◌, length, refl, sym, ap, ◌∙◌, subst, arith, true, Option, Some, None, append_assoc, append-nil, All, length-append}
 use Rattle.std.proofs.lemmas.List.Elements.{All-nil, All-cons, All-head, All-tail, All-append}
 use Rattle.std.proofs.Math.Seq.{get_or-append_seam}
 use Rattle.xmp_base.specs.declared.place.Place.{Place}
@@ -12,9 +12,9 @@ use Rattle.xmp_lex.specs.declared.token.TokenKind.{TokenKind}
 use Rattle.xmp_lex.specs.declared.token.TokenKind.TheVariants as t
 use Rattle.xmp_lex.specs.declared.output.Output.{Output}
 use Rattle.xmp_lex.specs.Cut.{token_limit}
-use Rattle.xmp_lex.specs.Expand.{Definition, definition_of, body_of, Event, out, used, again, Replaces, done, keep, replace, IsDefine, IsBody, Expands, end, token, define, define_again, tokens_of, counts, place_of, IsFine, BreaksMacroRule, twice, too_many, Expanded, BreaksMacros, IsMacroRefusal}
+use Rattle.xmp_lex.specs.Expand.{Definition, definition_of, body_of, Event, again, Replaces, done, keep, replace, IsDefine, Expands, end, token, define, define_again, tokens_of, counts, BreaksMacroRule, twice, too_many, Expanded, BreaksMacros, IsMacroRefusal}
 use Rattle.xmp_lex.specs.Lines.{IsClosed, IsClosedBehind, IsFinished}
-use Rattle.xmp_lex.specs.Output.{PutsOut, Puts, Overflows, breaks_macro, Defines, IsSecond, Steps, BreaksAt}
+use Rattle.xmp_lex.specs.Output.{Puts, Overflows, breaks_macro, IsSecond, Steps, BreaksAt}
 use Rattle.xmp_lex.proofs.ReplaceLemmas.{result_of, all_at, IsAt}
 use Rattle.xmp_lex.proofs.UseLemmas.{tokens_append}
 use Rattle.xmp_lex.proofs.CloseLemmas.{Line, line_of, fin_append}
@@ -169,7 +169,7 @@ text_over tokens known x behind old (fault.Refused r) i n o = refuse (refusal_is
     events = i.sofar ++ (es ++ later.0);
     expands = i.to_come (es ++ later.0) (token known x behind es later.0 n o.1.1 later.1);
     breaks = subst (BreaksMacroRule (i.sofar ++ (es ++ later.0)) 2) e_at.1 (too_many (i.sofar ++ s.0) (s.2 ++ later.0) s.1 events_are e_at.0
-      (record { once = All-append (λ e. counts e ≡ true) i.sofar s.0 i.once (all_count x.at s.0 (all_front (IsAt x.at) s.0 (s.1 ∷ s.2) front_at)); few = (let l = long in omega arith) }) long);
+        (record { once = All-append (λ e. counts e ≡ true) i.sofar s.0 i.once (all_count x.at s.0 (all_front (IsAt x.at) s.0 (s.1 ∷ s.2) front_at)); few = (let l = long in omega arith) }) long);
   }
 
   refuse : r ≡ record { phase = phase.Macro; rule = 2; at = x.at } → IsMacroRefusal tokens (fault.Refused r)
@@ -224,8 +224,9 @@ stays known x _ f (replace _ _ d _ inner es e i r) = absurd (let z : None ≡ So
 pub finished : (known : List Definition) (ts : List Token) (es : List Event) → Expands known ts es → IsFinished ts → IsFinished (tokens_of es)
 finished known _ _ (end _) h = absurd h
 finished known _ _ (token _ x ts inner es n r p) h = elim (fin_tail x ts h) [
-    inl z ↦ subst IsFinished (sym (tokens_append inner es ∙ ap (λ us. tokens_of inner ++ us) (nothing ts es z.0 p) ∙ append-nil (tokens_of inner))) (stays known x inner z.1 r)
-  | inr g ↦ subst IsFinished (sym (tokens_append inner es)) (fin_append (tokens_of inner) (tokens_of es) (finished known ts es p g)) ]
+  | inl z ↦ subst IsFinished (sym (tokens_append inner es ∙ ap (λ us. tokens_of inner ++ us) (nothing ts es z.0 p) ∙ append-nil (tokens_of inner))) (stays known x inner z.1 r)
+  | inr g ↦ subst IsFinished (sym (tokens_append inner es)) (fin_append (tokens_of inner) (tokens_of es) (finished known ts es p g))
+]
   where
     nothing : (us : List Token) (fs : List Event) → us ≡ [] → Expands known us fs → tokens_of fs ≡ []
     nothing [] _ z (end _) = refl

@@ -1,11 +1,11 @@
 -- `#` lines: the head and the form of one are unique.
-use Rattle.std.proofs.Common.{◌≡◌, ◌≢◌, ◌<◌, ◌≤◌, ◌+◌, ◌-◌, ◌++◌, ◌==◌, ℕ, zero, suc, List, [], ◌∷◌, length, take, drop, get_or, refl, sym, ap, ◌∙◌, arith, subst, add-one, true, false, Bool, codes, length-drop}
+use Rattle.std.proofs.Common.{◌≡◌, ◌≤◌, ◌+◌, ℕ, List, [], ◌∷◌, length, take, drop, get_or, refl, sym, ap, ◌∙◌, arith, subst, true, false, codes, length-drop}
 use Rattle.xmp_lex.specs.declared.token.TokenKind.{TokenKind}
 use Rattle.xmp_lex.specs.declared.token.TokenKind.TheVariants as t
 use Rattle.xmp_lex.specs.declared.mode.Mode.{Mode}
 use Rattle.xmp_lex.specs.declared.mode.Mode.TheVariants as mode
 use Rattle.xmp_lex.specs.declared.token.Reserved.{Reserved}
-use Rattle.xmp_lex.specs.Bytes.{is_letter, is_word, IsRun, IsFirstPlace}
+use Rattle.xmp_lex.specs.Bytes.{is_letter, is_word, IsRun}
 use Rattle.xmp_lex.specs.Words.{word_text}
 use Rattle.xmp_lex.specs.Pieces.{LineSpaces, LineHead, LineForm, define, include, pragma, other_pragma, Spelled, name}
 use Rattle.xmp_lex.specs.Cut.{Broken, no_form, Piece, hash}

@@ -1,12 +1,12 @@
 -- The tokens of a cut stand in lines.
-use Rattle.std.proofs.Common.{◌≡◌, ◌≢◌, ◌++◌, ◌<◌, ℕ, List, [], ◌∷◌, length, map, refl, sym, ap, ◌∙◌, subst, append_assoc, append-nil, Bool, true, false}
+use Rattle.std.proofs.Common.{◌≡◌, ◌≢◌, ◌++◌, ℕ, List, [], ◌∷◌, map, refl, sym, ap, ◌∙◌, subst, append_assoc, append-nil, Bool, true, false}
 use Rattle.xmp_lex.specs.declared.token.Token.{Token}
 use Rattle.xmp_lex.specs.declared.token.TokenKind.{TokenKind}
 use Rattle.xmp_lex.specs.declared.token.TokenKind.TheVariants as t
 use Rattle.xmp_lex.specs.declared.mode.Mode.{Mode}
 use Rattle.xmp_lex.specs.declared.mode.Mode.TheVariants as mode
-use Rattle.xmp_lex.specs.Pieces.{Spelled, name, word, number, quoted, mark, LineForm, define, include, pragma, other_pragma}
-use Rattle.xmp_lex.specs.Cut.{Piece, white, comment, token, hash, line_space, skip, close, IsOutside, IsHashLine, behind_white, behind_token, at_end, Front, Cuts, none, piece, placed, ending, last, Cut}
+use Rattle.xmp_lex.specs.Pieces.{Spelled, name, word, number, quoted, mark, define, include, pragma, other_pragma}
+use Rattle.xmp_lex.specs.Cut.{Piece, white, comment, token, hash, line_space, skip, close, IsOutside, IsHashLine, behind_white, behind_token, at_end, Front, Cuts, none, piece, placed, ending, Cut}
 use Rattle.xmp_lex.proofs.CloseLemmas.{fin_append}
 use Rattle.xmp_lex.specs.Lines.{IsFinished, closes, Closes, IsClosed, IsClosedBehind}
 

@@ -1,6 +1,5 @@
 -- The table of marks has each mark, the longest first.
-use Rattle.std.proofs.Common.{◌≡◌, ◌≤◌, ◌<◌, ◌+◌, ℕ, List, [], ◌∷◌, refl, sym, ap, ◌∙◌, get_or, map, length, arith, nat_le, zero-add, Bool, true, false, if◌then◌else◌, subst, ◌⊎◌, inl, inr, Option, Some, None, MatchOption}
-use Rattle.std.specs.List.{range_with_len}
+use Rattle.std.proofs.Common.{◌≡◌, ◌≤◌, ◌<◌, ℕ, List, [], ◌∷◌, refl, sym, ap, ◌∙◌, get_or, length, arith, nat_le, zero-add, if◌then◌else◌, subst, Option, Some, None, MatchOption}
 use Rattle.std.proofs.lemmas.List.{get_or-map}
 use Rattle.std.proofs.lemmas.List.FromFn.{get_or-range_with_len}
 use Rattle.xmp_lex.specs.Words.{mark_text, BeginsWith, IsMark}

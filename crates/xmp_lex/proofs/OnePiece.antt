@@ -1,17 +1,17 @@
 -- One piece, and no broken rule beside it.
-use Rattle.std.proofs.Common.{◌≡◌, ◌≢◌, ◌<◌, ◌≤◌, ◌+◌, ◌-◌, ◌==◌, ◌&&◌, ◌||◌, ℕ, List, [], ◌∷◌, length, take, drop, get_or, refl, sym, ap, ◌∙◌, arith, subst, true, false, Bool, not, nat_le, map, if◌then◌else◌}
+use Rattle.std.proofs.Common.{◌≡◌, ◌+◌, ◌==◌, ◌&&◌, ℕ, List, [], ◌∷◌, take, drop, get_or, refl, sym, ap, ◌∙◌, arith, subst, true, Bool, not}
 use Rattle.xmp_lex.specs.declared.token.TokenKind.{TokenKind}
 use Rattle.xmp_lex.specs.declared.token.TokenKind.TheVariants as t
 use Rattle.xmp_lex.specs.declared.mode.Mode.{Mode}
 use Rattle.xmp_lex.specs.declared.mode.Mode.TheVariants as mode
 use Rattle.xmp_lex.specs.declared.token.Mark.{Mark}
 use Rattle.xmp_lex.specs.declared.token.Mark.TheVariants as m
-use Rattle.xmp_lex.specs.Bytes.{is_white, is_digit, is_letter, is_word, IsRun}
-use Rattle.xmp_lex.specs.Words.{mark_text, IsMark}
+use Rattle.xmp_lex.specs.Bytes.{is_white, is_digit, is_letter, IsRun}
+use Rattle.xmp_lex.specs.Words.{mark_text}
 use Rattle.xmp_lex.specs.Pieces.{Spelled, name, word, number, quoted, mark, Comment, block, line, Unclosed, LineSpace, LineSpaces, LineHead, LineForm, define, include, pragma, other_pragma, IsBlockStart, IsLineStart}
 use Rattle.xmp_lex.specs.Pieces as p
-use Rattle.xmp_lex.specs.Cut.{Piece, white, comment, token, hash, line_space, skip, close, IsOutside, IsHashLine, behind_white, behind_token, at_end}
-use Rattle.xmp_lex.proofs.SpaceLemmas.{one_place, one_comment, one_space, slash, backslash}
+use Rattle.xmp_lex.specs.Cut.{Piece, white, comment, token, hash, line_space, skip, close, IsOutside, IsHashLine, behind_token}
+use Rattle.xmp_lex.proofs.SpaceLemmas.{one_comment, one_space, slash, backslash}
 use Rattle.xmp_lex.proofs.Heads.{one_head}
 use Rattle.xmp_lex.proofs.Unique.{one_spelled, first_of, one_run}
 

@@ -1,13 +1,12 @@
 -- Each token of a cut stands at a place of the text.
-use Rattle.std.proofs.Common.{◌≡◌, ◌+◌, ◌++◌, ◌==◌, ℕ, List, [], ◌∷◌, length, map, take, drop, refl, sym, ap, ◌∙◌, subst, All, drop-drop, get_or, arith, zero, suc}
+use Rattle.std.proofs.Common.{◌≡◌, ◌+◌, ◌++◌, ◌==◌, ℕ, List, [], ◌∷◌, take, drop, refl, sym, ap, ◌∙◌, subst, All, drop-drop, get_or}
 use Rattle.std.proofs.Math.Seq.{take-add}
-use Rattle.std.proofs.lemmas.List.Elements.{All-nil, All-cons, All-append, All-map}
+use Rattle.std.proofs.lemmas.List.Elements.{All-nil, All-append, All-map}
 use Rattle.xmp_base.specs.declared.place.Place.{Place}
 use Rattle.xmp_lex.specs.declared.token.Token.{Token}
 use Rattle.xmp_lex.specs.declared.token.TokenKind.{TokenKind}
 use Rattle.xmp_lex.specs.declared.mode.Mode.{Mode}
-use Rattle.xmp_lex.specs.declared.mode.Mode.TheVariants as mode
-use Rattle.xmp_lex.specs.Cut.{behind, step, Front, start, after, Cuts, none, piece, placed, ending, last, Cut, IsPlaceOf}
+use Rattle.xmp_lex.specs.Cut.{behind, step, Front, Cuts, none, piece, placed, ending, Cut, IsPlaceOf}
 
 abbrev first : Place
 first = record { line = 1; column = 1 }
@@ -39,7 +38,7 @@ places text _ (piece f n out x c some p) = let i = places text f c in record {
   rest_is = ap (drop n) i.rest_is ∙ drop-drop n i.bytes text;
   at_is = further text f i n;
   tokens = All-append (λ (y : Token). IsPlaceOf text y.at) f.tokens (placed f.at f.rest out) i.tokens
-    (All-map (λ (y : Token). IsPlaceOf text y.at) (λ (o : ℕ × TokenKind). (let z : Token = record { kind = o.1; at = behind f.at (take o.0 f.rest) } in z)) out (λ k o l. (i.bytes + (get_or out k o).0, further text f i (get_or out k o).0)));
+      (All-map (λ (y : Token). IsPlaceOf text y.at) (λ (o : ℕ × TokenKind). (let z : Token = record { kind = o.1; at = behind f.at (take o.0 f.rest) } in z)) out (λ k o l. (i.bytes + (get_or out k o).0, further text f i (get_or out k o).0)));
 }
 
 ending_at : (text : List ℕ) (f : Front) → IsAt text f → (x : Mode) → All (λ (y : Token). IsPlaceOf text y.at) (ending x f.at)

@@ -1,12 +1,12 @@
 -- Replacing names: that tokens come to something, and the steps of the stack of uses.
-use Rattle.std.proofs.Common.{◌≡◌, ◌≢◌, ◌<◌, ◌≤◌, ◌+◌, ◌*◌, ◌-◌, ◌++◌, ◌||◌, ℕ, zero, suc, List, [], ◌∷◌, length, map, refl, sym, ap, ◌∙◌, subst, arith, true, false, Bool, Option, Some, None, option_map, cond, true≢false, if◌then◌else◌, append_assoc, append-nil, All, length-append, is_some}
+use Rattle.std.proofs.Common.{◌≡◌, ◌<◌, ◌≤◌, ◌+◌, ◌++◌, ◌||◌, ℕ, zero, suc, List, [], ◌∷◌, length, refl, sym, ap, ◌∙◌, subst, arith, true, false, Bool, Option, Some, None, option_map, cond, All, length-append}
 use Rattle.std.proofs.lemmas.List.Elements.{All-nil, All-cons, All-head, All-tail, All-append, All-map}
 use Rattle.std.specs.List.{list_any}
 use Rattle.xmp_base.specs.declared.place.Place.{Place}
 use Rattle.xmp_lex.specs.declared.token.Token.{Token}
 use Rattle.xmp_lex.specs.declared.token.TokenKind.{TokenKind}
 use Rattle.xmp_lex.specs.declared.token.TokenKind.TheVariants as t
-use Rattle.xmp_lex.specs.Expand.{Definition, same, body_of, definition_of, moved, Event, out, used, again, Replaces, done, keep, replace, tokens_of, counts, place_of}
+use Rattle.xmp_lex.specs.Expand.{Definition, same, body_of, definition_of, moved, Event, out, used, Replaces, done, keep, replace, counts, place_of}
 use Rattle.xmp_lex.specs.Output.{Pending, none, within, names_of}
 use Rattle.xmp_lex.proofs.DefinitionLemmas.{same_is, is_same}
 
@@ -169,5 +169,5 @@ all_at known at hidden _ _ a (keep _ x ts es e r) = All-cons (IsAt at) (out x) e
 all_at known at hidden _ _ a (replace _ x d ts inner es e i r) =
     let h : x.at ≡ at = All-head (λ y. y.at ≡ at) x ts a in
     All-cons (IsAt at) (used x.at) (inner ++ es) (refl, h) (All-append (IsAt at) inner es
-      (all_at known at (d.0 ∷ hidden) (moved x.at d.1) inner (All-map (λ (y : Token). y.at ≡ at) (λ (y : Token). (let z : Token = record { kind = y.kind; at = x.at } in z)) d.1 (λ k y l. h)) i)
-      (all_at known at hidden ts es (All-tail (λ y. y.at ≡ at) x ts a) r))
+    (all_at known at (d.0 ∷ hidden) (moved x.at d.1) inner (All-map (λ (y : Token). y.at ≡ at) (λ (y : Token). (let z : Token = record { kind = y.kind; at = x.at } in z)) d.1 (λ k y l. h)) i)
+    (all_at known at hidden ts es (All-tail (λ y. y.at ≡ at) x ts a) r))

@@ -1,8 +1,8 @@
 -- White space and comments.
-use Rattle.std.proofs.Common.{◌≡◌, ◌≤◌, ◌<◌, ◌+◌, ◌-◌, ℕ, zero, suc, List, length, arith, get_or, refl, subst, sym, ap, ◌∙◌, drop, Bool, true, false, ◌⊎◌, inl, inr, length-drop, drop-drop, ◌==◌, ◌&&◌}
+use Rattle.std.proofs.Common.{◌≡◌, ◌≤◌, ◌<◌, ◌+◌, ℕ, List, length, arith, get_or, refl, subst, sym, ap, ◌∙◌, drop, Bool, true, inl, inr, length-drop, drop-drop, ◌==◌, ◌&&◌}
 use Rattle.std.proofs.lemmas.List.{get_or_past}
 use Rattle.std.proofs.lemmas.Bool.{cases_lt}
-use Rattle.xmp_lex.specs.Bytes.{IsLine, IsBlock, IsClose, is_white, IsFirstPlace}
+use Rattle.xmp_lex.specs.Bytes.{IsLine, IsBlock, is_white, IsFirstPlace}
 use Rattle.xmp_lex.specs.Pieces.{Comment, block, line, Unclosed, IsBlockStart, IsLineStart, LineSpace, white, splice, comment, comment_splice, LineSpaces, done, more, Splice, two, three, is_spliced}
 
 pub one_place : (P : ℕ → Type 0) (text : List ℕ) (n m : ℕ) → IsFirstPlace P text n → IsFirstPlace P text m → n ≡ m

@@ -1,16 +1,15 @@
 -- Tokens, in the forms that the code's goals have.
-use Rattle.std.proofs.Common.{◌≡◌, ◌≢◌, ◌<◌, ◌≤◌, ◌+◌, ◌-◌, ◌++◌, ◌==◌, ◌||◌, ℕ, ℤ, zero, suc, List, [], ◌∷◌, length, take, drop, get_or, refl, sym, ap, ◌∙◌, arith, subst, add-one, true, false, Bool, nat_le, pos, to_z, w64, Option, Some, None, length-drop, length-take, zero-add}
-use Rattle.xmp_lex.specs.declared.token.TokenKind.{TokenKind}
+use Rattle.std.proofs.Common.{◌≡◌, ◌<◌, ◌≤◌, ◌+◌, ◌++◌, ◌||◌, ℕ, List, length, take, drop, get_or, refl, sym, ap, ◌∙◌, arith, subst, add-one, true, false, Bool, nat_le, pos, to_z, w64, None, length-drop, length-take}
 use Rattle.xmp_lex.specs.declared.token.TokenKind.TheVariants as t
 use Rattle.xmp_lex.specs.declared.token.Mark.{Mark}
 use Rattle.xmp_lex.specs.declared.token.Reserved.{Reserved}
 use Rattle.xmp_num.specs.declared.types.Ty.{Ty}
-use Rattle.xmp_lex.specs.Bytes.{is_digit, is_letter, is_word, IsRun, IsNumber, IsTextEnd, IsBadEscape, has_suffix, escaped, escapes, escape_value, content, content_of, IsFirstPlace}
+use Rattle.xmp_lex.specs.Bytes.{is_digit, is_letter, is_word, IsRun, IsNumber, IsTextEnd, IsBadEscape, has_suffix, escaped, escapes, escape_value, content, content_of}
 use Rattle.xmp_lex.specs.Words.{mark_text, word_text, IsMark}
-use Rattle.xmp_lex.specs.Pieces.{Spelled, name, word, number, quoted, mark, Malformed, stray, unknown_escape, unclosed, no_number, IsBlockStart, IsLineStart, type_of}
-use Rattle.xmp_lex.specs.Found.{Taken, IsMeaning}
+use Rattle.xmp_lex.specs.Pieces.{Spelled, name, word, number, quoted, mark, Malformed, unknown_escape, unclosed, no_number, IsBlockStart, IsLineStart, type_of}
+use Rattle.xmp_lex.specs.Found.{Taken}
 use Rattle.xmp_lex.proofs.SpaceLemmas.{inside}
-use Rattle.xmp_lex.proofs.MarkTable.{long, long_is, place, long_some}
+use Rattle.xmp_lex.proofs.MarkTable.{long_is, place, long_some}
 use Rattle.std.proofs.lemmas.Int.{to_z_pos}
 
 pub escaped_next : (text : List ℕ) (i : ℕ) (e : Bool) → e ≡ escaped text i → escapes (get_or text i 0) e ≡ escaped text (i + 1)

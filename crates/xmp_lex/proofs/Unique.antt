@@ -1,16 +1,16 @@
 -- One token, one piece.
-use Rattle.std.proofs.Common.{◌≡◌, ◌≢◌, ◌<◌, ◌≤◌, ◌+◌, ◌-◌, ◌==◌, ◌&&◌, ◌||◌, ℕ, ℤ, pos, List, [], ◌∷◌, length, take, drop, get_or, refl, sym, ap, ◌∙◌, arith, subst, true, false, Bool, not, nat_le, Option, Some, None, if◌then◌else◌, MatchOption}
+use Rattle.std.proofs.Common.{◌≡◌, ◌≤◌, ◌==◌, ◌&&◌, ◌||◌, ℕ, pos, List, [], ◌∷◌, length, take, drop, get_or, refl, sym, ap, ◌∙◌, arith, subst, true, false, Bool, nat_le, if◌then◌else◌}
 use Rattle.xmp_lex.specs.declared.token.TokenKind.{TokenKind}
 use Rattle.xmp_lex.specs.declared.token.TokenKind.TheVariants as t
 use Rattle.xmp_lex.specs.declared.token.Mark.{Mark}
 use Rattle.xmp_lex.specs.declared.token.Mark.TheVariants as m
 use Rattle.xmp_lex.specs.declared.token.Reserved.{Reserved}
 use Rattle.xmp_lex.specs.declared.token.Reserved.TheVariants as w
-use Rattle.xmp_lex.specs.Bytes.{is_white, is_digit, is_letter, is_word, IsRun, IsNumber, IsTextEnd, has_suffix, content, is_end, escaped, base_of, digits_of, value}
+use Rattle.xmp_lex.specs.Bytes.{is_digit, is_letter, is_word, IsRun, IsNumber, has_suffix, content, is_end, escaped, base_of, digits_of, value}
 use Rattle.xmp_lex.specs.Words.{mark_text, word_text, IsMark, BeginsWith}
-use Rattle.xmp_lex.specs.Pieces.{Spelled, name, word, number, quoted, mark, type_of, IsBlockStart, IsLineStart}
+use Rattle.xmp_lex.specs.Pieces.{Spelled, name, word, number, quoted, mark, type_of}
 use Rattle.xmp_lex.proofs.SpaceLemmas.{one_place}
-use Rattle.xmp_lex.proofs.MarkTable.{long_is, long, place, long_some, table}
+use Rattle.xmp_lex.proofs.MarkTable.{long_is, place, long_some, table}
 use Rattle.std.proofs.lemmas.List.{get_or-take}
 
 -- what a byte can begin: 0 a name or word, 1 a number, 2 a text, 3 the rest

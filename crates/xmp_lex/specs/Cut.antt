@@ -1,12 +1,12 @@
 -- A text cut into tokens: pieces laid end to end, each the longest that can stand there. Source: ISO C 6.4 (4); the limit and the rules L1 to L6 are this project's.
-use Rattle.std.specs.Prelude.{◌≡◌, ◌≢◌, ◌≤◌, ◌<◌, ◌+◌, ◌==◌, ℕ, List, [], ◌∷◌, ◌++◌, length, Bool, true, false, map, take, drop, slice_index, slice_get, codes, Some, ⊤, option_to_list, IfSome}
+use Rattle.std.specs.Prelude.{◌≡◌, ◌≢◌, ◌≤◌, ◌<◌, ◌+◌, ◌==◌, ℕ, List, [], ◌∷◌, ◌++◌, length, Bool, true, false, map, take, drop, slice_index, slice_get, Some, ⊤}
 use Rattle.xmp_base.specs.declared.place.Place.{Place}
 use Rattle.xmp_lex.specs.declared.token.Token.{Token}
 use Rattle.xmp_lex.specs.declared.token.TokenKind.{TokenKind}
 use Rattle.xmp_lex.specs.declared.token.TokenKind.TheVariants as t
 use Rattle.xmp_lex.specs.declared.mode.Mode.{Mode}
 use Rattle.xmp_lex.specs.declared.mode.Mode.TheVariants as mode
-use Rattle.xmp_lex.specs.Bytes.{is_white, is_word, IsRun}
+use Rattle.xmp_lex.specs.Bytes.{is_white}
 use Rattle.xmp_lex.specs.Pieces.{Spelled, Malformed, Comment, Unclosed, LineSpace, LineForm, Splice}
 use Rattle.xmp_base.specs.declared.refusal.Fault.{Fault}
 use Rattle.xmp_base.specs.declared.refusal.Fault.TheVariants as fault

@@ -1,5 +1,5 @@
 -- What the functions below `expand` do, in the form that their answers have.
-use Rattle.std.specs.Prelude.{Bool, true, false, slice_get, ◌≡◌, ◌≢◌, ◌≤◌, ◌<◌, ◌+◌, ◌*◌, ℕ, List, [], ◌∷◌, ◌++◌, length, map, Some, None, ⊤}
+use Rattle.std.specs.Prelude.{Bool, true, false, slice_get, ◌≡◌, ◌≤◌, ◌<◌, ◌+◌, ◌*◌, ℕ, List, [], ◌∷◌, ◌++◌, length, map, Some, None, ⊤}
 use Rattle.xmp_base.specs.declared.place.Place.{Place}
 use Rattle.xmp_base.specs.declared.refusal.Fault.{Fault}
 use Rattle.xmp_base.specs.declared.refusal.Fault.TheVariants as fault
@@ -10,7 +10,7 @@ use Rattle.xmp_lex.specs.declared.output.Output.{Output}
 use Rattle.xmp_lex.specs.declared.token.TokenKind.{TokenKind}
 use Rattle.xmp_lex.specs.declared.definitions.Use.{Use}
 use Rattle.xmp_lex.specs.Cut.{token_limit}
-use Rattle.xmp_lex.specs.Expand.{Definition, Event, again, Replaces, IsDefine, moved, tokens_of, body_of, IsBody}
+use Rattle.xmp_lex.specs.Expand.{Definition, Event, Replaces, moved, tokens_of, body_of, IsBody}
 
 -- the refusal by a rule E
 abbrev pub breaks_macro : ℕ → Place → Fault

@@ -1,5 +1,5 @@
 -- The pieces that a text is cut into: what stands at the front of a text, n bytes long. Source: ISO C 6.4 (4), the longest token, 6.4.9, comments, and 6.10, lines that begin with `#`.
-use Rattle.std.specs.Prelude.{◌≡◌, ◌≢◌, ◌≤◌, ◌<◌, ◌+◌, ◌-◌, ◌==◌, ◌&&◌, ◌||◌, ℕ, List, [], ◌∷◌, length, ◌⊎◌, Bool, true, false, nat_le, codes, pos, take, drop, slice_index, if◌then◌else◌, ⊤, ◌++◌, None}
+use Rattle.std.specs.Prelude.{◌≡◌, ◌≢◌, ◌<◌, ◌+◌, ◌-◌, ◌==◌, ◌&&◌, ◌||◌, ℕ, List, [], ◌∷◌, length, Bool, true, false, nat_le, codes, pos, take, drop, slice_index}
 use Rattle.xmp_lex.specs.declared.token.TokenKind.{TokenKind}
 use Rattle.xmp_lex.specs.declared.token.TokenKind.TheVariants as t
 use Rattle.xmp_lex.specs.declared.token.Mark.{Mark}
@@ -8,7 +8,7 @@ use Rattle.xmp_num.specs.declared.types.Ty.{Ty}
 use Rattle.xmp_num.specs.declared.types.Ty.TheVariants as ty
 use Rattle.xmp_lex.specs.declared.mode.Mode.{Mode}
 use Rattle.xmp_lex.specs.declared.mode.Mode.TheVariants as mode
-use Rattle.xmp_lex.specs.Bytes.{is_white, is_digit, is_letter, is_word, IsRun, IsLine, IsBlock, IsTextEnd, IsBadEscape, content, content_of, escape_value, IsNumber, has_suffix, IsClose}
+use Rattle.xmp_lex.specs.Bytes.{is_white, is_digit, is_letter, is_word, IsRun, IsLine, IsBlock, IsTextEnd, IsBadEscape, content, IsNumber, has_suffix, IsClose}
 use Rattle.xmp_lex.specs.Words.{IsMark, word_text, mark_text, BeginsWith}
 
 -- the type of a number, by whether it is long

@@ -10,9 +10,9 @@ ghost use Rattle.xmp_lex.specs.Cut.{IsRefused, Cut, behind, step, behind_white, 
 ghost use Rattle.xmp_lex.specs.Found.{IsPiece, IsBroken, IsTooMany, IsWithin, refusal, is_directive, breaks};
 
 use crate::bytes::{byte_at, from, front, is_white};
-use crate::spaces::{Found, comment, line_space};
 use crate::hash::hash;
 use crate::mode::Mode;
+use crate::spaces::{Found, comment, line_space};
 use crate::token::{Token, TokenKind};
 use crate::tokens::{PieceError, token_at};
 use std::alloc::Global;

@@ -6,8 +6,8 @@ ghost use Rattle.xmp_lex.specs.Found.{IsPiece, IsBroken};
 
 use crate::bytes::{byte_at, from, front, is_letter, run};
 use crate::cut::NextPiece;
-use crate::spaces::line_spaces;
 use crate::mode::Mode;
+use crate::spaces::line_spaces;
 use crate::token::{TokenKind, bytes_of};
 use crate::tokens::PieceError;
 use crate::words::word_of;

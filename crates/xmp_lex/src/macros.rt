@@ -45,11 +45,7 @@ fn use_of<'a>(
 }
 
 /// Opens a use.
-fn open<'a>(
-    uses: &mut Vec<Use<'a>>,
-    hidden: &mut Hidden<'a>,
-    inner: Use<'a>,
-) -> Result<(), Fault>
+fn open<'a>(uses: &mut Vec<Use<'a>>, hidden: &mut Hidden<'a>, inner: Use<'a>) -> Result<(), Fault>
     requires { list_any (same inner.name.now) hidden.old ≡ false }
     ensures uses { OnOk result (uses.new.items ≡ uses.old.items ++ inner.entry ∷ []) }
     ensures hidden { OnOk result (hidden.new ≡ hidden.old ++ inner.entry.name.now ∷ []) }
@@ -169,7 +165,15 @@ fn replace<'a>(
         Ok(()) => {}
     }
     while let Some(current) = uses.pop() {
-        match advance(alloc, definitions, current, at, &mut uses, &mut hidden, output) {
+        match advance(
+            alloc,
+            definitions,
+            current,
+            at,
+            &mut uses,
+            &mut hidden,
+            output,
+        ) {
             Err(fault) => return Err(fault),
             Ok(()) => {}
         }

@@ -40,12 +40,7 @@ pub fn count_name(output: &mut Output, at: Place) -> Result<(), Fault>
 }
 
 /// Puts out a token of this kind.
-pub fn put(
-    output: &mut Output,
-    alloc: Global,
-    kind: &TokenKind,
-    at: Place,
-) -> Result<(), Fault>
+pub fn put(output: &mut Output, alloc: Global, kind: &TokenKind, at: Place) -> Result<(), Fault>
     requires { output.old.count ≤ 200000 }
     ensures ok { OnOk result (PutsOut (out (record { kind = kind.now; at = at }) ∷ []) output.old output.new) }
     ensures err { IfErr result (IsFull output.old.count at) }

@@ -11,22 +11,58 @@ const LEXED: [(&[u8], &str); 47] = [
     (b"", "Finish@1:1"),
     (b"a+++b", "a@1:1 ++@1:2 +@1:4 b@1:5 Finish@1:6"),
     (b"x<<=y>>z", "x@1:1 <<=@1:2 y@1:5 >>@1:6 z@1:8 Finish@1:9"),
-    (b"int x1_;\n\treturn", "int@1:1 x1_@1:5 ;@1:8 return@2:2 Finish@2:8"),
-    (b"0 07 0x1f 2147483647 2147483648 1l 0L 9223372036854775807", "0@1:1 7@1:3 31@1:6 2147483647@1:11 2147483648L@1:22 1L@1:33 0L@1:36 9223372036854775807L@1:39 Finish@1:58"),
-    (b"0x7FFFFFFF 0xffffffff 037777777777", "2147483647@1:1 4294967295L@1:12 4294967295L@1:23 Finish@1:35"),
-    (b"\"a\\n\\t\\\\\\\"b\";", "\"a\n\t\\\"b\"@1:1 ;@1:13 Finish@1:14"),
+    (
+        b"int x1_;\n\treturn",
+        "int@1:1 x1_@1:5 ;@1:8 return@2:2 Finish@2:8",
+    ),
+    (
+        b"0 07 0x1f 2147483647 2147483648 1l 0L 9223372036854775807",
+        "0@1:1 7@1:3 31@1:6 2147483647@1:11 2147483648L@1:22 1L@1:33 0L@1:36 9223372036854775807L@1:39 Finish@1:58",
+    ),
+    (
+        b"0x7FFFFFFF 0xffffffff 037777777777",
+        "2147483647@1:1 4294967295L@1:12 4294967295L@1:23 Finish@1:35",
+    ),
+    (
+        b"\"a\\n\\t\\\\\\\"b\";",
+        "\"a\n\t\\\"b\"@1:1 ;@1:13 Finish@1:14",
+    ),
     (b"a/* b\n*/c//d\ne", "a@1:1 c@2:3 e@3:1 Finish@3:2"),
-    (b"a/**/b/***/c/* * */d", "a@1:1 b@1:6 c@1:12 d@1:20 Finish@1:21"),
+    (
+        b"a/**/b/***/c/* * */d",
+        "a@1:1 b@1:6 c@1:12 d@1:20 Finish@1:21",
+    ),
     (b"a//b\\\nc", "a@1:1 c@2:1 Finish@2:2"),
-    (b"#define N 8\nN", "Define:N@1:9 8@1:11 Close@1:12 N@2:1 Finish@2:2"),
+    (
+        b"#define N 8\nN",
+        "Define:N@1:9 8@1:11 Close@1:12 N@2:1 Finish@2:2",
+    ),
     (b"#define N", "Define:N@1:9 Close@1:10 Finish@1:10"),
-    (b"#define N (1)", "Define:N@1:9 (@1:11 1@1:12 )@1:13 Close@1:14 Finish@1:14"),
-    (b" # /**/ pragma xmp nodes p[4]\n", "Pragma@1:2 nodes@1:20 p@1:26 [@1:27 4@1:28 ]@1:29 Close@1:30 Finish@2:1"),
-    (b"#include <a \"b>\n#pragma omp \\\n 08 \"\nx", "x@4:1 Finish@4:2"),
+    (
+        b"#define N (1)",
+        "Define:N@1:9 (@1:11 1@1:12 )@1:13 Close@1:14 Finish@1:14",
+    ),
+    (
+        b" # /**/ pragma xmp nodes p[4]\n",
+        "Pragma@1:2 nodes@1:20 p@1:26 [@1:27 4@1:28 ]@1:29 Close@1:30 Finish@2:1",
+    ),
+    (
+        b"#include <a \"b>\n#pragma omp \\\n 08 \"\nx",
+        "x@4:1 Finish@4:2",
+    ),
     (b"#pragma once /* \n 08 */ 08\ny", "y@3:1 Finish@3:2"),
-    (b"#define N 1 \\\n + \\\r\n 2\nN", "Define:N@1:9 1@1:11 +@2:2 2@3:2 Close@3:3 N@4:1 Finish@4:2"),
-    (b"#define N 1 // c \\\n 2\nN", "Define:N@1:9 1@1:11 2@2:2 Close@2:3 N@3:1 Finish@3:2"),
-    (b"/* \n */ #define N\n", "Define:N@2:13 Close@2:14 Finish@3:1"),
+    (
+        b"#define N 1 \\\n + \\\r\n 2\nN",
+        "Define:N@1:9 1@1:11 +@2:2 2@3:2 Close@3:3 N@4:1 Finish@4:2",
+    ),
+    (
+        b"#define N 1 // c \\\n 2\nN",
+        "Define:N@1:9 1@1:11 2@2:2 Close@2:3 N@3:1 Finish@3:2",
+    ),
+    (
+        b"/* \n */ #define N\n",
+        "Define:N@2:13 Close@2:14 Finish@3:1",
+    ),
     (b"a /* \n */ #define N", "L1 at 2:5"),
     (b"a $", "L1 at 1:3"),
     (b"a # b", "L1 at 1:3"),
@@ -62,10 +98,16 @@ const EXPANDED: [(&[u8], &str); 9] = [
     (b"#define A B A\n#define B A\nA", "A@3:1 A@3:1 Finish@3:2"),
     (b"#define N 8\nN+N", "8@2:1 +@2:2 8@2:3 Finish@2:4"),
     (b"#define A B\n#define B \"b\"\n A", "\"b\"@3:2 Finish@3:3"),
-    (b"#define A B B\n#define B A 1\nA;", "A@3:1 1@3:1 A@3:1 1@3:1 ;@3:2 Finish@3:3"),
+    (
+        b"#define A B B\n#define B A 1\nA;",
+        "A@3:1 1@3:1 A@3:1 1@3:1 ;@3:2 Finish@3:3",
+    ),
     (b"N\n#define N 1\nN", "N@1:1 1@3:1 Finish@3:2"),
     (b"#define N\nN;", ";@2:2 Finish@2:3"),
-    (b"#define N 4\n#pragma xmp nodes p[N]\n", "Pragma@2:1 nodes@2:13 p@2:19 [@2:20 4@2:21 ]@2:22 Close@2:23 Finish@3:1"),
+    (
+        b"#define N 4\n#pragma xmp nodes p[N]\n",
+        "Pragma@2:1 nodes@2:13 p@2:19 [@2:20 4@2:21 ]@2:22 Close@2:23 Finish@3:1",
+    ),
     (b"#define N 1\n#define N 1", "E1 at 2:9"),
     (b"#define A\n#define B A\n  #define A 2\nB", "E1 at 3:11"),
 ];
@@ -115,7 +157,11 @@ fn show_fault(row: &mut String, fault: Fault) -> Result<(), Fail> {
     match fault {
         Fault::NoMemory => row.push_str("no memory")?,
         Fault::Refused(refusal) => {
-            let letter = if refusal.phase == Phase::Lex { 'L' } else { 'E' };
+            let letter = if refusal.phase == Phase::Lex {
+                'L'
+            } else {
+                'E'
+            };
             let (rule, at) = (refusal.rule, refusal.at);
             write!(row, "{letter}{rule} at {}:{}", at.line, at.column)?;
         }

@@ -1,9 +1,9 @@
 // The tokens of a text.
 ghost use Rattle.std.specs.Prelude.{◌≡◌, IfOk};
 
-use xmp_num::Ty;
 use std::alloc::Global;
 use xmp_base::{Bytes, NoMemory, Place};
+use xmp_num::Ty;
 
 /// A list of these bytes.
 pub fn bytes_of(alloc: Global, bytes: &[u8]) -> Result<Bytes, NoMemory>

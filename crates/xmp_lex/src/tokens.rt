@@ -8,10 +8,10 @@ use crate::bytes::{
     byte_at, escapes, from, front, has_suffix, is_digit, is_letter, number_of, run, text_end,
 };
 use crate::token::{TokenKind, bytes_of};
-use xmp_num::Ty;
 use crate::words::{mark_at, mark_text, word_of};
 use std::alloc::Global;
 use xmp_base::{Bytes, NoMemory};
+use xmp_num::Ty;
 
 /// Want of memory, or a rule that breaks, so many bytes on.
 #[derive(Clone, Copy, Debug, PartialEq, Eq)]

@@ -1,6 +1,6 @@
-use Rattle.std.proofs.Common.{◌≡◌, ◌<◌, ◌≤◌, ◌+◌, ◌*◌, ◌-◌, ◌++◌, ℕ, List, length, take, drop, get_or, refl, sym, ap, ◌∙◌, arith, subst, below_more, add-one, true, false, Bool, nat_le, ◌||◌, ◌==◌}
+use Rattle.std.proofs.Common.{sym, ◌∙◌, arith}
 use Rattle.xmp_lex.specs.declared.mode.Mode.TheVariants as mode
-use Rattle.xmp_lex.specs.Cut.{comment, unclosed_comment, close, skip, token, line_space, white}
+use Rattle.xmp_lex.specs.Cut.{close}
 use Rattle.xmp_lex.specs.Pieces.{splice}
 use Rattle.xmp_lex.proofs.CutLemmas.{not_white}
 use Rattle.xmp_lex.proofs.cut.in_line.Goals as goal

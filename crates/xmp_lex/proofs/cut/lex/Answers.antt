@@ -1,8 +1,4 @@
-use Rattle.std.proofs.Common.{◌≡◌, ◌<◌, ◌≤◌, ◌+◌, ◌*◌, ◌-◌, ◌++◌, ℕ, List, length, take, drop, get_or, refl, sym, ap, ◌∙◌, arith, subst, below_more, add-one, true, false, Bool, nat_le, ◌||◌, ◌==◌}
-use Rattle.std.proofs.lemmas.Grind.{common_steps}
-use Rattle.xmp_lex.specs.Cut.{IsRefused}
-use Rattle.xmp_lex.specs.declared.mode.Mode.TheVariants as mode
-use Rattle.xmp_lex.proofs.CutLemmas.{In, in_start, in_next, refused, passed, passed_last, cut_whole, nonempty, is_nil}
+use Rattle.xmp_lex.proofs.CutLemmas.{in_start, in_next, refused, passed, passed_last, cut_whole, nonempty, is_nil}
 use Rattle.xmp_lex.proofs.LineLemmas.{cut_finished, cut_closed}
 use Rattle.xmp_lex.proofs.cut.lex.Goals as goal
 

@@ -1,6 +1,6 @@
-use Rattle.std.proofs.Common.{◌≡◌, ◌<◌, ◌≤◌, ◌+◌, ◌*◌, ◌-◌, ◌++◌, ℕ, List, length, take, drop, get_or, refl, sym, ap, ◌∙◌, arith, subst, below_more, add-one, true, false, Bool, nat_le, ◌||◌, ◌==◌}
+use Rattle.std.proofs.Common.{arith}
 use Rattle.xmp_lex.specs.declared.mode.Mode.TheVariants as mode
-use Rattle.xmp_lex.specs.Cut.{comment, unclosed_comment, close, skip, token, line_space, white}
+use Rattle.xmp_lex.specs.Cut.{unclosed_comment, line_space}
 use Rattle.xmp_lex.proofs.cut.piece_at.Goals as goal
 
 pub returns-in-Unclosed-clause-err : goal.returns-in-Unclosed-clause-err

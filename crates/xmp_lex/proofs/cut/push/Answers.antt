@@ -1,4 +1,4 @@
-use Rattle.std.proofs.Common.{◌≡◌, arith, length}
+use Rattle.std.proofs.Common.{arith}
 use Rattle.xmp_lex.proofs.CutLemmas.{one_more}
 use Rattle.xmp_lex.proofs.cut.push.Goals as goal
 

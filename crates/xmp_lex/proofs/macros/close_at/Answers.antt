@@ -1,4 +1,4 @@
-use Rattle.std.proofs.Common.{◌≡◌, ◌<◌, ◌≤◌, ℕ, arith}
+use Rattle.std.proofs.Common.{arith}
 use Rattle.xmp_lex.proofs.CloseLemmas.{closes_not}
 use Rattle.xmp_lex.proofs.macros.close_at.Goals as goal
 

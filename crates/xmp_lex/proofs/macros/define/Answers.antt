@@ -1,4 +1,3 @@
-use Rattle.std.proofs.Common.{◌≡◌}
 use Rattle.xmp_lex.proofs.CloseLemmas.{defined}
 use Rattle.xmp_lex.proofs.macros.define.Goals as goal
 

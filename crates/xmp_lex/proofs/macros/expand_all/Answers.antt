@@ -1,4 +1,4 @@
-use Rattle.std.proofs.Common.{◌≡◌, refl, sym, ap, subst, [], ◌∷◌}
+use Rattle.std.proofs.Common.{refl, subst}
 use Rattle.xmp_lex.proofs.ExpandLemmas.{InText, text_next, text_end, text_breaks, expanded_finished}
 use Rattle.xmp_lex.proofs.macros.expand_all.Goals as goal
 

@@ -1,4 +1,4 @@
-use Rattle.std.proofs.Common.{◌≡◌, ◌∙◌, ◌++◌, [], ◌∷◌, sym, ap, subst, arith}
+use Rattle.std.proofs.Common.{◌∙◌, ◌++◌, [], ◌∷◌, ap, subst, arith}
 use Rattle.xmp_lex.specs.Output.{frame, frames}
 use Rattle.xmp_lex.proofs.UseLemmas.{InUse, frames_last, no_frames, use_start, use_next, use_end, use_stops}
 use Rattle.xmp_lex.proofs.macros.replace.Goals as goal

@@ -1,4 +1,4 @@
-use Rattle.std.proofs.Common.{◌≡◌, ◌∙◌, sym, ap, option_map}
+use Rattle.std.proofs.Common.{◌∙◌, ap, option_map}
 use Rattle.xmp_lex.specs.Expand.{body_of}
 use Rattle.xmp_lex.proofs.DefinitionLemmas.{got}
 use Rattle.xmp_lex.proofs.definitions.Definitions.body_of.Goals as goal

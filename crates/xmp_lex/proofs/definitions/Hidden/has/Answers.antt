@@ -1,4 +1,4 @@
-use Rattle.std.proofs.Common.{◌≡◌, ◌∙◌, sym, ap}
+use Rattle.std.proofs.Common.{◌∙◌, ap}
 use Rattle.std.specs.List.{list_any}
 use Rattle.xmp_lex.specs.Expand.{same}
 use Rattle.xmp_lex.proofs.DefinitionLemmas.{among}
