@@ -1,4 +1,5 @@
--- A text cut into tokens: pieces laid end to end, each the longest that can stand there. Source: ISO C 6.4 (4); the limit and the rules L1 to L6 are this project's.
+-- A text cut into tokens: pieces laid end to end, each the longest that can stand there. Source: ISO C 6.4 (4); the limit and the rules L1
+-- to L6 are this project's.
 use Rattle.std.specs.Prelude.{◌≡◌, ◌≢◌, ◌≤◌, ◌<◌, ◌+◌, ◌==◌, ℕ, List, [], ◌∷◌, ◌++◌, length, Bool, true, false, map, take, drop, slice_index, slice_get, Some, ⊤}
 use Rattle.xmp_base.specs.declared.place.Place.{Place}
 use Rattle.xmp_lex.specs.declared.token.Token.{Token}
@@ -49,7 +50,8 @@ abbrev pub at_end : Mode → List TokenKind
 at_end mode.Directive = t.Close ∷ []
 at_end _ = []
 
--- One piece at the front, where the line stands so: its length, the tokens that it gives, each with the byte at which it begins, and how the line goes on.
+-- One piece at the front, where the line stands so: its length, the tokens that it gives, each with the byte at which it begins, and how
+-- the line goes on.
 pub data Piece (text : List ℕ) : Mode → ℕ → List (ℕ × TokenKind) → Mode → Type 0 where
   white : (x : Mode) → IsOutside x → is_white (slice_index text 0) ≡ true → Piece text x 1 [] (behind_white x (slice_index text 0 == 10))
   comment : (x : Mode) (n : ℕ) → IsOutside x → Comment text n → Piece text x n [] x
@@ -62,8 +64,10 @@ pub data Piece (text : List ℕ) : Mode → ℕ → List (ℕ × TokenKind) → 
 -- No piece is at the front: the rule L that breaks, and how many bytes on.
 pub data Broken (text : List ℕ) : Mode → ℕ → ℕ → Type 0 where
   unclosed_comment : (x : Mode) → Unclosed text → Broken text x 2 0
-  no_form : slice_index text 0 ≡ 35 → ((n : ℕ) (out : List (ℕ × TokenKind)) (y : Mode) → LineForm text n out y → ⊥) → Broken text mode.Start 6 0
-  no_token : (x : Mode) (rule k : ℕ) → x ≢ mode.Ignored → (x ≡ mode.Start → slice_index text 0 ≢ 35) → (x ≡ mode.Directive → (n : ℕ) → Splice text n → ⊥) → Malformed text rule k → Broken text x rule k
+  no_form : slice_index text 0 ≡ 35 → ((n : ℕ) (out : List (ℕ × TokenKind)) (y : Mode) → LineForm text n out y → ⊥)
+      → Broken text mode.Start 6 0
+  no_token : (x : Mode) (rule k : ℕ) → x ≢ mode.Ignored → (x ≡ mode.Start → slice_index text 0 ≢ 35)
+      → (x ≡ mode.Directive → (n : ℕ) → Splice text n → ⊥) → Malformed text rule k → Broken text x rule k
 
 -- tokens with their places
 abbrev pub placed : Place → List ℕ → List (ℕ × TokenKind) → List Token
@@ -87,7 +91,8 @@ after f n out x = record { tokens = f.tokens ++ placed f.at f.rest out; at = beh
 -- Pieces laid end to end: a text is cut so far.
 pub data Cuts (text : List ℕ) : Front → Type 0 where
   none : Cuts text (start text)
-  piece : (f : Front) (n : ℕ) (out : List (ℕ × TokenKind)) (x : Mode) → Cuts text f → 0 < length f.rest → Piece f.rest f.mode n out x → Cuts text (after f n out x)
+  piece : (f : Front) (n : ℕ) (out : List (ℕ × TokenKind)) (x : Mode) → Cuts text f → 0 < length f.rest → Piece f.rest f.mode n out x
+      → Cuts text (after f n out x)
 
 -- the most tokens that a text may have, before and after expansion
 abbrev pub token_limit : ℕ
@@ -111,10 +116,13 @@ pub record Cut (text : List ℕ) (tokens : List Token) : Type 0 where
 
 -- A rule L breaks at this place, behind pieces that break none: no piece can stand there, or one token too many does.
 pub data BreaksLexRule (text : List ℕ) : ℕ → Place → Type 0 where
-  broken : (f : Front) (rule k : ℕ) → Cuts text f → length f.tokens ≤ token_limit → 0 < length f.rest → Broken f.rest f.mode rule k → BreaksLexRule text rule (behind f.at (take k f.rest))
-  too_many : (f : Front) (n : ℕ) (out : List (ℕ × TokenKind)) (x : Mode) (bad : Token) → Cuts text f → length f.tokens ≤ token_limit → 0 < length f.rest → Piece f.rest f.mode n out x
+  broken : (f : Front) (rule k : ℕ) → Cuts text f → length f.tokens ≤ token_limit → 0 < length f.rest → Broken f.rest f.mode rule k
+      → BreaksLexRule text rule (behind f.at (take k f.rest))
+  too_many : (f : Front) (n : ℕ) (out : List (ℕ × TokenKind)) (x : Mode) (bad : Token) → Cuts text f → length f.tokens ≤ token_limit
+      → 0 < length f.rest → Piece f.rest f.mode n out x
       → slice_get (f.tokens ++ placed f.at f.rest out) token_limit ≡ Some bad → BreaksLexRule text 5 bad.at
-  too_many_last : (f : Front) (bad : Token) → Cuts text f → length f.tokens ≤ token_limit → f.rest ≡ [] → slice_get (last f) token_limit ≡ Some bad → BreaksLexRule text 5 bad.at
+  too_many_last : (f : Front) (bad : Token) → Cuts text f → length f.tokens ≤ token_limit → f.rest ≡ []
+      → slice_get (last f) token_limit ≡ Some bad → BreaksLexRule text 5 bad.at
 
 -- The refusal of a text by a rule L, and want of memory, which no clause ties to anything.
 abbrev pub IsRefused : List ℕ → Fault → Type 0

@@ -39,12 +39,16 @@ pub data Event : Type 0 where
   used : Place → Event
   again : Place → Event
 
--- Tokens with no definition among them, where these names are hidden: a name that is replaced stands before the tokens that it gives, and is hidden in them.
+-- Tokens with no definition among them, where these names are hidden: a name that is replaced stands before the tokens that it gives, and
+-- is hidden in them.
 pub data Replaces (known : List Definition) : List (List ℕ) → List Token → List Event → Type 0 where
   done : (hidden : List (List ℕ)) → Replaces known hidden [] []
-  keep : (hidden : List (List ℕ)) (x : Token) (ts : List Token) (es : List Event) → definition_of known hidden x.kind ≡ None → Replaces known hidden ts es → Replaces known hidden (x ∷ ts) (out x ∷ es)
-  replace : (hidden : List (List ℕ)) (x : Token) (d : Definition) (ts : List Token) (inner es : List Event) → definition_of known hidden x.kind ≡ Some d
-      → Replaces known (d.0 ∷ hidden) (moved x.at d.1) inner → Replaces known hidden ts es → Replaces known hidden (x ∷ ts) (used x.at ∷ inner ++ es)
+  keep : (hidden : List (List ℕ)) (x : Token) (ts : List Token) (es : List Event) → definition_of known hidden x.kind ≡ None
+      → Replaces known hidden ts es → Replaces known hidden (x ∷ ts) (out x ∷ es)
+  replace : (hidden : List (List ℕ)) (x : Token) (d : Definition) (ts : List Token) (inner es : List Event)
+      → definition_of known hidden x.kind ≡ Some d
+      → Replaces known (d.0 ∷ hidden) (moved x.at d.1) inner → Replaces known hidden ts es
+      → Replaces known hidden (x ∷ ts) (used x.at ∷ inner ++ es)
 
 -- the start of a definition
 abbrev pub IsDefine : TokenKind → Type 0
@@ -58,10 +62,13 @@ IsBody body = All (λ x. x.kind ≢ t.Close) body
 -- The tokens of a text, behind these definitions: a definition serves what follows it, and gives no token.
 pub data Expands : List Definition → List Token → List Event → Type 0 where
   end : (known : List Definition) → Expands known [] []
-  token : (known : List Definition) (x : Token) (ts : List Token) (inner es : List Event) → (IsDefine x.kind → ⊥) → Replaces known [] (x ∷ []) inner → Expands known ts es → Expands known (x ∷ ts) (inner ++ es)
-  define : (known : List Definition) (x close : Token) (name : List ℕ) (body ts : List Token) (es : List Event) → x.kind ≡ t.Define name → body_of known name ≡ None → IsBody body → close.kind ≡ t.Close
+  token : (known : List Definition) (x : Token) (ts : List Token) (inner es : List Event) → (IsDefine x.kind → ⊥)
+      → Replaces known [] (x ∷ []) inner → Expands known ts es → Expands known (x ∷ ts) (inner ++ es)
+  define : (known : List Definition) (x close : Token) (name : List ℕ) (body ts : List Token) (es : List Event) → x.kind ≡ t.Define name
+      → body_of known name ≡ None → IsBody body → close.kind ≡ t.Close
       → Expands (known ++ (name, body) ∷ []) ts es → Expands known (x ∷ (body ++ close ∷ ts)) es
-  define_again : (known : List Definition) (x close : Token) (name : List ℕ) (old body ts : List Token) (es : List Event) → x.kind ≡ t.Define name → body_of known name ≡ Some old → IsBody body → close.kind ≡ t.Close
+  define_again : (known : List Definition) (x close : Token) (name : List ℕ) (old body ts : List Token) (es : List Event)
+      → x.kind ≡ t.Define name → body_of known name ≡ Some old → IsBody body → close.kind ≡ t.Close
       → Expands known ts es → Expands known (x ∷ (body ++ close ∷ ts)) (again x.at ∷ es)
 
 -- the tokens that stay
@@ -91,7 +98,8 @@ pub record IsFine (es : List Event) : Type 0 where
 -- The first event at which a rule E breaks: the rule, and the event's place.
 pub data BreaksMacroRule (es : List Event) : ℕ → Place → Type 0 where
   twice : (before after : List Event) (at : Place) → es ≡ before ++ again at ∷ after → IsFine before → BreaksMacroRule es 1 at
-  too_many : (before after : List Event) (e : Event) → es ≡ before ++ e ∷ after → counts e ≡ true → IsFine before → length before ≡ token_limit → BreaksMacroRule es 2 (place_of e)
+  too_many : (before after : List Event) (e : Event) → es ≡ before ++ e ∷ after → counts e ≡ true → IsFine before
+      → length before ≡ token_limit → BreaksMacroRule es 2 (place_of e)
 
 -- The expansion of a text's tokens.
 pub record Expanded (tokens result : List Token) : Type 0 where

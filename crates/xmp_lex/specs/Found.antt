@@ -64,7 +64,8 @@ IsMeaning text n (meaning.Unknown k) = (k < n) × IsBadEscape text k × ((j : �
 
 -- a piece and a broken rule, as the code finds them
 abbrev pub IsPiece : List ℕ → Mode → NextPiece → Type 0
-IsPiece text x c = Piece text x c.length (option_to_list c.token) c.mode × (c.length ≤ length text) × (1 ≤ c.length) × IfSome c.token (λ o. o.0 ≤ length text)
+IsPiece text x c = Piece text x c.length (option_to_list c.token) c.mode × (c.length ≤ length text) × (1 ≤ c.length)
+    × IfSome c.token (λ o. o.0 ≤ length text)
 
 abbrev pub IsBroken : List ℕ → Mode → PieceError → Type 0
 IsBroken text x error.NoMemory = ⊤
@@ -73,7 +74,8 @@ IsBroken text x (error.Rule rule k) = Broken text x rule k × (k ≤ length text
 -- putting down these tokens passes the limit
 abbrev pub IsTooMany : List Token → List Token → Fault → Type 0
 IsTooMany old new fault.NoMemory = ⊤
-IsTooMany old new (fault.Refused r) = (r.phase ≡ phase.Lex) × (r.rule ≡ 5) × ((bad : Token) × (slice_get (old ++ new) token_limit ≡ Some bad) × (r.at ≡ bad.at))
+IsTooMany old new (fault.Refused r) = (r.phase ≡ phase.Lex) × (r.rule ≡ 5)
+    × ((bad : Token) × (slice_get (old ++ new) token_limit ≡ Some bad) × (r.at ≡ bad.at))
 
 abbrev pub is_directive : Mode → Bool
 is_directive mode.Directive = true

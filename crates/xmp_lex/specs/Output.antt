@@ -36,12 +36,14 @@ pub record Puts (P : List Event → Type 0) (old new : Output) : Type 0 where
 -- events of which P holds are too many
 abbrev pub Overflows : (List Event → Type 0) → Output → Place → Fault → Type 0
 Overflows P old at fault.NoMemory = ⊤
-Overflows P old at (fault.Refused r) = (fault.Refused r ≡ breaks_macro 2 at) × ((events : List Event) × P events × (token_limit < old.count + length events))
+Overflows P old at (fault.Refused r) = (fault.Refused r ≡ breaks_macro 2 at)
+    × ((events : List Event) × P events × (token_limit < old.count + length events))
 
 -- What is still to come from the uses that stand open, the outermost first, each with its name and the tokens that it has left.
 pub data Pending (known : List Definition) (at : Place) : List (List ℕ) → List Definition → List Event → Type 0 where
   none : (hidden : List (List ℕ)) → Pending known at hidden [] []
-  within : (hidden : List (List ℕ)) (use_ : Definition) (uses : List Definition) (inner es : List Event) → Pending known at (use_.0 ∷ hidden) uses inner
+  within : (hidden : List (List ℕ)) (use_ : Definition) (uses : List Definition) (inner es : List Event)
+      → Pending known at (use_.0 ∷ hidden) uses inner
       → Replaces known (use_.0 ∷ hidden) (moved at use_.1) es → Pending known at hidden (use_ ∷ uses) (inner ++ es)
 
 abbrev pub names_of : List Definition → List (List ℕ)

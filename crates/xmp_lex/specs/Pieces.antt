@@ -1,4 +1,5 @@
--- The pieces that a text is cut into: what stands at the front of a text, n bytes long. Source: ISO C 6.4 (4), the longest token, 6.4.9, comments, and 6.10, lines that begin with `#`.
+-- The pieces that a text is cut into: what stands at the front of a text, n bytes long. Source: ISO C 6.4 (4), the longest token, 6.4.9,
+-- comments, and 6.10, lines that begin with `#`.
 use Rattle.std.specs.Prelude.{◌≡◌, ◌≢◌, ◌<◌, ◌+◌, ◌-◌, ◌==◌, ◌&&◌, ◌||◌, ℕ, List, [], ◌∷◌, length, Bool, true, false, nat_le, codes, pos, take, drop, slice_index}
 use Rattle.xmp_lex.specs.declared.token.TokenKind.{TokenKind}
 use Rattle.xmp_lex.specs.declared.token.TokenKind.TheVariants as t
@@ -25,16 +26,22 @@ IsLineStart text = (slice_index text 0 ≡ 47) × (slice_index text 1 ≡ 47)
 
 -- The token at the front, the longest that its class allows. A number is long with a suffix or from 2^31 on.
 pub data Spelled (text : List ℕ) : ℕ → TokenKind → Type 0 where
-  name : (n : ℕ) → is_letter (slice_index text 0) ≡ true → IsRun text n → ((r : Reserved) → take n text ≢ word_text r) → Spelled text n (t.Name (take n text))
-  word : (n : ℕ) (r : Reserved) → is_letter (slice_index text 0) ≡ true → IsRun text n → take n text ≡ word_text r → Spelled text n (t.Word r)
-  number : (n v : ℕ) → is_digit (slice_index text 0) ≡ true → IsRun text n → IsNumber (take n text) v → Spelled text n (t.Number (pos v) (type_of (has_suffix (take n text) || nat_le 2147483648 v)))
-  quoted : (k n : ℕ) → slice_index text 0 ≡ 34 → IsTextEnd (drop 1 text) k → slice_index (drop 1 text) k ≡ 34 → ((j : ℕ) → j < k → IsBadEscape (drop 1 text) j → ⊥) → n ≡ k + 2
+  name : (n : ℕ) → is_letter (slice_index text 0) ≡ true → IsRun text n → ((r : Reserved) → take n text ≢ word_text r)
+      → Spelled text n (t.Name (take n text))
+  word : (n : ℕ) (r : Reserved) → is_letter (slice_index text 0) ≡ true → IsRun text n → take n text ≡ word_text r
+      → Spelled text n (t.Word r)
+  number : (n v : ℕ) → is_digit (slice_index text 0) ≡ true → IsRun text n → IsNumber (take n text) v
+      → Spelled text n (t.Number (pos v) (type_of (has_suffix (take n text) || nat_le 2147483648 v)))
+  quoted : (k n : ℕ) → slice_index text 0 ≡ 34 → IsTextEnd (drop 1 text) k → slice_index (drop 1 text) k ≡ 34
+      → ((j : ℕ) → j < k → IsBadEscape (drop 1 text) j → ⊥) → n ≡ k + 2
       → Spelled text n (t.Text (content (drop 1 text) k))
-  mark : (n : ℕ) (x : Mark) → (IsBlockStart text → ⊥) → (IsLineStart text → ⊥) → IsMark text x → n ≡ length (mark_text x) → Spelled text n (t.Mark x)
+  mark : (n : ℕ) (x : Mark) → (IsBlockStart text → ⊥) → (IsLineStart text → ⊥) → IsMark text x → n ≡ length (mark_text x)
+      → Spelled text n (t.Mark x)
 
 -- No token is at the front: the rule L that breaks, and how many bytes on.
 pub data Malformed (text : List ℕ) : ℕ → ℕ → Type 0 where
-  stray : 0 < length text → is_white (slice_index text 0) ≡ false → is_word (slice_index text 0) ≡ false → slice_index text 0 ≢ 34 → ((x : Mark) → BeginsWith text (mark_text x) → ⊥) → Malformed text 1 0
+  stray : 0 < length text → is_white (slice_index text 0) ≡ false → is_word (slice_index text 0) ≡ false → slice_index text 0 ≢ 34
+      → ((x : Mark) → BeginsWith text (mark_text x) → ⊥) → Malformed text 1 0
   unknown_escape : (n k : ℕ) → slice_index text 0 ≡ 34 → IsTextEnd (drop 1 text) n → slice_index (drop 1 text) n ≡ 34
       → k < n → IsBadEscape (drop 1 text) k → ((j : ℕ) → j < k → IsBadEscape (drop 1 text) j → ⊥) → Malformed text 1 k
   unclosed : (n : ℕ) → slice_index text 0 ≡ 34 → IsTextEnd (drop 1 text) n → slice_index (drop 1 text) n ≢ 34 → Malformed text 3 0

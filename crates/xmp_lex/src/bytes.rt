@@ -1,5 +1,5 @@
 //! First places in a text.
-ghost use Rattle.std.specs.Prelude.{◌≡◌, ◌+◌, ◌-◌, ◌*◌, ◌<◌, ◌≤◌, ℕ, MatchOption, length, slice_index, pos, ◌||◌, nat_le, take, drop};
+ghost use Rattle.std.specs.Prelude.{◌≡◌, ◌+◌, ◌-◌, ◌*◌, ◌<◌, ◌≤◌, ℕ, MatchOption, length, slice_index, ◌||◌, take, drop};
 ghost use Rattle.xmp_lex.specs.Bytes.{is_white, is_digit, is_letter, is_word, IsRun, IsLine, IsBlock, IsClose, IsTextEnd, IsNumber, digit, is_end, escapes, IsValue, has_suffix, body, is_hex, digits_of, base_of};
 
 /// The byte at a place, or 0 past the end.

@@ -1,5 +1,5 @@
 //! A text cut into tokens.
-ghost use Rattle.std.specs.Prelude.{◌≡◌, ◌≢◌, ◌+◌, ◌<◌, ◌≤◌, ℕ, IfOk, IfErr, IfSome, option_to_list, OnOk, [], ◌∷◌, length, slice_index, drop, take, false, true, ◌++◌, ◌==◌, None, ◌^◌};
+ghost use Rattle.std.specs.Prelude.{◌≡◌, ◌≢◌, ◌+◌, ◌<◌, ◌≤◌, ℕ, IfOk, IfErr, IfSome, option_to_list, OnOk, [], ◌∷◌, length, slice_index, false, true, ◌++◌, ◌==◌, None, ◌^◌};
 ghost use Rattle.xmp_lex.specs.Bytes.{is_white};
 ghost use Rattle.xmp_lex.specs.Pieces.{Splice, IsBlockStart, IsLineStart};
 ghost use Rattle.xmp_lex.specs.Found.{IsLineSpace};
@@ -213,7 +213,8 @@ fn refused(rule: u16, at: Place) -> Fault
 /// Puts down a token, where it is not one too many.
 fn push(tokens: &mut Vec<Token>, kind: TokenKind, at: Place) -> Result<(), Fault>
     requires { length tokens.old.items ≤ 200000 }
-    ensures ok { OnOk result ((tokens.new.items ≡ tokens.old.items ++ record { kind = kind; at = at } ∷ []) × (length tokens.new.items ≤ 200000)) }
+    ensures ok { OnOk result ((tokens.new.items ≡ tokens.old.items ++ record { kind = kind; at = at } ∷ [])
+        × (length tokens.new.items ≤ 200000)) }
     ensures err { IfErr result (λ e. IsTooMany tokens.old.items (record { kind = kind; at = at } ∷ []) e) }
 {
     if tokens.len() == 200000 {
@@ -236,7 +237,8 @@ fn put(
     requires within { IfSome token (λ o. o.0 ≤ length rest.now) }
     requires line { at.line + length rest.now < 2 ^ 31 }
     requires column { at.column + length rest.now < 2 ^ 31 }
-    ensures ok { OnOk result ((tokens.new.items ≡ tokens.old.items ++ placed at rest.now (option_to_list token)) × (length tokens.new.items ≤ 200000)) }
+    ensures ok { OnOk result ((tokens.new.items ≡ tokens.old.items ++ placed at rest.now (option_to_list token))
+        × (length tokens.new.items ≤ 200000)) }
     ensures err { IfErr result (λ e. IsTooMany tokens.old.items (placed at rest.now (option_to_list token)) e) }
 {
     match token {

@@ -1,7 +1,7 @@
 // The definitions of a text, and the names that are hidden in a replacement.
-ghost use Rattle.std.specs.Prelude.{◌≡◌, ◌++◌, [], ◌∷◌, List, ℕ, Option, None, Some, OnOk, option_map, option_to_list, map, false};
+ghost use Rattle.std.specs.Prelude.{◌≡◌, ◌++◌, [], ◌∷◌, List, ℕ, Option, None, Some, OnOk, option_map, map, false};
 ghost use Rattle.std.specs.List.{list_any};
-ghost use Rattle.xmp_lex.specs.Expand.{Definition, same, body_of, definition_of};
+ghost use Rattle.xmp_lex.specs.Expand.{Definition, same, body_of};
 
 use crate::token::{Token, TokenKind};
 use indexmap::{IndexMap, IndexSet};

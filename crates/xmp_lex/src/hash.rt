@@ -1,5 +1,5 @@
 //! `#` lines.
-ghost use Rattle.std.specs.Prelude.{◌≡◌, ◌+◌, ◌<◌, ◌≤◌, ℕ, IfOk, IfErr, length, slice_index, drop, codes, true, false, ◌≢◌};
+ghost use Rattle.std.specs.Prelude.{◌≡◌, ◌+◌, ◌<◌, ◌≤◌, IfOk, IfErr, length, slice_index, drop, codes, true, false, ◌≢◌};
 ghost use Rattle.xmp_lex.specs.declared.mode.Mode.TheVariants.{Start};
 ghost use Rattle.xmp_lex.specs.Pieces.{LineSpaces, LineHead};
 ghost use Rattle.xmp_lex.specs.Found.{IsPiece, IsBroken};

@@ -23,7 +23,8 @@ pub fn cut_or_refused()
 
 /// A text is refused by one rule L at one place.
 pub fn one_lex_refusal()
-    ensures { (text : List ℕ) (rule other : ℕ) (at place : Place) → BreaksLexRule text rule at → BreaksLexRule text other place → (rule ≡ other) × (at ≡ place) }
+    ensures { (text : List ℕ) (rule other : ℕ) (at place : Place) → BreaksLexRule text rule at → BreaksLexRule text other place
+        → (rule ≡ other) × (at ≡ place) }
 {}
 
 /// Tokens whose definitions are closed come to something.
@@ -43,5 +44,6 @@ pub fn expanded_or_refused()
 
 /// Tokens are refused by one rule E at one place.
 pub fn one_macro_refusal()
-    ensures { (tokens : List Token) (rule other : ℕ) (at place : Place) → BreaksMacros tokens rule at → BreaksMacros tokens other place → (rule ≡ other) × (at ≡ place) }
+    ensures { (tokens : List Token) (rule other : ℕ) (at place : Place) → BreaksMacros tokens rule at → BreaksMacros tokens other place
+        → (rule ≡ other) × (at ≡ place) }
 {}

@@ -1,5 +1,5 @@
 // Macros are replaced.
-ghost use Rattle.std.specs.Prelude.{◌≡◌, ◌≢◌, ◌+◌, ◌<◌, ◌≤◌, [], ◌∷◌, ◌++◌, ℕ, List, IfOk, IfErr, OnOk, length, map, option_map, MatchOption, slice_index_or, slice_get, Some, false};
+ghost use Rattle.std.specs.Prelude.{◌≡◌, ◌+◌, ◌<◌, ◌≤◌, [], ◌∷◌, ◌++◌, IfOk, IfErr, OnOk, option_map, MatchOption, Some, false};
 ghost use Rattle.std.specs.List.{list_any};
 ghost use Rattle.xmp_lex.specs.Expand.{same, out, used, Replaces, moved, definition_of, Expanded, IsMacroRefusal};
 ghost use Rattle.xmp_lex.specs.Lines.{IsFinished, IsClosed, Closes, IsClosedBehind};
@@ -80,7 +80,8 @@ fn advance<'a>(
 ) -> Result<(), Fault>
     requires few { output.old.count ≤ 200000 }
     requires names { hidden.old ≡ names_of (frames uses.old.items ++ frame current ∷ []) }
-    ensures ok { OnOk result (Advances definitions.now at (frames uses.old.items ++ frame current.entry ∷ []) (frames uses.new.items) hidden.new output.old output.new) }
+    ensures ok { OnOk result (Advances definitions.now at (frames uses.old.items ++ frame current.entry ∷ [])
+        (frames uses.new.items) hidden.new output.old output.new) }
     ensures err { IfErr result (IsStopped output.old.count current.entry.rest.now at) }
 {
     match front(current.rest) {

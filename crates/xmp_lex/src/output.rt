@@ -26,7 +26,7 @@ pub fn refused(rule: u16, at: Place) -> Fault
     })
 }
 
-/// Counts a name that is replaced, or a token, where it is not one too many.
+/// Counts a name that is replaced, where it is not one too many.
 pub fn count_name(output: &mut Output, at: Place) -> Result<(), Fault>
     requires { output.old.count ≤ 200000 }
     ensures ok { OnOk result (PutsOut (used at ∷ []) output.old output.new) }

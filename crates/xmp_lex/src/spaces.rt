@@ -1,5 +1,5 @@
 //! White space and comments.
-ghost use Rattle.std.specs.Prelude.{◌≡◌, ◌+◌, ◌-◌, ◌<◌, ◌≤◌, ℕ, MatchOption, length, slice_index, drop, take};
+ghost use Rattle.std.specs.Prelude.{◌≡◌, ◌+◌, ◌-◌, ◌<◌, ◌≤◌, ℕ, MatchOption, length, slice_index};
 ghost use Rattle.xmp_lex.specs.declared.spaces.Found.TheVariants.{Nothing, Some};
 ghost use Rattle.xmp_lex.specs.Pieces.{LineSpaces, is_spliced, Splice, IsBlockStart, IsLineStart};
 ghost use Rattle.xmp_lex.specs.Found.{IsLineSpace, IsComment};

@@ -1,7 +1,7 @@
 //! The token at the front of a text.
-ghost use Rattle.std.specs.Prelude.{◌≡◌, ◌≢◌, ◌+◌, ◌-◌, ◌<◌, ◌≤◌, ℕ, MatchOption, MatchResult, IfOk, IfErr, OnOk, length, slice_index, drop, take, false, true, ◌||◌, nat_le, ◌++◌};
-ghost use Rattle.xmp_lex.specs.Bytes.{is_white, is_digit, is_letter, is_word, has_suffix, IsTextEnd, content, content_of, escape_value, escaped, IsBadEscape};
-ghost use Rattle.xmp_lex.specs.Pieces.{Spelled, Malformed, IsBlockStart, IsLineStart, type_of};
+ghost use Rattle.std.specs.Prelude.{◌≡◌, ◌≢◌, ◌+◌, ◌-◌, ◌<◌, ◌≤◌, IfOk, IfErr, length, slice_index, false, true, ◌||◌, nat_le};
+ghost use Rattle.xmp_lex.specs.Bytes.{is_white, is_digit, is_letter, is_word, has_suffix, escape_value, escaped};
+ghost use Rattle.xmp_lex.specs.Pieces.{IsBlockStart, IsLineStart, type_of};
 ghost use Rattle.xmp_lex.specs.Found.{Taken, IsMalformed, IsMeaning, Pushed};
 
 use crate::bytes::{

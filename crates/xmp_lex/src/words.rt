@@ -1,5 +1,5 @@
 //! Marks and reserved words.
-ghost use Rattle.std.specs.Prelude.{◌≡◌, MatchOption, codes, length, take};
+ghost use Rattle.std.specs.Prelude.{◌≡◌, MatchOption, length};
 ghost use Rattle.xmp_lex.specs.Words.{mark_text, word_text, BeginsWith, IsMark};
 ghost use Rattle.xmp_lex.specs.Found.{IsNone, IsFirst};
 ghost use Rattle.xmp_lex.specs.declared.token.Mark.{Mark};
