@@ -1,0 +1,5 @@
+use Rattle.xmp_lex.proofs.NeverBoth as lemmas
+use Rattle.xmp_lex.proofs.laws.one_lex_refusal.Goals as goal
+
+pub returns : goal.returns
+returns c = lemmas.one_refusal

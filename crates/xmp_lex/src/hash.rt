@@ -1,0 +1,135 @@
+//! `#` lines.
+ghost use Rattle.std.specs.Prelude.{◌≡◌, ◌+◌, ◌<◌, ◌≤◌, IfOk, IfErr, length, slice_index, drop, codes, true, false, ◌≢◌};
+ghost use Rattle.xmp_lex.specs.declared.mode.Mode.TheVariants.{Start};
+ghost use Rattle.xmp_lex.specs.Pieces.{LineSpaces, LineHead};
+ghost use Rattle.xmp_lex.specs.Found.{IsPiece, IsBroken};
+
+use crate::bytes::{byte_at, from, front, is_letter, run};
+use crate::cut::NextPiece;
+use crate::mode::Mode;
+use crate::spaces::line_spaces;
+use crate::token::{TokenKind, bytes_of};
+use crate::tokens::PieceError;
+use crate::words::word_of;
+use std::alloc::Global;
+
+/// The head of a `#` line.
+pub fn hash(alloc: Global, text: &[u8]) -> Result<NextPiece, PieceError>
+    requires begins { slice_index text.now 0 ≡ 35 }
+    requires some { 0 < length text.now }
+    ensures ok { IfOk result (λ c. IsPiece text.now Start c) }
+    ensures err { IfErr result (λ e. IsBroken text.now Start e) }
+{
+    match line_spaces(from(text, 1)) {
+        None => Err(PieceError::Rule(6, 0)),
+        Some(first) => behind_hash(alloc, text, first),
+    }
+}
+
+fn behind_hash(alloc: Global, text: &[u8], first: usize) -> Result<NextPiece, PieceError>
+    requires begins { slice_index text.now 0 ≡ 35 }
+    requires line_spaces { LineSpaces (drop 1 text.now) first }
+    requires within { 1 + first ≤ length text.now }
+    ensures ok { IfOk result (λ c. IsPiece text.now Start c) }
+    ensures err { IfErr result (λ e. IsBroken text.now Start e) }
+{
+    let on = from(text, 1 + first);
+    let n = run(on);
+    match line_spaces(from(text, 1 + first + n)) {
+        None => Err(PieceError::Rule(6, 0)),
+        Some(second) => form(alloc, text, 1 + first + n + second, front(on, n)),
+    }
+}
+
+fn is(word: &[u8], other: &[u8]) -> bool
+    ensures yes { result ≡ true → word.now ≡ other.now }
+    ensures no { result ≡ false → word.now ≢ other.now }
+{
+    word == other
+}
+
+/// The form of a `#` line, by its word.
+fn form(alloc: Global, text: &[u8], n: usize, word: &[u8]) -> Result<NextPiece, PieceError>
+    requires head { LineHead text.now n word.now }
+    requires within { n ≤ length text.now }
+    ensures ok { IfOk result (λ c. IsPiece text.now Start c) }
+    ensures err { IfErr result (λ e. IsBroken text.now Start e) }
+{
+    if is(word, b"define".as_slice()) {
+        return define(alloc, text, n);
+    }
+    if is(word, b"include".as_slice()) {
+        return include(text, n);
+    }
+    if is(word, b"pragma".as_slice()) {
+        return Ok(pragma(text, n));
+    }
+    Err(PieceError::Rule(6, 0))
+}
+
+fn include(text: &[u8], n: usize) -> Result<NextPiece, PieceError>
+    requires head { LineHead text.now n (codes "include") }
+    requires within { n ≤ length text.now }
+    ensures ok { IfOk result (λ c. IsPiece text.now Start c) }
+    ensures err { IfErr result (λ e. IsBroken text.now Start e) }
+{
+    if byte_at(from(text, n), 0) == b'<' {
+        Ok(NextPiece {
+            length: n,
+            token: None,
+            mode: Mode::Ignored,
+        })
+    } else {
+        Err(PieceError::Rule(6, 0))
+    }
+}
+
+fn pragma(text: &[u8], n: usize) -> NextPiece
+    requires head { LineHead text.now n (codes "pragma") }
+    requires within { n ≤ length text.now }
+    ensures { IsPiece text.now Start result }
+{
+    let after = from(text, n);
+    let k = run(after);
+    if is(front(after, k), b"xmp".as_slice()) {
+        NextPiece {
+            length: n + k,
+            token: Some((0, TokenKind::Pragma)),
+            mode: Mode::Directive,
+        }
+    } else {
+        NextPiece {
+            length: n,
+            token: None,
+            mode: Mode::Ignored,
+        }
+    }
+}
+
+fn define(alloc: Global, text: &[u8], n: usize) -> Result<NextPiece, PieceError>
+    requires head { LineHead text.now n (codes "define") }
+    requires within { n ≤ length text.now }
+    ensures ok { IfOk result (λ c. IsPiece text.now Start c) }
+    ensures err { IfErr result (λ e. IsBroken text.now Start e) }
+{
+    let after = from(text, n);
+    if !is_letter(byte_at(after, 0)) {
+        return Err(PieceError::Rule(6, 0));
+    }
+    let k = run(after);
+    if byte_at(after, k) == b'(' {
+        return Err(PieceError::Rule(6, 0));
+    }
+    let name = front(after, k);
+    match word_of(name) {
+        Some(_) => Err(PieceError::Rule(6, 0)),
+        None => match bytes_of(alloc, name) {
+            Err(_) => Err(PieceError::NoMemory),
+            Ok(name) => Ok(NextPiece {
+                length: n + k,
+                token: Some((n, TokenKind::Define(name))),
+                mode: Mode::Directive,
+            }),
+        },
+    }
+}

@@ -1,0 +1,61 @@
+// What expansion puts out.
+ghost use Rattle.std.specs.Prelude.{◌≡◌, ◌+◌, ◌≤◌, [], ◌∷◌, OnOk, IfErr};
+ghost use Rattle.xmp_lex.specs.Expand.{out, used};
+ghost use Rattle.xmp_lex.specs.Output.{breaks_macro, IsFull, PutsOut};
+ghost use Rattle.xmp_lex.specs.declared.output.Output.{Output};
+
+use crate::token::{Token, TokenKind};
+use std::alloc::Global;
+use xmp_base::{Fault, Phase, Place, Refusal};
+
+/// The tokens so far, and how many they and the replaced names are.
+#[derive(Drop)]
+pub struct Output {
+    pub tokens: Vec<Token>,
+    pub count: usize,
+}
+
+/// The refusal by a rule E.
+pub fn refused(rule: u16, at: Place) -> Fault
+    ensures { result ≡ breaks_macro rule at }
+{
+    Fault::Refused(Refusal {
+        phase: Phase::Macro,
+        rule,
+        at,
+    })
+}
+
+/// Counts a name that is replaced, where it is not one too many.
+pub fn count_name(output: &mut Output, at: Place) -> Result<(), Fault>
+    requires { output.old.count ≤ 200000 }
+    ensures ok { OnOk result (PutsOut (used at ∷ []) output.old output.new) }
+    ensures err { IfErr result (IsFull output.old.count at) }
+{
+    if output.count == 200000 {
+        return Err(refused(2, at));
+    }
+    output.count += 1;
+    Ok(())
+}
+
+/// Puts out a token of this kind.
+pub fn put(output: &mut Output, alloc: Global, kind: &TokenKind, at: Place) -> Result<(), Fault>
+    requires { output.old.count ≤ 200000 }
+    ensures ok { OnOk result (PutsOut (out (record { kind = kind.now; at = at }) ∷ []) output.old output.new) }
+    ensures err { IfErr result (IsFull output.old.count at) }
+{
+    if output.count == 200000 {
+        return Err(refused(2, at));
+    }
+    match kind.copied(alloc) {
+        Err(_) => Err(Fault::NoMemory),
+        Ok(kind) => match output.tokens.push(Token { kind, at }) {
+            Err(_) => Err(Fault::NoMemory),
+            Ok(()) => {
+                output.count += 1;
+                Ok(())
+            }
+        },
+    }
+}
