@@ -1,4 +1,4 @@
--- Tokens have one expansion, and break at token_limit one rule first.
+-- Tokens have one expansion, and break at most one rule first.
 use Rattle.std.proofs.Common.{◌≡◌, ◌≢◌, ◌≤◌, ◌++◌, ℕ, List, [], ◌∷◌, length, refl, sym, ap, ◌∙◌, subst, arith, true, Some, None, All, length-append, true≢false, append_assoc}
 use Rattle.std.proofs.lemmas.List.Elements.{All-nil, All-cons, All-append, All-head, All-tail}
 use Rattle.std.proofs.Math.Seq.{get_or-append_seam}

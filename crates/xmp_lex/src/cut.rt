@@ -280,7 +280,7 @@ fn refusal(bad: PieceError, at: Place, rest: &[u8]) -> Fault
 
 /// Cuts a text into its tokens, with the tokens of its definitions in their lines.
 ///
-/// A text is at token_limit 1 MiB. Time and memory grow with its length.
+/// A text has at most 1,048,576 bytes. Time and memory grow with its length.
 pub fn lex(alloc: Global, text: &[u8]) -> Result<Vec<Token>, Fault>
     requires { length text.now ≤ 1048576 }
     ensures ok { IfOk result (λ tokens. Cut text.now tokens.items) }

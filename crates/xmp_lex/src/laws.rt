@@ -6,7 +6,7 @@ ghost use Rattle.xmp_lex.specs.Cut.{Cut, BreaksLexRule, IsPlaceOf};
 ghost use Rattle.xmp_lex.specs.Expand.{Event, Expands, Expanded, BreaksMacros};
 ghost use Rattle.xmp_lex.specs.Lines.{IsClosed};
 
-/// A text is cut in at token_limit one way.
+/// A text is cut in at most one way.
 pub fn one_cut()
     ensures { (text : List ℕ) (tokens others : List Token) → Cut text tokens → Cut text others → tokens ≡ others }
 {}
@@ -32,7 +32,7 @@ pub fn some_expansion()
     ensures { (tokens : List Token) → IsClosed tokens → (events : List Event) × Expands [] tokens events }
 {}
 
-/// Tokens come to at token_limit one list of events.
+/// Tokens come to at most one list of events.
 pub fn one_expansion()
     ensures { (tokens : List Token) (events others : List Event) → Expands [] tokens events → Expands [] tokens others → events ≡ others }
 {}
