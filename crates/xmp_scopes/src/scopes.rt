@@ -156,9 +156,9 @@ impl<M: Copy> Scopes<M> {
         'steps: while let Some(step) = self.steps.pop() {
             match step {
                 Step::Opened => break,
-                Step::Declared { name, hidden, .. } => self
-                    .current
-                    .restore(name.as_slice(), hidden),
+                Step::Declared { name, hidden, .. } => {
+                    self.current.restore(name.as_slice(), hidden);
+                }
             }
         }
         self.depth = self.depth.saturating_sub(1);
