@@ -1,0 +1,3 @@
+mod Entries
+mod Undo
+mod Undeclared

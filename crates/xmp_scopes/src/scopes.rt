@@ -1,0 +1,166 @@
+// The open scopes.
+ghost use Rattle.std.specs.Prelude.{◌≡◌, ◌↔◌, OnOk, OnErr, IfOk, IsNone, [], ◌∷◌, drop, length};
+ghost use Rattle.xmp_scopes.specs.Names.{declare, nearest, depth_of, is_declared_here, novelty, IsUndeclared};
+
+use crate::current::{Current, Held};
+use std::alloc::Global;
+use std::marker::Model;
+use xmp_base::{Bytes, NoMemory};
+
+/// Whether a declaration is the first of its name in its scope.
+#[derive(Clone, Copy, Debug, PartialEq, Eq)]
+pub enum Novelty {
+    First,
+    Repeated,
+}
+
+// A scope was opened; or a name was declared, which until then had the declaration that is now hidden.
+#[derive(Drop)]
+pub(crate) enum Step<M> {
+    Opened,
+    Declared {
+        name: Bytes,
+        meaning: M,
+        hidden: Option<Held<M>>,
+    },
+}
+
+/// The open scopes, each with its declarations: a name, as its bytes, and what it means.
+/// A name may be any bytes, the empty ones too.
+#[derive(Drop)]
+pub struct Scopes<M> {
+    current: Current<M>,
+    steps: Vec<Step<M>>,
+    depth: usize,
+}
+
+impl<M> Model for Scopes<M> {
+    ghost use Rattle.std.specs.Prelude.{List, reverse};
+    ghost use Rattle.xmp_scopes.specs.Words.{Name};
+
+    ghost Value = { List (List (Name × M)) };
+
+    ghost use Rattle.xmp_scopes.specs.Log.{scopes_of, Agrees};
+
+    ghost view = { λ s. scopes_of (reverse s.steps.items) };
+
+    ghost invariant = { λ s. Agrees s.current s.depth (reverse s.steps.items) };
+}
+
+impl<M: Copy> Scopes<M> {
+    /// No scope is open.
+    pub fn new(alloc: Global) -> Scopes<M>
+        ensures { result ≡ [] }
+    {
+        Scopes {
+            current: Current::new(alloc),
+            steps: Vec::new(alloc),
+            depth: 0,
+        }
+    }
+
+    /// How many scopes are open.
+    pub fn depth(&self) -> usize
+        ensures { result ≡ length self.now }
+    {
+        self.depth
+    }
+
+    /// What a name means: its innermost declaration, and in one scope the latest. Takes constant time on average.
+    pub fn look_up(&self, name: &[u8]) -> Option<M>
+        ensures nearest { result ≡ nearest name.now self.now }
+        ensures none { IsNone result ↔ IsUndeclared name.now self.now }
+    {
+        match self.current.get(name) {
+            Some(held) => Some(held.meaning),
+            None => None,
+        }
+    }
+
+    /// How many scopes are open where the innermost declaration of a name stands, its own scope included: 1 is the
+    /// outermost. Takes constant time on average.
+    pub fn depth_of(&self, name: &[u8]) -> Option<usize>
+        ensures { result ≡ depth_of name.now self.now }
+    {
+        match self.current.get(name) {
+            Some(held) => Some(held.depth),
+            None => None,
+        }
+    }
+
+    /// Whether the innermost scope declares a name. Takes constant time on average.
+    pub fn is_declared_here(&self, name: &[u8]) -> bool
+        ensures { result ≡ is_declared_here name.now self.now }
+    {
+        match self.current.get(name) {
+            Some(held) => held.depth == self.depth,
+            None => false,
+        }
+    }
+
+    /// Opens a scope inside the others, or changes nothing.
+    pub fn open(&mut self) -> Result<(), NoMemory>
+        ensures ok { OnOk result (self.new ≡ [] ∷ self.old) }
+        ensures err { OnErr result (self.new ≡ self.old) }
+    {
+        let Ok(()) = self.steps.push(Step::Opened) else {
+            return Err(NoMemory);
+        };
+        // No more scopes are open than there are steps, and their number fits.
+        let _steps = self.steps.len();
+        self.depth += 1;
+        Ok(())
+    }
+
+    /// Declares a name in the innermost scope, which it opens where none is open, or changes nothing. It hides every
+    /// other declaration of the name, also one in the same scope. Takes constant time on average.
+    pub fn declare(&mut self, alloc: Global, name: &[u8], meaning: M) -> Result<Novelty, NoMemory>
+        ensures ok { OnOk result (self.new ≡ declare name.now meaning self.old) }
+        ensures novelty { IfOk result (λ n. n ≡ novelty name.now self.old) }
+        ensures err { OnErr result (self.new ≡ self.old) }
+    {
+        let hidden = self.current.get(name);
+        let novelty = if self.is_declared_here(name) {
+            Novelty::Repeated
+        } else {
+            Novelty::First
+        };
+        let mut copy = Bytes::new(alloc);
+        copy.push_all(name)?;
+        let step = Step::Declared {
+            name: copy,
+            meaning,
+            hidden,
+        };
+        let Ok(()) = self.steps.push(step) else {
+            return Err(NoMemory);
+        };
+        let depth = self.depth.max(1);
+        match self.current.set(alloc, name, Some(Held { depth, meaning })) {
+            Ok(()) => {
+                self.depth = depth;
+                Ok(novelty)
+            }
+            Err(error) => {
+                self.steps.pop();
+                Err(error)
+            }
+        }
+    }
+
+    /// Closes the innermost scope, or does nothing where none is open. Takes as many steps as the scope has
+    /// declarations.
+    pub fn close(&mut self)
+        ensures { self.new ≡ drop 1 self.old }
+    {
+        'steps: while let Some(step) = self.steps.pop() {
+            match step {
+                Step::Opened => break,
+                Step::Declared { name, hidden, .. } => {
+                    self.current.restore(name.as_slice(), hidden);
+                }
+            }
+        }
+        self.depth = self.depth.saturating_sub(1);
+    }
+}
