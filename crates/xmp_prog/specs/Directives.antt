@@ -1,5 +1,5 @@
 -- Loop directives, gmoves, bcasts and tasks: how their parts go together (XcalableMP 1.4, 4.4.2, 4.5.3, 4.5.6, 4.4.1).
-use Rattle.std.specs.Prelude.{ℕ, Bool, true, false, ◌==◌, ◌&&◌, ◌||◌, nat_lt, List, [], ◌∷◌, length, take, slice_get, ℤ, pos, int_le, neg_ℤ, Option, Some, None}
+use Rattle.std.specs.Prelude.{ℕ, Bool, true, false, ◌==◌, ◌&&◌, ◌||◌, nat_lt, List, [], ◌∷◌, length, slice_get, ℤ, pos, int_le, neg_ℤ, Option, Some, None}
 use Rattle.std.specs.List.{list_all, list_any, flat_map, count_by}
 use Rattle.xmp_map.specs.declared.grid.NodeSet.{NodeSet}
 use Rattle.xmp_map.specs.declared.spread_dim.SpreadDim.{SpreadDim}
@@ -24,13 +24,14 @@ use Rattle.xmp_prog.specs.Counted.{is_nest}
 
 -- ---- loop directives
 
--- The dimensions of a template by its number; none where there is no such template.
+-- The dimensions of a template, unused ones included, and how many it has; none where there is no such template.
 abbrev pub dims_of : Option Template → List SpreadDim
 dims_of None = []
-dims_of (Some t) = take t.dims t.spread
+dims_of (Some t) = t.spread
 
-abbrev pub template_dims : ProgParts → ℕ → List SpreadDim
-template_dims p number = dims_of (slice_get p.templates number)
+abbrev pub dim_count : Option Template → ℕ
+dim_count None = 0
+dim_count (Some t) = t.dims
 
 -- Whether a template's number is one of the program's.
 abbrev pub names_template : ProgParts → LoopDirective → Bool
@@ -38,7 +39,7 @@ names_template p d = nat_lt d.template (length p.templates)
 
 -- Whether there is one point for each dimension of the template.
 abbrev pub has_points : ProgParts → LoopDirective → Bool
-has_points p d = length d.points == length (template_dims p d.template)
+has_points p d = length d.points == dim_count (slice_get p.templates d.template)
 
 -- Whether the constant of a point is at most 8,388,608 in size.
 abbrev pub is_small_point : Point → Bool
@@ -53,7 +54,10 @@ has_index (point.Index slot offset) = true
 abbrev pub distributed_indexed : List SpreadDim → List Point → Bool
 distributed_indexed [] points = true
 distributed_indexed (s ∷ ss) [] = true
-distributed_indexed (s ∷ ss) (q ∷ qs) = (is_whole s.dim.dist || has_index q) && distributed_indexed ss qs
+distributed_indexed (s ∷ ss) (q ∷ qs) = (has_index q || is_whole s.dim.dist) && distributed_indexed ss qs
+
+abbrev pub has_indices : ProgParts → LoopDirective → Bool
+has_indices p d = distributed_indexed (dims_of (slice_get p.templates d.template)) d.points
 
 -- Whether each index of the nest stands in exactly one point, and each point's index is one of the nest.
 abbrev pub points_indices : LoopDirective → List ℕ

@@ -19,7 +19,7 @@ use Rattle.xmp_prog.specs.Terms.{Term, type_of, terms_of}
 use Rattle.xmp_prog.specs.Statements.{Statement, statements_of, terms_of_stmt, slots_of_stmt, arrays_beside}
 use Rattle.xmp_prog.specs.Scopes.{declared_in, scalars_fit, in_main, in_function}
 use Rattle.xmp_prog.specs.Formats.{IsFormat}
-use Rattle.xmp_prog.specs.Directives.{names_template, has_points, is_small_point, distributed_indexed, template_dims, indices_once, indices_of_nest, at_loops, nest_counted, side_fits, sections_agree, at_gmoves, cast_fits, tasks_inside, tasks_apart}
+use Rattle.xmp_prog.specs.Directives.{names_template, has_points, is_small_point, has_indices, indices_once, indices_of_nest, at_loops, nest_counted, side_fits, sections_agree, at_gmoves, cast_fits, tasks_inside, tasks_apart}
 use Rattle.xmp_prog.specs.Tests.{constant_fits, operands_fit, choice_fits, element_fits, is_image, is_spread, image_fits, is_no_element, asks_no_node, calls_below, arguments_fit, is_constant, assignment_fits, counted_fits, is_no_sync, stands_in_function, returns_last}
 
 -- ---- all of a program
@@ -150,7 +150,7 @@ pub record DirectivesFit (p : ProgParts) : Type 0 where
   -- the constant of a point is at most 8,388,608 in size
   pub constants : IsTrue (all_statements p (at_loops (λ d. list_all is_small_point d.points)))
   -- the point of a distributed dimension has an index
-  pub distributed : IsTrue (all_statements p (at_loops (λ d. distributed_indexed (template_dims p d.template) d.points)))
+  pub distributed : IsTrue (all_statements p (at_loops (has_indices p)))
   -- each index of the nest stands in exactly one point
   pub indices : IsTrue (all_statements p (at_loops indices_once))
   -- and the index of each point is one of the nest

@@ -8,3 +8,4 @@ pub mod Formats
 pub mod Directives
 pub mod Tests
 pub mod Fits
+pub mod Examples

@@ -14,3 +14,6 @@ pub use statements::{
     Compound, LoopDirective, LoopHead, MoveSide, Name, Number, Part, Plain, Point, Reduction, Stmt,
     Target, Task,
 };
+
+#[cfg(test)]
+mod tests;
