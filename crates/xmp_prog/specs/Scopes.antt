@@ -51,9 +51,12 @@ scope_step p may s = record {
   fits = λ known. list_all (may (declared_by s ++ known)) (slots_in p s) && fits_below s known;
 }
 
+abbrev pub scoped : ProgParts → (List ℕ → ℕ → Bool) → Stmt → Scoped
+scoped p may = fold-Stmt Scoped Scoped (scope_step p may) (λ t. t.body)
+
 -- Whether each scalar of a statement may stand where it does.
 abbrev pub scalars_fit : ProgParts → (List ℕ → ℕ → Bool) → Stmt → List ℕ → Bool
-scalars_fit p may s known = (fold-Stmt Scoped Scoped (scope_step p may) (λ t. t.body) s).fits known
+scalars_fit p may s known = (scoped p may s).fits known
 
 -- In main: a scalar that is known, or that no statement declares.
 abbrev pub in_main : List ℕ → List ℕ → ℕ → Bool
