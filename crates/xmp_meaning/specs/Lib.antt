@@ -10,3 +10,7 @@ pub mod Directives
 pub mod Statements
 pub mod Calls
 pub mod Programs
+pub mod Parts
+pub mod Exchanges
+pub mod AtNode
+pub mod Phases

@@ -25,11 +25,15 @@ use Rattle.xmp_meaning.specs.Calls.{main_context}
 abbrev pub cell_count : ProgParts → Array → ℕ
 cell_count p a = (if is_image a.home then nodes_of p else 1) * product a.extents
 
--- what a program begins with: every scalar and every cell is 0
+-- every cell is 0 at first
+abbrev pub no_writes : ProgParts → List (List ℤ)
+no_writes p = map (λ a. replicate (cell_count p a) (pos 0)) p.arrays
+
+-- what a program begins with: every scalar and every cell is 0, and nothing is printed or read
 abbrev pub beginning : {X : Type 0} → ProgParts → ℕ → X → State X
 beginning p steps extra = record {
   scalars = replicate (length p.scalars) (pos 0);
-  arrays = map (λ a. replicate (cell_count p a) (pos 0)) p.arrays;
+  arrays = no_writes p;
   out = []; taken = 0; steps = steps; extra = extra;
 }
 
