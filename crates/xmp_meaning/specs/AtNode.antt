@@ -16,8 +16,7 @@ use Rattle.xmp_prog.specs.declared.statements.Name.{Name}
 use Rattle.xmp_prog.specs.declared.statements.LoopDirective.{LoopDirective}
 use Rattle.xmp_prog.specs.declared.statements.Reduction.{Reduction}
 use Rattle.xmp_prog.specs.declared.statements.MoveSide.{MoveSide}
-use Rattle.xmp_meaning.specs.declared.location.Location.{Location}
-use Rattle.xmp_meaning.specs.declared.location.Location.TheVariants as location
+use Rattle.xmp_prog.specs.declared.statements.MoveSide.TheVariants as side
 use Rattle.xmp_meaning.specs.declared.ends.End.{End}
 use Rattle.xmp_meaning.specs.declared.ends.Flow.{Flow}
 use Rattle.xmp_meaning.specs.declared.ends.Flow.TheVariants.{Next}
@@ -107,32 +106,32 @@ reflect_at p node (a ∷ all) = then_run
 
 -- ---- gmove
 
--- whether a node stores what is moved to a location: the owner of a cell of a distributed array, and each node elsewhere
+-- whether a node stores what is moved to a cell: the owner in a distributed array, and each node elsewhere
 abbrev pub stores_cell : Home → ℕ → ℕ → Bool
 stores_cell (home.Spread t m) node at = held.owns m node (unravel (held.extents m) at)
 stores_cell _ node at = true
 
-abbrev pub stores : ProgParts → ℕ → Location → Bool
-stores p node (location.Scalar slot) = true
-stores p node (location.Cell array at) = stores_cell (home_of p array) node at
+abbrev pub stores : ProgParts → ℕ → MoveSide → ℕ → Bool
+stores p node (side.Scalar name) at = true
+stores p node (side.Array name parts) at = stores_cell (home_of p name.number) node at
 
--- the targets that a node stores, and their values
-abbrev pub kept : ProgParts → ℕ → List Location → List ℤ → Move
-kept p node (l ∷ ls) (v ∷ vs) =
-    let rest = kept p node ls vs in
-    if stores p node l then record { targets = l ∷ rest.targets; sources = []; values = v ∷ rest.values } else rest
-kept p node [] vs = record { targets = []; sources = []; values = [] }
-kept p node (l ∷ ls) [] = record { targets = []; sources = []; values = [] }
+-- the target's cells that a node stores, and their values
+abbrev pub kept : (ℕ → Bool) → List ℕ → List ℤ → Move
+kept test (n ∷ ns) (v ∷ vs) =
+    let rest = kept test ns vs in
+    if test n then record { targets = n ∷ rest.targets; sources = []; values = v ∷ rest.values } else rest
+kept test [] vs = record { targets = []; sources = []; values = [] }
+kept test (n ∷ ns) [] = record { targets = []; sources = []; values = [] }
 
 abbrev pub is_spread : Home → Bool
 is_spread (home.Spread t m) = true
 is_spread _ = false
 
 -- the values are said where the source is distributed; of any other source a node has its own
-abbrev pub gmove_at : ProgParts → ℕ → MoveSide → Run Talk Move → (Move → Run Talk Flow) → Run Talk Flow
-gmove_at p node source move written =
+abbrev pub gmove_at : ProgParts → ℕ → MoveSide → MoveSide → Run Talk Move → (Move → Run Talk Flow) → Run Talk Flow
+gmove_at p node target source move written =
     move >>= (λ m. exchange (Moved m)
-        (λ x. written (kept p node m.targets (if is_spread (home_of p (name_of source).number) then values_said x else m.values))))
+        (λ x. written (kept (stores p node target) m.targets (if is_spread (home_of p (name_of source).number) then values_said x else m.values))))
 
 -- ---- the end of a loop directive
 
@@ -234,7 +233,7 @@ at_node p node = record {
   reflect = reflect_at p node;
   barrier = exchange AtBarrier (λ x. pure Next);
   bcast = bcast_at p node;
-  gmove = λ target source move written. gmove_at p node source move written;
+  gmove = λ target source move written. gmove_at p node target source move written;
   tasks = tasks_at p node;
   sync = pure Next;
 }

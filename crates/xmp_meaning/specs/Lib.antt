@@ -10,6 +10,7 @@ pub mod Directives
 pub mod Statements
 pub mod Calls
 pub mod Programs
+pub mod Writes
 pub mod Parts
 pub mod Exchanges
 pub mod AtNode
