@@ -15,8 +15,8 @@ use Rattle.xmp_meaning.specs.Sections.{Move}
 use Rattle.xmp_meaning.specs.Directives.{Directives, TaskRun}
 
 -- A relation between runs of two kinds that holds of what reads alike, of what writes scalars in S and cells of arrays in T alike, and that
--- is kept by going on and by loops.
-pub record Keeps (X Y : Type 0) (S T : ℕ → Type 0) (R : (A : Type 0) → Run X A → Run Y A → Type 0) : Type 1 where
+-- is kept by going on and by loops. Calls are those of one context.
+pub record Keeps (X Y : Type 0) (cx : Context) (S T : ℕ → Type 0) (R : (A : Type 0) → Run X A → Run Y A → Type 0) : Type 1 where
   pub gives : {A : Type 0} (a : A) → R A (pure a) (pure a)
   pub traps : {A : Type 0} (kind : TrapKind) (at : Place) → R A (trap kind at) (trap kind at)
   pub goes_on : {A B : Type 0} {p : Run X A} {q : Run Y A} {f : A → Run X B} {g : A → Run Y B}
@@ -28,11 +28,11 @@ pub record Keeps (X Y : Type 0) (S T : ℕ → Type 0) (R : (A : Type 0) → Run
   pub writes : (text : List ℕ) → R (Unit {0}) (write text) (write text)
   pub inputs : R ℕ taken taken
   pub sets_taken : (n : ℕ) → R (Unit {0}) (set_taken n) (set_taken n)
-  pub calls : (cx : Context) (function : ℕ) (vs : List ℤ) → R ℤ (call cx function vs) (call cx function vs)
+  pub calls : (function : ℕ) (vs : List ℤ) → R ℤ (call cx function vs) (call cx function vs)
   pub loops : {test : Run X Bool} {test' : Run Y Bool} {body : Run X Flow} {body' : Run Y Flow}
       → R Bool test test' → R Flow body body' → R Flow (while_loop test body) (while_loop test' body')
 
-module _ {X Y : Type 0} {S T : ℕ → Type 0} {R : (A : Type 0) → Run X A → Run Y A → Type 0} (k : Keeps X Y S T R) where
+module _ {X Y : Type 0} {cx : Context} {S T : ℕ → Type 0} {R : (A : Type 0) → Run X A → Run Y A → Type 0} (k : Keeps X Y cx S T R) where
   pub keeps-or_trap : {A : Type 0} (r : Result A TrapKind) (at : Place) → R A (or_trap r at) (or_trap r at)
   keeps-or_trap (Ok a) at = k.gives a
   keeps-or_trap (Err kind) at = k.traps kind at

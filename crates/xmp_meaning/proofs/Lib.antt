@@ -1,3 +1,5 @@
 pub mod Keeps
 pub mod RelatedExpressions
 pub mod RelatedStatements
+pub mod Sequences
+pub mod Preorders

@@ -22,7 +22,7 @@ pub record ElementsAlike (X Y : Type 0) (R : (A : Type 0) → Run X A → Run Y 
 abbrev pub element_of : {X : Type 0} → Context → Access → Element X
 element_of {X} cx = fold-Access (Run X ℤ) (Element X) (expr_step cx) (access_step cx)
 
-module _ {X Y : Type 0} {S T : ℕ → Type 0} {R : (A : Type 0) → Run X A → Run Y A → Type 0} (k : Keeps X Y S T R) (cx : Context) where
+module _ {X Y : Type 0} {S T : ℕ → Type 0} {R : (A : Type 0) → Run X A → Run Y A → Type 0} (cx : Context) (k : Keeps X Y cx S T R) where
   abbrev pub ExprKept : Expr → Type 0
   ExprKept e = R ℤ (expr_of cx e) (expr_of cx e)
 
@@ -78,7 +78,7 @@ module _ {X Y : Type 0} {S T : ℕ → Type 0} {R : (A : Type 0) → Run X A →
     keeps-expr_step (Expr-F.Either a b) = k.goes_on (h a) (λ x. keeps-if k (is_zero x) (k.goes_on (h b) (λ y. k.gives (as_truth y))) (k.gives (pos 1)))
     keeps-expr_step (Expr-F.Choose a b c) = k.goes_on (h a) (λ x. keeps-if k (is_zero x) (h c) (h b))
     keeps-expr_step (Expr-F.Convert ty a) = k.goes_on (h a) (λ x. k.gives (wrap ty x))
-    keeps-expr_step (Expr-F.Call function arguments at) = k.goes_on (keeps-items arguments []) (λ vs. k.calls cx function vs)
+    keeps-expr_step (Expr-F.Call function arguments at) = k.goes_on (keeps-items arguments []) (λ vs. k.calls function vs)
     keeps-expr_step Expr-F.Node = k.gives _
     keeps-expr_step Expr-F.Nodes = k.gives _
 

@@ -15,3 +15,4 @@ pub mod Parts
 pub mod Exchanges
 pub mod AtNode
 pub mod Phases
+pub mod Laws
