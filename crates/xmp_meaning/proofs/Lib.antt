@@ -3,3 +3,4 @@ pub mod RelatedExpressions
 pub mod RelatedStatements
 pub mod Sequences
 pub mod Preorders
+pub mod Stays

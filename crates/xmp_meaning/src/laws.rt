@@ -1,0 +1,43 @@
+// Laws of runs and of statements.
+ghost use Rattle.std.specs.Prelude.{◌≡◌, ◌≢◌, ℕ, List};
+ghost use Rattle.std.specs.List.{AllByRecursion};
+ghost use Rattle.xmp_prog.specs.declared.statements.Stmt.{Stmt};
+ghost use Rattle.xmp_meaning.specs.Context.{Context};
+ghost use Rattle.xmp_meaning.specs.Directives.{erased};
+ghost use Rattle.xmp_meaning.specs.Statements.{stmt_of};
+ghost use Rattle.xmp_meaning.specs.Writes.{scalars_written, arrays_written};
+ghost use Rattle.xmp_meaning.specs.Laws.{IsAssociative, StatementsAssociate, BlocksJoin, TurnsAdd, EndsAreFinal, OutputGrows, KeepsScalar, KeepsArray};
+
+/// Parts of a run follow each other in one way, however they are grouped.
+pub fn sequences_associate<X, A, B, C>()
+    ensures parts { IsAssociative X A B C }
+    ensures statements { StatementsAssociate X }
+{}
+
+/// A block of two lists of statements is the one block, and then the other.
+pub fn blocks_join<X>()
+    ensures { BlocksJoin X }
+{}
+
+/// At most `n + m` turns of a loop are at most `n` turns, and then at most `m`.
+pub fn turns_add<X>()
+    ensures { TurnsAdd X }
+{}
+
+/// Nothing follows a trap or an end of the steps.
+pub fn ends_are_final<X, A, B>()
+    ensures { EndsAreFinal X A B }
+{}
+
+/// What is printed stays in front, also where the run ends early. Directives mean nothing here.
+pub fn output_grows<X>()
+    ensures { (cx : Context) (s : Stmt) → OutputGrows {X = X} (stmt_of erased cx s) }
+{}
+
+/// A statement changes no scalar and no array but those that it writes by name. Directives mean nothing here.
+pub fn only_what_is_named<X>()
+    ensures scalars { (cx : Context) (s : Stmt) (slot : ℕ) → AllByRecursion (λ n. n ≢ slot) (scalars_written s)
+        → KeepsScalar {X = X} slot (stmt_of erased cx s) }
+    ensures arrays { (cx : Context) (s : Stmt) (array : ℕ) → AllByRecursion (λ n. n ≢ array) (arrays_written s)
+        → KeepsArray {X = X} array (stmt_of erased cx s) }
+{}
