@@ -4,3 +4,6 @@ pub mod RelatedStatements
 pub mod Sequences
 pub mod Preorders
 pub mod Stays
+pub mod Notes
+pub mod Wholes
+pub mod Images

@@ -38,7 +38,7 @@ use Rattle.xmp_meaning.specs.Directives.{Directives, TaskRun}
 use Rattle.xmp_meaning.specs.Statements.{plain_of, stmt_step, task_step, stmt_of}
 use Rattle.xmp_meaning.specs.Writes.{target_scalars, target_arrays, side_scalars, side_arrays, plain_scalars, plain_arrays, indices, scalars_step, arrays_step, written_in_task, scalars_written, arrays_written}
 use Rattle.xmp_meaning.specs.Programs.{starts, program}
-use Rattle.xmp_meaning.proofs.Keeps.{Keeps, KeepsDirectives, TasksAlike, AllAlike, keeps-or_trap, keeps-if, keeps-choose}
+use Rattle.xmp_meaning.proofs.Keeps.{Keeps, KeepsDirectives, TasksAlike, AllAlike, joins, then_kept, choose_kept, turns_kept, keeps-or_trap}
 use Rattle.xmp_meaning.proofs.RelatedExpressions.{keeps-expr, keeps-cell_of, keeps-each, keeps-subscript}
 
 -- a location that may be written
@@ -58,17 +58,8 @@ task_arrays = fold-Task (List ℕ) (List ℕ) arrays_step written_in_task
 
 module _ {X Y : Type 0} {S T : ℕ → Type 0} {R : (A : Type 0) → Run X A → Run Y A → Type 0} (cx : Context) (k : Keeps X Y cx S T R) where
   -- ---- one after the other, and loops
-  pub keeps-after : {q : Run X Flow} {q' : Run Y Flow} (flow : Flow) → R Flow q q' → R Flow (after flow q) (after flow q')
-  keeps-after Next r = r
-  keeps-after (Returned v) r = k.gives (Returned v)
-
   pub keeps-then : {p q : Run X Flow} {p' q' : Run Y Flow} → R Flow p p' → R Flow q q' → R Flow (then_run p q) (then_run p' q')
-  keeps-then r t = k.goes_on r (λ flow. keeps-after flow t)
-
-  pub keeps-turns : {test : Run X Bool} {test' : Run Y Bool} {body : Run X Flow} {body' : Run Y Flow}
-      → (n : ℕ) → R Bool test test' → R Flow body body' → R Flow (turns n test body) (turns n test' body')
-  keeps-turns zero r t = k.gives Next
-  keeps-turns (suc n) r t = k.goes_on r (λ more. keeps-choose k more (keeps-then t (keeps-turns n r t)) (k.gives Next))
+  keeps-then r t = then_kept (joins k) r t
 
   -- ---- assignments
   keeps-value_at : (l : Location) → R ℤ (value_at l) (value_at l)
@@ -123,7 +114,7 @@ module _ {X Y : Type 0} {S T : ℕ → Type 0} {R : (A : Type 0) → Run X A →
       → R Flow (counted cx head body) (counted cx head body')
   keeps-counted head may r = k.goes_on (keeps-expr cx k head.from) (λ from. k.goes_on (k.sets_scalar head.index.number may (wrap Int from))
       (λ u. k.goes_on (keeps-expr cx k head.to)
-          (λ to. keeps-turns (turn_count (wrap Int from) (wrap Int to) head.inclusive head.step) (keeps-inside head) (keeps-then r (keeps-step_up head may)))))
+          (λ to. turns_kept (joins k) (turn_count (wrap Int from) (wrap Int to) head.inclusive head.step) (keeps-inside head) (keeps-then r (keeps-step_up head may)))))
 
   pub keeps-nest : {body : Run X Flow} {body' : Run Y Flow} (heads : List LoopHead) → AllByRecursion S (indices heads) → R Flow body body'
       → R Flow (nest cx heads body) (nest cx heads body')
@@ -243,7 +234,7 @@ module _ {X Y : Type 0} {S T : ℕ → Type 0} {R : (A : Type 0) → Run X A →
       keeps-stmt_step (Stmt-F.If test a b) may rows =
           let m : _ = all_of_both S (scalars_written (p a)) (scalars_written (p b)) may in
           let r : _ = all_of_both T (arrays_written (p a)) (arrays_written (p b)) rows in
-          k.goes_on (keeps-holds test) (λ v. keeps-choose k v (h a m.0 r.0) (h b m.1 r.1))
+          k.goes_on (keeps-holds test) (λ v. choose_kept (joins k) v (h a m.0 r.0) (h b m.1 r.1))
       keeps-stmt_step (Stmt-F.While test body at) may rows = k.loops (keeps-holds test) (h body may rows)
       keeps-stmt_step (Stmt-F.Counted head body) may rows = keeps-counted head may.0 (h body may.1 rows)
       keeps-stmt_step (Stmt-F.Loop directive body) may rows =
