@@ -1,19 +1,26 @@
 -- One image that comes to no `xmp_sync_all`.
-use Rattle.std.proofs.Common.{◌≡◌, ◌≢◌, ◌++◌, ℕ, zero, suc, ℤ, Bool, true, false, List, [], ◌∷◌, map, refl, sym, ap, ◌∙◌, subst, append-nil, ◌⊎◌, inl, inr}
+use Rattle.std.proofs.Common.{◌≡◌, ◌≢◌, ◌++◌, ℕ, zero, suc, ℤ, Bool, true, false, List, [], ◌∷◌, map, refl, sym, ap, ◌∙◌, subst, append-nil, if◌then◌else◌}
+use Rattle.std.specs.List.{range_with_len, flat_map}
+use Rattle.std.specs.Ordering.{int_eq}
+use Rattle.std.proofs.lemmas.Bool.Decides.{Decides-int_eq}
 use Rattle.xmp_prog.specs.declared.parts.ProgParts.{ProgParts}
 use Rattle.xmp_prog.specs.declared.statements.Stmt.{Stmt}
 use Rattle.xmp_meaning.specs.declared.ends.End.{End}
 use Rattle.xmp_meaning.specs.declared.ends.End.TheVariants.{Trapped, OutOfSteps, PhaseEnd}
 use Rattle.xmp_meaning.specs.declared.ends.Flow.{Flow}
+use Rattle.xmp_meaning.specs.declared.outcome.Outcome.{Outcome}
+use Rattle.xmp_meaning.specs.declared.outcome.Outcome.TheVariants as outcome
 use Rattle.xmp_meaning.specs.declared.ends.Flow.TheVariants.{Next, Returned}
 use Rattle.xmp_meaning.specs.Runs.{State, Step, Gave, Ended, Run, and_then, ◌>>=◌, pure, step_of, take_step}
-use Rattle.xmp_meaning.specs.Context.{Context}
+use Rattle.xmp_meaning.specs.Context.{Context, nodes_of}
 use Rattle.xmp_meaning.specs.Expressions.{after_call}
 use Rattle.xmp_meaning.specs.Loops.{turn}
 use Rattle.xmp_meaning.specs.Directives.{erased}
-use Rattle.xmp_meaning.specs.Phases.{Memory, at_image, next_phase}
+use Rattle.xmp_meaning.specs.Calls.{main_context}
+use Rattle.xmp_meaning.specs.Programs.{no_writes, beginning, program, told, outcome_of, serial_end, serial}
+use Rattle.xmp_meaning.specs.Phases.{Memory, at_image, next_phase, image_run, image_runs, applied_row, applied, memory_after, stopped, printed_in, goes_on, phase_outcome, phases_from}
 use Rattle.xmp_meaning.specs.Exchanges.{state_of}
-use Rattle.xmp_meaning.specs.Laws.{bare, bare_step}
+use Rattle.xmp_meaning.specs.Laws.{bare, bare_step, OneImage}
 use Rattle.xmp_meaning.proofs.Keeps.{Joins, Keeps, KeepsDirectives, turns_kept, tasks_kept}
 use Rattle.xmp_meaning.proofs.RelatedStatements.{keeps-stmt, keeps-program}
 use Rattle.xmp_meaning.proofs.Stays.{Any, all_any}
@@ -87,3 +94,51 @@ alike_directives p = record {
   tasks = λ ts us all. tasks_kept alike_joins ts us all;
   sync = alike_sync p;
 }
+
+-- ---- the phases of one image
+
+applied_row_alone : (b v : List ℤ) → applied_row b v b ≡ v
+applied_row_alone [] [] = refl
+applied_row_alone [] (v ∷ vs) = refl
+applied_row_alone (b ∷ bs) [] = refl
+applied_row_alone (b ∷ bs) (v ∷ vs) = ap (λ x. x ∷ applied_row bs vs bs) (same_cell (int_eq v b) refl) ∙ ap (λ xs. v ∷ xs) (applied_row_alone bs vs)
+  where
+    same_cell : (t : Bool) → int_eq v b ≡ t → (if t then b else v) ≡ v
+    same_cell true e = sym ((Decides-int_eq v b).0 e)
+    same_cell false e = refl
+
+applied_alone : (before mine : Memory) → applied before mine before ≡ mine
+applied_alone [] [] = refl
+applied_alone [] (v ∷ vs) = refl
+applied_alone (b ∷ bs) [] = refl
+applied_alone (b ∷ bs) (v ∷ vs) = ap (λ x. x ∷ applied bs vs bs) (applied_row_alone b v) ∙ ap (λ xs. v ∷ xs) (applied_alone bs vs)
+
+one_run : (p : ProgParts) → nodes_of p ≡ 1 → image_runs p [] ≡ image_run p 0 [] ∷ []
+one_run p one = ap (λ n. map (λ image. image_run p image []) (range_with_len 0 n)) one
+
+abbrev phase_of : ProgParts → Outcome → List (Step (List Memory) Flow) → Outcome
+phase_of p following runs =
+    phase_outcome (stopped [] runs) (goes_on runs) (outcome.Ended (printed_in runs) (told p p.arrays (memory_after (no_writes p) runs))) following
+
+phase_alone : (p : ProgParts) (following : Outcome) (u : Step (Unit {0}) Flow) (r : Step (List Memory) Flow) → GoesAlike Flow u r
+    → ((t : State (List Memory)) → r ≢ Ended PhaseEnd t) → phase_of p following (r ∷ []) ≡ outcome_of p u
+phase_alone p following u (Gave flow s) h never =
+    ap (λ out. outcome.Ended out (told p p.arrays (applied (no_writes p) s.arrays (no_writes p)))) (append-nil s.out)
+    ∙ ap (λ rows. outcome.Ended s.out (told p p.arrays rows)) (applied_alone (no_writes p) s.arrays)
+    ∙ sym (ap (outcome_of p) h.0)
+phase_alone p following u (Ended (Trapped kind at) s) h never = sym (ap (outcome_of p) h)
+phase_alone p following u (Ended OutOfSteps s) h never = sym (ap (outcome_of p) h)
+phase_alone p following u (Ended PhaseEnd s) h never = absurd (never s refl)
+
+goes_alike : (p : ProgParts) → GoesAlike Flow (serial_end p [] 0) (image_run p 0 [])
+goes_alike p = keeps-program (main_context p 0 []) (alike (main_context p 0 [])) (alike_directives p) (all_any _) (all_any _) (all_any _) (beginning p 0 []) refl
+
+one_phase : (p : ProgParts) (n : ℕ) → nodes_of p ≡ 1 → ((t : State (List Memory)) → image_run p 0 [] ≢ Ended PhaseEnd t)
+    → phases_from p (suc n) [] [] ≡ serial p [] 0
+unfolding phases_from
+one_phase p n one never =
+    ap (λ runs. phase_of p (phases_from p n (memory_after (no_writes p) runs ∷ []) (printed_in runs)) runs) (one_run p one)
+    ∙ phase_alone p _ (serial_end p [] 0) (image_run p 0 []) (goes_alike p) never
+
+pub one_image : (p : ProgParts) → OneImage p
+one_image p one never = one_phase p 4294967295 one never

@@ -7,3 +7,4 @@ pub mod Stays
 pub mod Notes
 pub mod Wholes
 pub mod Images
+pub mod MoreSteps
