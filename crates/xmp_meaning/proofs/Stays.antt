@@ -12,7 +12,7 @@ use Rattle.xmp_meaning.specs.Directives.{erased}
 use Rattle.xmp_meaning.specs.Statements.{stmt_of}
 use Rattle.xmp_meaning.specs.Exchanges.{state_of}
 use Rattle.xmp_meaning.specs.Writes.{scalars_written, arrays_written}
-use Rattle.xmp_meaning.specs.Laws.{OutputGrows, KeepsScalar, KeepsArray}
+use Rattle.xmp_meaning.specs.Laws.{OutputGrows, KeepsScalar, KeepsArray, CallTakesSteps}
 use Rattle.xmp_meaning.proofs.Preorders.{Respected, keeps, keeps_erased}
 use Rattle.xmp_meaning.proofs.RelatedStatements.{keeps-stmt}
 
@@ -92,3 +92,11 @@ module _ {X : Type 0} (cx : Context) where
 
   pub keeps_array : (s : Stmt) (array : ℕ) → AllByRecursion (λ n. n ≢ array) (arrays_written s) → KeepsArray {X = X} array (stmt_of erased cx s)
   keeps_array s array rows = keeps-stmt cx (keeps (array_stays array)) (keeps_erased (array_stays array)) s (all_any (scalars_written s)) rows
+
+  -- ---- calls
+  pub call_takes_steps : CallTakesSteps X cx
+  call_takes_steps function vs s = of_call (cx.call function vs s.steps)
+    where
+      of_call : (r : Step (Unit {0}) ℤ) → (left : ℕ) × (state_of (after_call s r) ≡ record s { steps = left })
+      of_call (Gave v t) = (t.steps, refl)
+      of_call (Ended e t) = (t.steps, refl)

@@ -11,6 +11,7 @@ use Rattle.xmp_meaning.specs.declared.outcome.Outcome.{Outcome}
 use Rattle.xmp_meaning.specs.declared.outcome.Outcome.TheVariants as outcome
 use Rattle.xmp_meaning.specs.Runs.{State, Step, Gave, Ended, Run, ◌>>=◌, ◌>>◌}
 use Rattle.xmp_meaning.specs.Context.{Context, nodes_of}
+use Rattle.xmp_meaning.specs.Expressions.{call}
 use Rattle.xmp_meaning.specs.Loops.{then_run, block, turns, nest}
 use Rattle.xmp_meaning.specs.Directives.{Directives, erased}
 use Rattle.xmp_meaning.specs.Statements.{stmt_of}
@@ -110,3 +111,9 @@ SameOutcome o other = other ≡ o
 -- a coarray program of one image that comes to no `xmp_sync_all` means what its run with nothing at its directives means
 abbrev pub OneImage : ProgParts → Type 0
 OneImage p = nodes_of p ≡ 1 → ((t : State (List Memory)) → image_run p 0 [] ≢ Ended PhaseEnd t) → phases p ≡ serial p [] 0
+
+-- ---- calls
+
+-- a call changes the steps that are left, and nothing else
+abbrev pub CallTakesSteps : (X : Type 0) → Context → Type 0
+CallTakesSteps X cx = (function : ℕ) (vs : List ℤ) (s : State X) → (left : ℕ) × (state_of (call cx function vs s) ≡ record s { steps = left })

@@ -1,12 +1,17 @@
 // Laws of runs and of statements.
-ghost use Rattle.std.specs.Prelude.{◌≡◌, ◌≢◌, ℕ, List};
+ghost use Rattle.std.specs.Prelude.{◌≡◌, ◌≢◌, ◌+◌, ℕ, List};
 ghost use Rattle.std.specs.List.{AllByRecursion};
+ghost use Rattle.xmp_prog.specs.declared.parts.ProgParts.{ProgParts};
+ghost use Rattle.xmp_prog.specs.declared.statements.LoopDirective.{LoopDirective};
 ghost use Rattle.xmp_prog.specs.declared.statements.Stmt.{Stmt};
+ghost use Rattle.xmp_meaning.specs.declared.ends.Flow.{Flow};
+ghost use Rattle.xmp_meaning.specs.Runs.{Run};
 ghost use Rattle.xmp_meaning.specs.Context.{Context};
 ghost use Rattle.xmp_meaning.specs.Directives.{erased};
 ghost use Rattle.xmp_meaning.specs.Statements.{stmt_of};
+ghost use Rattle.xmp_meaning.specs.Programs.{serial};
 ghost use Rattle.xmp_meaning.specs.Writes.{scalars_written, arrays_written};
-ghost use Rattle.xmp_meaning.specs.Laws.{IsAssociative, StatementsAssociate, BlocksJoin, TurnsAdd, EndsAreFinal, OutputGrows, KeepsScalar, KeepsArray};
+ghost use Rattle.xmp_meaning.specs.Laws.{IsAssociative, StatementsAssociate, BlocksJoin, TurnsAdd, EndsAreFinal, OutputGrows, KeepsScalar, KeepsArray, CallTakesSteps, SameOutcome, NotesApart, TracedIsSerial, PartIsWhole, OneImage};
 
 /// Parts of a run follow each other in one way, however they are grouped.
 pub fn sequences_associate<X, A, B, C>()
@@ -40,4 +45,30 @@ pub fn only_what_is_named<X>()
         → KeepsScalar {X = X} slot (stmt_of erased cx s) }
     ensures arrays { (cx : Context) (s : Stmt) (array : ℕ) → AllByRecursion (λ n. n ≢ array) (arrays_written s)
         → KeepsArray {X = X} array (stmt_of erased cx s) }
+{}
+
+/// A call of a function takes steps, and changes nothing else.
+pub fn calls_take_steps<X>()
+    ensures { (cx : Context) → CallTakesSteps X cx }
+{}
+
+/// With more steps for uncounted loops a program comes to the same outcome, where it isn't out of steps.
+pub fn more_steps()
+    ensures { (p : ProgParts) (input : List ℕ) (steps more : ℕ) → SameOutcome (serial p input steps) (serial p input (steps + more)) }
+{}
+
+/// The run that notes each exchange is the serial run: at each statement, and of the whole program.
+pub fn notes_apart()
+    ensures statements { (p : ProgParts) (cx : Context) (s : Stmt) → NotesApart p cx s }
+    ensures outcome { (p : ProgParts) (input : List ℕ) (steps : ℕ) → TracedIsSerial p input steps }
+{}
+
+/// The part of node 0 in a loop directive is the whole loop, where it owns the point of every iteration.
+pub fn parts_of_one_node<X>()
+    ensures { (p : ProgParts) (cx : Context) (directive : LoopDirective) (body : Run X Flow) → PartIsWhole X p cx directive body }
+{}
+
+/// A coarray program of one image that comes to no `xmp_sync_all` has its serial outcome.
+pub fn phases_of_one_image()
+    ensures { (p : ProgParts) → OneImage p }
 {}

@@ -8,7 +8,8 @@ mod outcome;
 
 pub use ends::{End, Flow, Halt};
 pub use laws::{
-    blocks_join, ends_are_final, only_what_is_named, output_grows, sequences_associate, turns_add,
+    blocks_join, calls_take_steps, ends_are_final, more_steps, notes_apart, only_what_is_named,
+    output_grows, parts_of_one_node, phases_of_one_image, sequences_associate, turns_add,
 };
 pub use location::Location;
 pub use outcome::Outcome;
