@@ -12,7 +12,8 @@ use Rattle.xmp_meaning.specs.declared.outcome.Outcome.{Outcome}
 use Rattle.xmp_meaning.specs.declared.outcome.Outcome.TheVariants as outcome
 use Rattle.xmp_meaning.specs.declared.ends.Flow.TheVariants.{Next, Returned}
 use Rattle.xmp_meaning.specs.Runs.{State, Step, Gave, Ended, Run, and_then, ◌>>=◌, pure, step_of, take_step}
-use Rattle.xmp_meaning.specs.Context.{Context, nodes_of}
+use Rattle.xmp_meaning.specs.Context.{Context}
+use Rattle.xmp_prog.specs.Fits.{node_count}
 use Rattle.xmp_meaning.specs.Expressions.{after_call}
 use Rattle.xmp_meaning.specs.Loops.{turn}
 use Rattle.xmp_meaning.specs.Directives.{erased}
@@ -113,7 +114,7 @@ applied_alone [] (v ∷ vs) = refl
 applied_alone (b ∷ bs) [] = refl
 applied_alone (b ∷ bs) (v ∷ vs) = ap (λ x. x ∷ applied bs vs bs) (applied_row_alone b v) ∙ ap (λ xs. v ∷ xs) (applied_alone bs vs)
 
-one_run : (p : ProgParts) → nodes_of p ≡ 1 → image_runs p [] ≡ image_run p 0 [] ∷ []
+one_run : (p : ProgParts) → node_count p ≡ 1 → image_runs p [] ≡ image_run p 0 [] ∷ []
 one_run p one = ap (λ n. map (λ image. image_run p image []) (range_with_len 0 n)) one
 
 abbrev phase_of : ProgParts → Outcome → List (Step (List Memory) Flow) → Outcome
@@ -133,7 +134,7 @@ phase_alone p following u (Ended PhaseEnd s) h never = absurd (never s refl)
 goes_alike : (p : ProgParts) → GoesAlike Flow (serial_end p [] 0) (image_run p 0 [])
 goes_alike p = keeps-program (main_context p 0 []) (alike (main_context p 0 [])) (alike_directives p) (all_any _) (all_any _) (all_any _) (beginning p 0 []) refl
 
-one_phase : (p : ProgParts) (n : ℕ) → nodes_of p ≡ 1 → ((t : State (List Memory)) → image_run p 0 [] ≢ Ended PhaseEnd t)
+one_phase : (p : ProgParts) (n : ℕ) → node_count p ≡ 1 → ((t : State (List Memory)) → image_run p 0 [] ≢ Ended PhaseEnd t)
     → phases_from p (suc n) [] [] ≡ serial p [] 0
 unfolding phases_from
 one_phase p n one never =

@@ -36,7 +36,8 @@ use Rattle.xmp_meaning.specs.Loops.{after, then_run, block, choose, turns, holds
 use Rattle.xmp_meaning.specs.Sections.{Chosen, One, Many, chosen, numbers, in_range, progression, section, subscripts, all_subscripts, cells_from, cells, cell_at, lengths, fit, name_of, lengths_fit, spread, store_all, Move, move, written}
 use Rattle.xmp_meaning.specs.Directives.{Directives, TaskRun}
 use Rattle.xmp_meaning.specs.Statements.{plain_of, stmt_step, task_step, stmt_of}
-use Rattle.xmp_meaning.specs.Writes.{target_scalars, target_arrays, side_scalars, side_arrays, plain_scalars, plain_arrays, indices, scalars_step, arrays_step, written_in_task, scalars_written, arrays_written}
+use Rattle.xmp_prog.specs.Statements.{indices_of}
+use Rattle.xmp_meaning.specs.Writes.{target_scalars, target_arrays, side_scalars, side_arrays, plain_scalars, plain_arrays, scalars_step, arrays_step, written_in_task, scalars_written, arrays_written}
 use Rattle.xmp_meaning.specs.Programs.{starts, program}
 use Rattle.xmp_meaning.proofs.Keeps.{Keeps, KeepsDirectives, TasksAlike, AllAlike, joins, then_kept, choose_kept, turns_kept, keeps-or_trap}
 use Rattle.xmp_meaning.proofs.RelatedExpressions.{keeps-expr, keeps-cell_of, keeps-each, keeps-subscript}
@@ -116,7 +117,7 @@ module _ {X Y : Type 0} {S T : ℕ → Type 0} {R : (A : Type 0) → Run X A →
       (λ u. k.goes_on (keeps-expr cx k head.to)
           (λ to. turns_kept (joins k) (turn_count (wrap Int from) (wrap Int to) head.inclusive head.step) (keeps-inside head) (keeps-then r (keeps-step_up head may)))))
 
-  pub keeps-nest : {body : Run X Flow} {body' : Run Y Flow} (heads : List LoopHead) → AllByRecursion S (indices heads) → R Flow body body'
+  pub keeps-nest : {body : Run X Flow} {body' : Run Y Flow} (heads : List LoopHead) → AllByRecursion S (indices_of heads) → R Flow body body'
       → R Flow (nest cx heads body) (nest cx heads body')
   keeps-nest [] may r = r
   keeps-nest (head ∷ heads) may r = keeps-counted head may.0 (keeps-nest heads may.1 r)
@@ -238,7 +239,7 @@ module _ {X Y : Type 0} {S T : ℕ → Type 0} {R : (A : Type 0) → Run X A →
       keeps-stmt_step (Stmt-F.While test body at) may rows = k.loops (keeps-holds test) (h body may rows)
       keeps-stmt_step (Stmt-F.Counted head body) may rows = keeps-counted head may.0 (h body may.1 rows)
       keeps-stmt_step (Stmt-F.Loop directive body) may rows =
-          let m : _ = all_of_both S (indices directive.nest) (scalars_written (p body)) may in
+          let m : _ = all_of_both S (indices_of directive.nest) (scalars_written (p body)) may in
           kd.loop directive (nest cx directive.nest) (nest cx directive.nest)
               (stmt_of d cx (p body)) (stmt_of e cx (p body)) (λ b b' r. keeps-nest directive.nest m.0 r) (h body m.1 rows)
       keeps-stmt_step (Stmt-F.Tasks all at) may rows =

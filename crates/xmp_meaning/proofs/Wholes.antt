@@ -9,7 +9,7 @@ use Rattle.xmp_meaning.specs.Runs.{State, Step, Gave, Ended, Run, and_then, ◌>
 use Rattle.xmp_meaning.specs.Context.{Context}
 use Rattle.xmp_meaning.specs.Loops.{choose, turn, nest}
 use Rattle.xmp_meaning.specs.Parts.{begin, only, owns_iteration, part_of}
-use Rattle.xmp_meaning.specs.Writes.{indices}
+use Rattle.xmp_prog.specs.Statements.{indices_of}
 use Rattle.xmp_meaning.specs.Laws.{PartIsWhole, OwnsAll}
 use Rattle.xmp_meaning.proofs.Keeps.{Joins, Keeps, turns_kept}
 use Rattle.xmp_meaning.proofs.RelatedStatements.{keeps-nest}
@@ -58,4 +58,4 @@ module _ {X : Type 0} where
   pub part_is_whole : (p : ProgParts) (cx : Context) (directive : LoopDirective) (body : Run X Flow) → PartIsWhole X p cx directive body
   part_is_whole p cx directive body all s =
       ap (λ r. and_then r (λ u. nest cx directive.nest (only (owns_iteration p directive 0) body))) (begins_as_it_is p directive.reductions s)
-      ∙ keeps-nest cx (same cx) directive.nest (all_any (indices directive.nest)) (only_all (owns_iteration p directive 0) body all) s
+      ∙ keeps-nest cx (same cx) directive.nest (all_any (indices_of directive.nest)) (only_all (owns_iteration p directive 0) body all) s

@@ -10,7 +10,8 @@ use Rattle.xmp_prog.specs.declared.expressions.Expr.TheOpen.{Expr-F, Access-F}
 use Rattle.xmp_prog.specs.declared.expressions.Expr.TheFolds.{fold-Expr, fold-Access}
 use Rattle.xmp_prog.specs.declared.expressions.Access.{Access}
 use Rattle.xmp_meaning.specs.Runs.{State, Step, Gave, Ended, Run, ◌>>=◌, ◌>>◌, pure, trap, or_trap, scalar, cell}
-use Rattle.xmp_meaning.specs.Context.{Context, nodes_of, extents, is_coarray}
+use Rattle.xmp_meaning.specs.Context.{Context, extents, is_coarray}
+use Rattle.xmp_prog.specs.Fits.{node_count}
 
 abbrev pub is_zero : ℤ → Bool
 is_zero (pos zero) = true
@@ -116,7 +117,7 @@ expr_step cx (Expr-F.Call function arguments at) = do
   vs ← each arguments []
   call cx function vs
 expr_step cx Expr-F.Node = pure (pos cx.node)
-expr_step cx Expr-F.Nodes = pure (pos (nodes_of cx.program))
+expr_step cx Expr-F.Nodes = pure (pos (node_count cx.program))
 
 -- what an expression gives
 abbrev pub expr_of : {X : Type 0} → Context → Expr → Run X ℤ

@@ -10,7 +10,8 @@ use Rattle.xmp_meaning.specs.declared.ends.Flow.{Flow}
 use Rattle.xmp_meaning.specs.declared.outcome.Outcome.{Outcome}
 use Rattle.xmp_meaning.specs.declared.outcome.Outcome.TheVariants as outcome
 use Rattle.xmp_meaning.specs.Runs.{State, Step, Gave, Ended, Run, ◌>>=◌, ◌>>◌}
-use Rattle.xmp_meaning.specs.Context.{Context, nodes_of}
+use Rattle.xmp_meaning.specs.Context.{Context}
+use Rattle.xmp_prog.specs.Fits.{node_count}
 use Rattle.xmp_meaning.specs.Expressions.{call}
 use Rattle.xmp_meaning.specs.Loops.{then_run, block, turns, nest}
 use Rattle.xmp_meaning.specs.Directives.{Directives, erased}
@@ -110,7 +111,7 @@ SameOutcome o other = other ≡ o
 
 -- a coarray program of one image that comes to no `xmp_sync_all` means what its run with nothing at its directives means
 abbrev pub OneImage : ProgParts → Type 0
-OneImage p = nodes_of p ≡ 1 → ((t : State (List Memory)) → image_run p 0 [] ≢ Ended PhaseEnd t) → phases p ≡ serial p [] 0
+OneImage p = node_count p ≡ 1 → ((t : State (List Memory)) → image_run p 0 [] ≢ Ended PhaseEnd t) → phases p ≡ serial p [] 0
 
 -- ---- calls
 

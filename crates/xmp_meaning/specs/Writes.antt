@@ -1,7 +1,7 @@
 -- Which scalars and arrays a statement writes.
 use Rattle.std.specs.Prelude.{ℕ, List, [], ◌∷◌, ◌++◌, map}
 use Rattle.std.specs.List.{concat}
-use Rattle.xmp_prog.specs.declared.statements.LoopHead.{LoopHead}
+use Rattle.xmp_prog.specs.Statements.{indices_of}
 use Rattle.xmp_prog.specs.declared.statements.MoveSide.{MoveSide}
 use Rattle.xmp_prog.specs.declared.statements.MoveSide.TheVariants as side
 use Rattle.xmp_prog.specs.declared.statements.Target.{Target}
@@ -42,17 +42,13 @@ plain_arrays (plain.Scan to at) = target_arrays to
 plain_arrays (plain.Gmove to from at) = side_arrays to
 plain_arrays _ = []
 
--- the indices of a nest
-abbrev pub indices : List LoopHead → List ℕ
-indices heads = map (λ head. head.index.number) heads
-
 abbrev pub scalars_step : Stmt-F (List ℕ) (List ℕ) → List ℕ
 scalars_step (Stmt-F.Plain p) = plain_scalars p
 scalars_step (Stmt-F.Block all) = concat all
 scalars_step (Stmt-F.If e a b) = a ++ b
 scalars_step (Stmt-F.While e body at) = body
 scalars_step (Stmt-F.Counted head body) = head.index.number ∷ body
-scalars_step (Stmt-F.Loop directive body) = indices directive.nest ++ body
+scalars_step (Stmt-F.Loop directive body) = indices_of directive.nest ++ body
 scalars_step (Stmt-F.Tasks all at) = concat all
 
 abbrev pub arrays_step : Stmt-F (List ℕ) (List ℕ) → List ℕ
