@@ -1,11 +1,14 @@
 //! What a typed program means: the definitions that every later step is measured by, their types, and their laws.
 #![tactic(auto)]
 
+mod arrays;
 mod ends;
 mod laws;
 mod location;
 mod outcome;
+mod state;
 
+pub use arrays::Arrays;
 pub use ends::{End, Flow, Halt};
 pub use laws::{
     blocks_join, calls_take_steps, ends_are_final, more_steps, notes_apart, only_what_is_named,
@@ -13,3 +16,4 @@ pub use laws::{
 };
 pub use location::Location;
 pub use outcome::Outcome;
+pub use state::SerialState;
