@@ -8,3 +8,6 @@ pub mod Notes
 pub mod Wholes
 pub mod Images
 pub mod MoreSteps
+pub mod Forms
+pub mod TenTurns
+pub mod Unrolled

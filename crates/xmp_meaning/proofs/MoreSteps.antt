@@ -144,7 +144,7 @@ module _ (more : ℕ) where
       value : Run (Unit {0}) ℤ
       value = statement >>= convert
 
-  calls_richly : (p : ProgParts) (node : ℕ) (input : List ℕ) (n : ℕ) → CallsRichly (context p node input n)
+  pub calls_richly : (p : ProgParts) (node : ℕ) (input : List ℕ) (n : ℕ) → CallsRichly (context p node input n)
   unfolding call_of
   calls_richly p node input zero k vs steps = record { same = refl; less = omega arith }
   calls_richly p node input (suc n) k vs steps =

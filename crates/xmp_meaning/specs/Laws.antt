@@ -7,13 +7,14 @@ use Rattle.xmp_prog.specs.declared.statements.Stmt.{Stmt}
 use Rattle.xmp_meaning.specs.declared.ends.End.{End}
 use Rattle.xmp_meaning.specs.declared.ends.End.TheVariants.{Trapped, OutOfSteps, PhaseEnd}
 use Rattle.xmp_meaning.specs.declared.ends.Flow.{Flow}
+use Rattle.xmp_meaning.specs.declared.ends.Flow.TheVariants.{Next}
 use Rattle.xmp_meaning.specs.declared.outcome.Outcome.{Outcome}
 use Rattle.xmp_meaning.specs.declared.outcome.Outcome.TheVariants as outcome
-use Rattle.xmp_meaning.specs.Runs.{State, Step, Gave, Ended, Run, ◌>>=◌, ◌>>◌}
+use Rattle.xmp_meaning.specs.Runs.{State, Step, Gave, Ended, Run, ◌>>=◌, pure}
 use Rattle.xmp_meaning.specs.Context.{Context}
 use Rattle.xmp_prog.specs.Fits.{node_count}
 use Rattle.xmp_meaning.specs.Expressions.{call}
-use Rattle.xmp_meaning.specs.Loops.{then_run, block, turns, nest}
+use Rattle.xmp_meaning.specs.Loops.{then_run, block, choose, turns, turn, while_loop, nest}
 use Rattle.xmp_meaning.specs.Directives.{Directives, erased}
 use Rattle.xmp_meaning.specs.Statements.{stmt_of}
 use Rattle.xmp_meaning.specs.Calls.{main_context}
@@ -118,3 +119,10 @@ OneImage p = node_count p ≡ 1 → ((t : State (List Memory)) → image_run p 0
 -- a call changes the steps that are left, and nothing else
 abbrev pub CallTakesSteps : (X : Type 0) → Context → Type 0
 CallTakesSteps X cx = (function : ℕ) (vs : List ℤ) (s : State X) → (left : ℕ) × (state_of (call cx function vs s) ≡ record s { steps = left })
+
+-- ---- uncounted loops
+
+-- an uncounted loop is its test, and where that holds a turn, which takes a step, and the loop again
+abbrev pub LoopUnrolls : (X : Type 0) → Run X Bool → Run X Flow → Type 0
+LoopUnrolls X test body = (s : State X)
+    → while_loop test body s ≡ (test >>= (λ more. choose more (then_run (turn body) (while_loop test body)) (pure Next))) s

@@ -16,3 +16,4 @@ pub mod Exchanges
 pub mod AtNode
 pub mod Phases
 pub mod Laws
+pub mod Examples

@@ -2,16 +2,20 @@
 ghost use Rattle.std.specs.Prelude.{◌≡◌, ◌≢◌, ◌+◌, ℕ, List};
 ghost use Rattle.std.specs.List.{AllByRecursion};
 ghost use Rattle.xmp_prog.specs.declared.parts.ProgParts.{ProgParts};
+ghost use Rattle.xmp_prog.specs.declared.expressions.Expr.{Expr};
 ghost use Rattle.xmp_prog.specs.declared.statements.LoopDirective.{LoopDirective};
 ghost use Rattle.xmp_prog.specs.declared.statements.Stmt.{Stmt};
 ghost use Rattle.xmp_meaning.specs.declared.ends.Flow.{Flow};
 ghost use Rattle.xmp_meaning.specs.Runs.{Run};
 ghost use Rattle.xmp_meaning.specs.Context.{Context};
+ghost use Rattle.xmp_meaning.specs.Expressions.{expr_of};
+ghost use Rattle.xmp_meaning.specs.Loops.{holds};
 ghost use Rattle.xmp_meaning.specs.Directives.{erased};
+ghost use Rattle.xmp_meaning.specs.Calls.{context};
 ghost use Rattle.xmp_meaning.specs.Statements.{stmt_of};
 ghost use Rattle.xmp_meaning.specs.Programs.{serial};
 ghost use Rattle.xmp_meaning.specs.Writes.{scalars_written, arrays_written};
-ghost use Rattle.xmp_meaning.specs.Laws.{IsAssociative, StatementsAssociate, BlocksJoin, TurnsAdd, EndsAreFinal, OutputGrows, KeepsScalar, KeepsArray, CallTakesSteps, SameOutcome, NotesApart, TracedIsSerial, PartIsWhole, OneImage};
+ghost use Rattle.xmp_meaning.specs.Laws.{IsAssociative, StatementsAssociate, BlocksJoin, TurnsAdd, EndsAreFinal, OutputGrows, KeepsScalar, KeepsArray, CallTakesSteps, SameOutcome, NotesApart, TracedIsSerial, PartIsWhole, OneImage, LoopUnrolls};
 
 /// Parts of a run follow each other in one way, however they are grouped.
 pub fn sequences_associate<X, A, B, C>()
@@ -71,4 +75,10 @@ pub fn parts_of_one_node<X>()
 /// A coarray program of one image that comes to no `xmp_sync_all` has its serial outcome.
 pub fn phases_of_one_image()
     ensures { (p : ProgParts) → OneImage p }
+{}
+
+/// An uncounted loop is its condition, and where that holds a turn, which takes a step, and the loop again.
+pub fn loops_unroll<X>()
+    ensures { (p : ProgParts) (node : ℕ) (input : List ℕ) (n : ℕ) (e : Expr) (body : Stmt)
+        → LoopUnrolls X (holds (expr_of (context p node input n) e)) (stmt_of erased (context p node input n) body) }
 {}
