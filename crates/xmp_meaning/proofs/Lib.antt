@@ -11,3 +11,4 @@ pub mod MoreSteps
 pub mod Forms
 pub mod TenTurns
 pub mod Unrolled
+pub mod Talks

@@ -127,11 +127,16 @@ abbrev pub is_spread : Home → Bool
 is_spread (home.Spread t m) = true
 is_spread _ = false
 
--- the values are said where the source is distributed; of any other source a node has its own
+-- what it writes: the values are said where the source is distributed; of any other source it has its own
+abbrev pub move_kept : ProgParts → ℕ → MoveSide → MoveSide → Move → Exchange → Move
+move_kept p node target source own x =
+    kept (stores p node target) own.targets (if is_spread (home_of p (name_of source).number) then values_said x else own.values)
+
+abbrev pub gmove_heard : ProgParts → ℕ → MoveSide → MoveSide → (Move → Run Talk Flow) → Move → Exchange → Run Talk Flow
+gmove_heard p node target source written own x = written (move_kept p node target source own x)
+
 abbrev pub gmove_at : ProgParts → ℕ → MoveSide → MoveSide → Run Talk Move → (Move → Run Talk Flow) → Run Talk Flow
-gmove_at p node target source move written =
-    move >>= (λ m. exchange (Moved m)
-        (λ x. written (kept (stores p node target) m.targets (if is_spread (home_of p (name_of source).number) then values_said x else m.values))))
+gmove_at p node target source move written = move >>= (λ own. exchange (Moved own) (gmove_heard p node target source written own))
 
 -- ---- the end of a loop directive
 
@@ -170,13 +175,16 @@ abbrev pub closed : List Reduction → PartEnd → Run Talk Flow
 closed rs (Whole vs) = set_all (map (λ r. r.variable) rs) vs
 closed rs (Stopped e at) = λ s. Ended e s
 
+-- what is made of the parts' ends, its own among them
+abbrev pub loop_heard : ProgParts → ℕ → LoopDirective → PartEnd → Exchange → Run Talk Flow
+loop_heard p node directive own x =
+    closed directive.reductions (all_joined p directive.reductions (Whole (units p directive.reductions)) (slice_set (parts_said x) node own))
+
 abbrev pub loop_at : ProgParts → ℕ → LoopDirective → (Run Talk Flow → Run Talk Flow) → Run Talk Flow → Run Talk Flow
 loop_at p node directive around body = λ s.
-    let own = part_of p directive node around body s in
-    let said = part_end directive own in
-    exchange (LoopEnd (said ∷ []))
-        (λ x. closed directive.reductions (all_joined p directive.reductions (Whole (units p directive.reductions)) (slice_set (parts_said x) node said)))
-        (state_of own)
+    let step = part_of p directive node around body s in
+    let own = part_end directive step in
+    exchange (LoopEnd (own ∷ [])) (loop_heard p node directive own) (state_of step)
 
 -- ---- the end of tasks
 
@@ -217,15 +225,21 @@ abbrev pub ending : Option End → Run Talk Flow
 ending None = pure Next
 ending (Some e) = λ s. Ended e s
 
--- node 0 keeps the texts
+-- what is made of the tasks' ends, its own among them; node 0 keeps the texts, behind what it printed before
+abbrev pub tasks_heard : ProgParts → ℕ → List TaskEnd → (before : List ℕ) → Exchange → Run Talk Flow
+tasks_heard p node own before x = λ s.
+    let ends = known_ends p node own (tasks_said x) in
+    ending (first_end ends) (record s { out = before ++ (if node == 0 then texts ends else []) })
+
+-- it runs the task of which it is a member, and nothing of the others
+abbrev pub own_tasks : ProgParts → ℕ → List (TaskRun Talk) → Run Talk Flow
+own_tasks p node all = block (map (λ t. only (λ s. is_member p node t.nodes) t.run) all)
+
 abbrev pub tasks_at : ProgParts → ℕ → List (TaskRun Talk) → Run Talk Flow
 tasks_at p node all = λ s.
-    let step = block (map (λ t. only (λ u. is_member p node t.nodes) t.run) all) (unprinted s) in
+    let step = own_tasks p node all (unprinted s) in
     let own = map (own_end p node step) all in
-    exchange (TasksEnd own)
-        (λ x t. let ends = known_ends p node own (tasks_said x) in
-            ending (first_end ends) (record t { out = s.out ++ (if node == 0 then texts ends else []) }))
-        (state_of step)
+    exchange (TasksEnd own) (tasks_heard p node own s.out) (state_of step)
 
 abbrev pub at_node : ProgParts → ℕ → Directives Talk
 at_node p node = record {

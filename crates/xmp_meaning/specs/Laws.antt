@@ -1,5 +1,5 @@
 -- Laws of runs and of statements.
-use Rattle.std.specs.Prelude.{◌≡◌, ◌≢◌, ◌≤◌, ◌+◌, ◌++◌, ℕ, ℤ, Bool, true, false, List, [], ◌∷◌, slice_get, Option, Some, None}
+use Rattle.std.specs.Prelude.{◌≡◌, ◌≢◌, ◌≤◌, ◌+◌, ◌++◌, ℕ, ℤ, Bool, true, false, List, [], ◌∷◌, length, drop, slice_get, Option, Some, None}
 use Rattle.std.specs.List.{AllByRecursion}
 use Rattle.xmp_prog.specs.declared.parts.ProgParts.{ProgParts}
 use Rattle.xmp_prog.specs.declared.statements.LoopDirective.{LoopDirective}
@@ -21,6 +21,7 @@ use Rattle.xmp_meaning.specs.Calls.{main_context}
 use Rattle.xmp_meaning.specs.Programs.{beginning, program, outcome_of, serial}
 use Rattle.xmp_meaning.specs.Exchanges.{Exchange, state_of, traced}
 use Rattle.xmp_meaning.specs.Parts.{owns_iteration, part_of}
+use Rattle.xmp_meaning.specs.AtNode.{Talk}
 use Rattle.xmp_meaning.specs.Phases.{Memory, image_run, phases}
 use Rattle.xmp_meaning.specs.Writes.{scalars_written, arrays_written}
 
@@ -126,3 +127,9 @@ CallTakesSteps X cx = (function : ℕ) (vs : List ℤ) (s : State X) → (left :
 abbrev pub LoopUnrolls : (X : Type 0) → Run X Bool → Run X Flow → Type 0
 LoopUnrolls X test body = (s : State X)
     → while_loop test body s ≡ (test >>= (λ more. choose more (then_run (turn body) (while_loop test body)) (pure Next))) s
+
+-- ---- a node by itself
+
+-- it takes from its feed as many exchanges as it says
+abbrev pub TakesAsItSays : State Talk → State Talk → Type 0
+TakesAsItSays s t = (new : List Exchange) × (t.extra.said ≡ s.extra.said ++ new) × (t.extra.feed ≡ drop (length new) s.extra.feed)

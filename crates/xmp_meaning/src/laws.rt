@@ -6,7 +6,7 @@ ghost use Rattle.xmp_prog.specs.declared.expressions.Expr.{Expr};
 ghost use Rattle.xmp_prog.specs.declared.statements.LoopDirective.{LoopDirective};
 ghost use Rattle.xmp_prog.specs.declared.statements.Stmt.{Stmt};
 ghost use Rattle.xmp_meaning.specs.declared.ends.Flow.{Flow};
-ghost use Rattle.xmp_meaning.specs.Runs.{Run};
+ghost use Rattle.xmp_meaning.specs.Runs.{State, Run};
 ghost use Rattle.xmp_meaning.specs.Context.{Context};
 ghost use Rattle.xmp_meaning.specs.Expressions.{expr_of};
 ghost use Rattle.xmp_meaning.specs.Loops.{holds};
@@ -14,8 +14,10 @@ ghost use Rattle.xmp_meaning.specs.Directives.{erased};
 ghost use Rattle.xmp_meaning.specs.Calls.{context};
 ghost use Rattle.xmp_meaning.specs.Statements.{stmt_of};
 ghost use Rattle.xmp_meaning.specs.Programs.{serial};
+ghost use Rattle.xmp_meaning.specs.Exchanges.{state_of};
+ghost use Rattle.xmp_meaning.specs.AtNode.{Talk, at_node};
 ghost use Rattle.xmp_meaning.specs.Writes.{scalars_written, arrays_written};
-ghost use Rattle.xmp_meaning.specs.Laws.{IsAssociative, StatementsAssociate, BlocksJoin, TurnsAdd, EndsAreFinal, OutputGrows, KeepsScalar, KeepsArray, CallTakesSteps, SameOutcome, NotesApart, TracedIsSerial, PartIsWhole, OneImage, LoopUnrolls};
+ghost use Rattle.xmp_meaning.specs.Laws.{IsAssociative, StatementsAssociate, BlocksJoin, TurnsAdd, EndsAreFinal, OutputGrows, KeepsScalar, KeepsArray, CallTakesSteps, SameOutcome, NotesApart, TracedIsSerial, PartIsWhole, OneImage, LoopUnrolls, TakesAsItSays};
 
 /// Parts of a run follow each other in one way, however they are grouped.
 pub fn sequences_associate<X, A, B, C>()
@@ -81,4 +83,10 @@ pub fn phases_of_one_image()
 pub fn loops_unroll<X>()
     ensures { (p : ProgParts) (node : ℕ) (input : List ℕ) (n : ℕ) (e : Expr) (body : Stmt)
         → LoopUnrolls X (holds (expr_of (context p node input n) e)) (stmt_of erased (context p node input n) body) }
+{}
+
+/// A node takes from what it is fed with as many exchanges as it says.
+pub fn nodes_take_as_they_say()
+    ensures { (p : ProgParts) (node : ℕ) (cx : Context) (body : Stmt) (s : State Talk)
+        → TakesAsItSays s (state_of (stmt_of (at_node p node) cx body s)) }
 {}
