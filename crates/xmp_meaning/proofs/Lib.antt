@@ -12,3 +12,4 @@ pub mod Forms
 pub mod TenTurns
 pub mod Unrolled
 pub mod Talks
+pub mod FormatLaws

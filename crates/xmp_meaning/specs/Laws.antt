@@ -1,6 +1,6 @@
 -- Laws of runs and of statements.
-use Rattle.std.specs.Prelude.{◌≡◌, ◌≢◌, ◌≤◌, ◌+◌, ◌++◌, ℕ, ℤ, Bool, true, false, List, [], ◌∷◌, length, drop, slice_get, Option, Some, None}
-use Rattle.std.specs.List.{AllByRecursion}
+use Rattle.std.specs.Prelude.{◌≡◌, ◌≢◌, ◌≤◌, ◌+◌, ◌++◌, ℕ, ℤ, Bool, true, false, List, [], ◌∷◌, length, drop, IsTrue, slice_get, Option, Some, None}
+use Rattle.std.specs.List.{AllByRecursion, list_all, flat_map}
 use Rattle.xmp_prog.specs.declared.parts.ProgParts.{ProgParts}
 use Rattle.xmp_prog.specs.declared.statements.LoopDirective.{LoopDirective}
 use Rattle.xmp_prog.specs.declared.statements.Stmt.{Stmt}
@@ -14,6 +14,8 @@ use Rattle.xmp_meaning.specs.Runs.{State, Step, Gave, Ended, Run, ◌>>=◌, pur
 use Rattle.xmp_meaning.specs.Context.{Context}
 use Rattle.xmp_prog.specs.Fits.{node_count}
 use Rattle.xmp_meaning.specs.Expressions.{call}
+use Rattle.xmp_prog.specs.Formats.{Piece, spelling, is_piece}
+use Rattle.xmp_meaning.specs.Formats.{pieces_of}
 use Rattle.xmp_meaning.specs.Loops.{then_run, block, choose, turns, turn, while_loop, nest}
 use Rattle.xmp_meaning.specs.Directives.{Directives, erased}
 use Rattle.xmp_meaning.specs.Statements.{stmt_of}
@@ -133,3 +135,9 @@ LoopUnrolls X test body = (s : State X)
 -- it takes from its feed as many exchanges as it says
 abbrev pub TakesAsItSays : State Talk → State Talk → Type 0
 TakesAsItSays s t = (new : List Exchange) × (t.extra.said ≡ s.extra.said ++ new) × (t.extra.feed ≡ drop (length new) s.extra.feed)
+
+-- ---- formats
+
+-- the pieces of a format are those that it is spelled of
+abbrev pub FormatsRead : Type 0
+FormatsRead = (pieces : List Piece) → IsTrue (list_all is_piece pieces) → pieces_of (flat_map spelling pieces) ≡ pieces

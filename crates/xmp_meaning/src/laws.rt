@@ -17,7 +17,7 @@ ghost use Rattle.xmp_meaning.specs.Programs.{serial};
 ghost use Rattle.xmp_meaning.specs.Exchanges.{state_of};
 ghost use Rattle.xmp_meaning.specs.AtNode.{Talk, at_node};
 ghost use Rattle.xmp_meaning.specs.Writes.{scalars_written, arrays_written};
-ghost use Rattle.xmp_meaning.specs.Laws.{IsAssociative, StatementsAssociate, BlocksJoin, TurnsAdd, EndsAreFinal, OutputGrows, KeepsScalar, KeepsArray, CallTakesSteps, SameOutcome, NotesApart, TracedIsSerial, PartIsWhole, OneImage, LoopUnrolls, TakesAsItSays};
+ghost use Rattle.xmp_meaning.specs.Laws.{IsAssociative, StatementsAssociate, BlocksJoin, TurnsAdd, EndsAreFinal, OutputGrows, KeepsScalar, KeepsArray, CallTakesSteps, SameOutcome, NotesApart, TracedIsSerial, PartIsWhole, OneImage, LoopUnrolls, TakesAsItSays, FormatsRead};
 
 /// Parts of a run follow each other in one way, however they are grouped.
 pub fn sequences_associate<X, A, B, C>()
@@ -89,4 +89,9 @@ pub fn loops_unroll<X>()
 pub fn nodes_take_as_they_say()
     ensures { (p : ProgParts) (node : ℕ) (cx : Context) (body : Stmt) (s : State Talk)
         → TakesAsItSays s (state_of (stmt_of (at_node p node) cx body s)) }
+{}
+
+/// The pieces of a format of `printf` are those that it is spelled of.
+pub fn formats_are_read()
+    ensures { FormatsRead }
 {}
