@@ -13,3 +13,4 @@ pub mod TenTurns
 pub mod Unrolled
 pub mod Talks
 pub mod FormatLaws
+pub mod Counting

@@ -1,5 +1,5 @@
 -- Laws of runs and of statements.
-use Rattle.std.specs.Prelude.{◌≡◌, ◌≢◌, ◌≤◌, ◌+◌, ◌++◌, ℕ, ℤ, Bool, true, false, List, [], ◌∷◌, length, drop, IsTrue, slice_get, Option, Some, None}
+use Rattle.std.specs.Prelude.{◌≡◌, ◌≢◌, ◌≤◌, ◌<◌, ◌↔◌, ◌+◌, ◌*◌, ◌++◌, ◌+ℤ◌, pos, ℕ, ℤ, Bool, true, false, List, [], ◌∷◌, length, drop, IsTrue, slice_get, Option, Some, None}
 use Rattle.std.specs.List.{AllByRecursion, list_all, flat_map}
 use Rattle.xmp_prog.specs.declared.parts.ProgParts.{ProgParts}
 use Rattle.xmp_prog.specs.declared.statements.LoopDirective.{LoopDirective}
@@ -16,7 +16,7 @@ use Rattle.xmp_prog.specs.Fits.{node_count}
 use Rattle.xmp_meaning.specs.Expressions.{call}
 use Rattle.xmp_prog.specs.Formats.{Piece, spelling, is_piece}
 use Rattle.xmp_meaning.specs.Formats.{pieces_of}
-use Rattle.xmp_meaning.specs.Loops.{then_run, block, choose, turns, turn, while_loop, nest}
+use Rattle.xmp_meaning.specs.Loops.{is_inside, turn_count, then_run, block, choose, turns, turn, while_loop, nest}
 use Rattle.xmp_meaning.specs.Directives.{Directives, erased}
 use Rattle.xmp_meaning.specs.Statements.{stmt_of}
 use Rattle.xmp_meaning.specs.Calls.{main_context}
@@ -141,3 +141,10 @@ TakesAsItSays s t = (new : List Exchange) × (t.extra.said ≡ s.extra.said ++ n
 -- the pieces of a format are those that it is spelled of
 abbrev pub FormatsRead : Type 0
 FormatsRead = (pieces : List Piece) → IsTrue (list_all is_piece pieces) → pieces_of (flat_map spelling pieces) ≡ pieces
+
+-- ---- counted loops
+
+-- the turns of a counted loop are those whose index, in whole numbers, is inside the bound
+abbrev pub TurnsAreCounted : Type 0
+TurnsAreCounted = (from to : ℤ) (inclusive : Bool) (step k : ℕ) → 1 ≤ step
+    → (is_inside inclusive (from +ℤ pos (k * step)) to ≡ true) ↔ (k < turn_count from to inclusive step)
