@@ -25,8 +25,8 @@ digits_read [] rest width ty all = refl
 digits_read (d ∷ ds) rest width ty all =
     let range : _ = digit_from_value d all.0 in
     ap (λ t. if t then behind_percent (width * 10 + digit_value d) ty (ds ++ rest)
-        else (if d == 108 then behind_percent width Long (ds ++ rest)
-        else (if d == 37 then Percent ∷ pieces_of (ds ++ rest) else Number width ty ∷ pieces_of (ds ++ rest)))) (digit_passes d range.0 range.1)
+    else (if d == 108 then behind_percent width Long (ds ++ rest)
+    else (if d == 37 then Percent ∷ pieces_of (ds ++ rest) else Number width ty ∷ pieces_of (ds ++ rest)))) (digit_passes d range.0 range.1)
     ∙ digits_read ds rest (width * 10 + digit_value d) ty all.1
 
 letters_read : (width : ℕ) (ty : Ty) (rest : List ℕ) → behind_percent width Int (letters ty ++ rest) ≡ Number width ty ∷ pieces_of rest

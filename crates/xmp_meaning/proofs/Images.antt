@@ -79,7 +79,7 @@ alike cx = record {
   calls = λ k vs s none. alike_call s none (cx.call k vs s.steps);
   loops = λ {test} {test'} {body} {body'} h i s none.
       turns_kept alike_joins {test = test} {test' = test'} {body = turn body} {body' = turn body'} (suc s.steps) h
-          (alike_on take_step take_step (λ u. body) (λ u. body') (λ t n. alike_take t.steps t n) (λ u. i)) s none;
+      (alike_on take_step take_step (λ u. body) (λ u. body') (λ t n. alike_take t.steps t n) (λ u. i)) s none;
 }
 
 alike_sync : (p : ProgParts) → Alike Flow (pure Next) (λ s. next_phase p s.extra s)

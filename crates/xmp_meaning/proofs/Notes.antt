@@ -60,7 +60,7 @@ module _ {X : Type 0} where
     calls = λ k vs s. forgets_call s (cx.call k vs s.steps);
     loops = λ {test} {test'} {body} {body'} h i s.
         turns_kept forgets_joins {test = test} {test' = test'} {body = turn body} {body' = turn body'} (suc s.steps) h
-            (forgets_on take_step take_step (λ u. body) (λ u. body') (λ t. forgets_step t.steps t) (λ u. i)) s;
+        (forgets_on take_step take_step (λ u. body) (λ u. body') (λ t. forgets_step t.steps t) (λ u. i)) s;
   }
 
 notes_of_arrays : (arrays : List Name) (s : State (List Exchange)) → Gave Next (bare s) ≡ bare_step (note_arrays arrays s)
@@ -91,4 +91,4 @@ pub traced_is_serial : (p : ProgParts) (input : List ℕ) (steps : ℕ) → Trac
 traced_is_serial p input steps =
     sym (outcome_bare p (program (traced p) (main_context p 0 input) (beginning p steps [])))
     ∙ ap (outcome_of p) (sym (keeps-program (main_context p 0 input) (forgets (main_context p 0 input)) (forgets_traced p)
-        (all_any _) (all_any _) (all_any _) (beginning p steps [])))
+    (all_any _) (all_any _) (all_any _) (beginning p steps [])))

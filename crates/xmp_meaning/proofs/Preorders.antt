@@ -52,9 +52,9 @@ module _ {X : Type 0} {cx : Context} {S T : ℕ → Type 0} {K : State X → Sta
   respects_turns zero test body h i s = r.same s
   respects_turns (suc n) test body h i s =
       respects_then s (λ more. choose more (then_run body (turns n test body)) (pure Next)) (test s) (h s)
-          (λ more. respects_choose more (then_run body (turns n test body)) (pure Next)
-              (λ t. respects_then t (λ flow. after flow (turns n test body)) (body t) (i t) (λ flow. respects_after flow (turns n test body) (respects_turns n test body h i)))
-              r.same)
+      (λ more. respects_choose more (then_run body (turns n test body)) (pure Next)
+      (λ t. respects_then t (λ flow. after flow (turns n test body)) (body t) (i t) (λ flow. respects_after flow (turns n test body) (respects_turns n test body h i)))
+      r.same)
 
   respects_step : (s : State X) (n : ℕ) → s.steps ≡ n → K s (state_of (step_of n s))
   respects_step s zero e = r.same s
@@ -82,7 +82,7 @@ module _ {X : Type 0} {cx : Context} {S T : ℕ → Type 0} {K : State X → Sta
   respects_block (t ∷ ts) [] alike s = absurd alike
   respects_block (t ∷ ts) (u ∷ us) alike s =
       respects_then s (λ flow. after flow (block (map task_run ts))) (t.run s) (alike.0.runs s)
-          (λ flow. respects_after flow (block (map task_run ts)) (respects_block ts us alike.1))
+      (λ flow. respects_after flow (block (map task_run ts)) (respects_block ts us alike.1))
 
   pub keeps_erased : KeepsDirectives X X Respects erased erased
   keeps_erased = record {

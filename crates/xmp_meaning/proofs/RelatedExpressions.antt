@@ -87,11 +87,17 @@ module _ {X Y : Type 0} {S T : ℕ → Type 0} {R : (A : Type 0) → Run X A →
 
     keeps-access_parts : (array : ℕ) (cs : List C) (image : Option C) (at : Place)
         → ElementsAlike X Y R (of_access (record { array = array; subscripts = cs; image = image; at = at }))
-            (of_access (record { array = array; subscripts = cs; image = image; at = at }))
-    keeps-access_parts array cs None at = record { array = refl; number = k.goes_on (keeps-subscripts cs (extents cx.program array) at 0)
-        (λ x. k.goes_on (k.gives (if is_coarray cx.program array then cx.node else 0)) (λ image. k.gives (in_image cx array x image))) }
-    keeps-access_parts array cs (Some c) at = record { array = refl; number = k.goes_on (keeps-subscripts cs (extents cx.program array) at 0)
-        (λ x. k.goes_on (k.goes_on (h c) (λ v. k.gives (natural v))) (λ image. k.gives (in_image cx array x image))) }
+        (of_access (record { array = array; subscripts = cs; image = image; at = at }))
+    keeps-access_parts array cs None at = record {
+      array = refl;
+      number = k.goes_on (keeps-subscripts cs (extents cx.program array) at 0)
+          (λ x. k.goes_on (k.gives (if is_coarray cx.program array then cx.node else 0)) (λ image. k.gives (in_image cx array x image)));
+    }
+    keeps-access_parts array cs (Some c) at = record {
+      array = refl;
+      number = k.goes_on (keeps-subscripts cs (extents cx.program array) at 0)
+          (λ x. k.goes_on (k.goes_on (h c) (λ v. k.gives (natural v))) (λ image. k.gives (in_image cx array x image)));
+    }
 
     keeps-access_step : (y : Access-F C D) → ElementsAlike X Y R (of_access y) (of_access y)
     keeps-access_step y = keeps-access_parts y.array y.subscripts y.image y.at

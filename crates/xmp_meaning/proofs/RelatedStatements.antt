@@ -97,7 +97,7 @@ module _ {X Y : Type 0} {S T : ℕ → Type 0} {R : (A : Type 0) → Run X A →
   keeps-scan : (l : Location) → MayWrite S T l → R Flow (scan cx l) (scan cx l)
   keeps-scan l may = k.goes_on k.inputs (λ at.
       k.goes_on (k.sets_taken (scan_of (location_type cx.program l) cx.input at).1)
-          (λ u. keeps-store_read l may (scan_of (location_type cx.program l) cx.input at).0))
+      (λ u. keeps-store_read l may (scan_of (location_type cx.program l) cx.input at).0))
 
   -- ---- loops
   keeps-holds : (e : Expr) → R Bool (holds (expr_of cx e)) (holds (expr_of cx e))
@@ -115,7 +115,7 @@ module _ {X Y : Type 0} {S T : ℕ → Type 0} {R : (A : Type 0) → Run X A →
       → R Flow (counted cx head body) (counted cx head body')
   keeps-counted head may r = k.goes_on (keeps-expr cx k head.from) (λ from. k.goes_on (k.sets_scalar head.index.number may (wrap Int from))
       (λ u. k.goes_on (keeps-expr cx k head.to)
-          (λ to. turns_kept (joins k) (turn_count (wrap Int from) (wrap Int to) head.inclusive head.step) (keeps-inside head) (keeps-then r (keeps-step_up head may)))))
+      (λ to. turns_kept (joins k) (turn_count (wrap Int from) (wrap Int to) head.inclusive head.step) (keeps-inside head) (keeps-then r (keeps-step_up head may)))))
 
   pub keeps-nest : {body : Run X Flow} {body' : Run Y Flow} (heads : List LoopHead) → AllByRecursion S (indices_of heads) → R Flow body body'
       → R Flow (nest cx heads body) (nest cx heads body')
@@ -241,7 +241,7 @@ module _ {X Y : Type 0} {S T : ℕ → Type 0} {R : (A : Type 0) → Run X A →
       keeps-stmt_step (Stmt-F.Loop directive body) may rows =
           let m : _ = all_of_both S (indices_of directive.nest) (scalars_written (p body)) may in
           kd.loop directive (nest cx directive.nest) (nest cx directive.nest)
-              (stmt_of d cx (p body)) (stmt_of e cx (p body)) (λ b b' r. keeps-nest directive.nest m.0 r) (h body m.1 rows)
+          (stmt_of d cx (p body)) (stmt_of e cx (p body)) (λ b b' r. keeps-nest directive.nest m.0 r) (h body m.1 rows)
       keeps-stmt_step (Stmt-F.Tasks all at) may rows =
           kd.tasks (map (task_of d) (map q all)) (map (task_of e) (map q all)) (all_alike all may rows)
 
@@ -277,11 +277,11 @@ module _ {X Y : Type 0} {S T : ℕ → Type 0} {R : (A : Type 0) → Run X A →
     pub keeps-stmt : (s : Stmt) → StmtKept s
     keeps-stmt = ind-Stmt StmtKept TaskKept
         (λ x y is. subst (λ z. StmtKept (roll-Stmt z)) is (λ may rows.
-            both_rolled (stmt_rolled d _) (stmt_rolled e _) (keeps-stmt_step (λ c. c.0) (λ c. c.0) (λ c. c.1) (λ c. c.1) y
-                (written_rolled S scalars_step _ may) (written_rolled T arrays_step _ rows))))
+        both_rolled (stmt_rolled d _) (stmt_rolled e _) (keeps-stmt_step (λ c. c.0) (λ c. c.0) (λ c. c.1) (λ c. c.1) y
+        (written_rolled S scalars_step _ may) (written_rolled T arrays_step _ rows))))
         (λ x y is. subst (λ z. TaskKept (roll-Task z)) is (λ may rows.
-            both_rolled_tasks (task_rolled d _) (task_rolled e _) (keeps-task_step (λ c. c.0) (λ c. c.0) (λ c. c.1) (λ c. c.1) y
-                (task_written_rolled S scalars_step _ may) (task_written_rolled T arrays_step _ rows))))
+        both_rolled_tasks (task_rolled d _) (task_rolled e _) (keeps-task_step (λ c. c.0) (λ c. c.0) (λ c. c.1) (λ c. c.1) y
+        (task_written_rolled S scalars_step _ may) (task_written_rolled T arrays_step _ rows))))
 
     pub keeps-program : AllByRecursion S (map (λ s. s.slot) cx.program.start) → AllByRecursion S (scalars_written cx.program.body)
         → AllByRecursion T (arrays_written cx.program.body) → R Flow (program d cx) (program e cx)

@@ -49,7 +49,7 @@ turns_add X (suc n) m test body stays s =
   where
     at_test : ((t : State X) → turns (n + m) test body t ≡ then_run (turns n test body) (turns m test body) t) → (r : Step X Bool) → test s ≡ r
         → and_then r (λ more. choose more (then_run body (turns (n + m) test body)) (pure Next))
-            ≡ and_then (and_then r (λ more. choose more (then_run body (turns n test body)) (pure Next))) (λ flow. after flow (turns m test body))
+        ≡ and_then (and_then r (λ more. choose more (then_run body (turns n test body)) (pure Next))) (λ flow. after flow (turns m test body))
     at_test rest (Gave true t) e =
         same_after (body t) (turns (n + m) test body) (then_run (turns n test body) (turns m test body)) rest
         ∙ sym (flows_associate (body t) (turns n test body) (turns m test body))

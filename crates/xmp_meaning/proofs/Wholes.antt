@@ -45,7 +45,7 @@ module _ {X : Type 0} where
     calls = λ k vs s. refl;
     loops = λ {test} {test'} {body} {body'} h i s.
         turns_kept same_joins {test = test} {test' = test'} {body = turn body} {body' = turn body'} (suc s.steps) h
-            (same_on take_step take_step (λ u. body) (λ u. body') (λ t. refl) (λ u. i)) s;
+        (same_on take_step take_step (λ u. body) (λ u. body') (λ t. refl) (λ u. i)) s;
   }
 
   only_all : (test : State X → Bool) (body : Run X Flow) → ((s : State X) → test s ≡ true) → Same Flow (only test body) body

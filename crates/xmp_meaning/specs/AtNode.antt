@@ -83,7 +83,7 @@ set_all (n ∷ ns) [] = pure Next
 abbrev pub bcast_at : ProgParts → ℕ → List Name → NodeSet → Run Talk Flow
 bcast_at p node variables from = λ s.
     exchange (Broadcast from (values_of s (map (λ v. v.number) variables)))
-        (λ x. if is_member p node from then pure Next else set_all variables (values_said x)) s
+    (λ x. if is_member p node from then pure Next else set_all variables (values_said x)) s
 
 -- whether a node holds a copy of another node's cell
 abbrev pub is_copy : Home → ℕ → ℕ → Bool
@@ -100,8 +100,10 @@ abbrev pub reflect_at : ProgParts → ℕ → List Name → Run Talk Flow
 reflect_at p node [] = pure Next
 reflect_at p node (a ∷ all) = then_run
     (λ s. exchange (Reflected a.number (row_in s.arrays a.number))
-        (λ x t. Gave Next (record t { arrays = slice_set t.arrays a.number
-            (with_copies (is_copy (home_of p a.number) node) 0 (row_in t.arrays a.number) (values_said x)) })) s)
+    (λ x t. Gave Next (record t {
+      arrays = slice_set t.arrays a.number
+          (with_copies (is_copy (home_of p a.number) node) 0 (row_in t.arrays a.number) (values_said x));
+    })) s)
     (reflect_at p node all)
 
 -- ---- gmove

@@ -16,7 +16,15 @@ use Rattle.xmp_prog.specs.declared.parts.ProgParts.{ProgParts}
 -- a program over scalars alone
 abbrev pub over_scalars : Grid → List Stmt → ProgParts
 over_scalars grid body = record {
-    grid = grid; kind = Global; scalars = Int ∷ []; arrays = []; templates = []; functions = []; start = []; body = stmt.Block body }
+  grid = grid;
+  kind = Global;
+  scalars = Int ∷ [];
+  arrays = [];
+  templates = [];
+  functions = [];
+  start = [];
+  body = stmt.Block body;
+}
 
 abbrev pub number : ℕ → Expr
 number n = expr.Const (pos n) Int

@@ -64,10 +64,13 @@ abbrev pub in_image : Context → ℕ → ℕ → ℕ → ℕ
 in_image cx array x image = image * product (extents cx.program array) + x
 
 abbrev pub access_step : {X : Type 0} → Context → Access-F (Run X ℤ) (Element X) → Element X
-access_step cx a = record { array = a.array; number = do
-  x ← cell_number a.subscripts (extents cx.program a.array) a.at 0
-  image ← image_of cx a.array a.image
-  pure (in_image cx a.array x image) }
+access_step cx a = record {
+  array = a.array;
+  number = do
+    x ← cell_number a.subscripts (extents cx.program a.array) a.at 0
+    image ← image_of cx a.array a.image
+    pure (in_image cx a.array x image);
+}
 
 -- ---- expressions
 

@@ -36,7 +36,10 @@ abbrev pub beginning : {X : Type 0} → ProgParts → ℕ → X → State X
 beginning p steps extra = record {
   scalars = replicate (length p.scalars) (pos 0);
   arrays = no_writes p;
-  out = []; taken = 0; steps = steps; extra = extra;
+  out = [];
+  taken = 0;
+  steps = steps;
+  extra = extra;
 }
 
 -- the initialisers at file scope, in order

@@ -62,7 +62,7 @@ subscripts at extent (One v) = do
   x ← or_subscript (within v extent) at
   pure (x ∷ [])
 subscripts at extent (Many base length step) =
-  section (in_range extent base length step) at (progression (natural base) (natural step) (natural length))
+    section (in_range extent base length step) at (progression (natural base) (natural step) (natural length))
 
 -- the same of each dimension in order
 abbrev pub all_subscripts : {X : Type 0} → Place → List ℕ → List Chosen → Run X (List (List ℕ))
