@@ -1,10 +1,9 @@
 -- How many turns a counted loop makes.
-use Rattle.std.proofs.Common.{◌≡◌, ◌+◌, ◌-◌, ◌*◌, ◌/◌, ◌<◌, ◌≤◌, ℕ, zero, suc, Bool, true, false, refl, sym, ap, ◌∙◌, subst, arith, if◌then◌else◌}
-use Rattle.std.specs.Prelude.{ℤ, pos, negsuc, ◌+ℤ◌, ◌-ℤ◌, int_lt, int_le, ◌↔◌}
+use Rattle.std.proofs.Common.{◌≡◌, ◌+◌, ◌-◌, ◌*◌, ◌/◌, ◌<◌, ◌≤◌, ℕ, suc, true, false, arith}
+use Rattle.std.specs.Prelude.{ℤ, pos, ◌+ℤ◌, ◌-ℤ◌, int_lt, int_le}
 use Rattle.std.proofs.Math.Nat.{le-div_iff_mul-le}
 use Rattle.std.proofs.lemmas.Int.{ints}
 use Rattle.xmp_meaning.specs.Expressions.{natural}
-use Rattle.xmp_meaning.specs.Loops.{is_inside, turn_count}
 use Rattle.xmp_meaning.specs.Laws.{TurnsAreCounted}
 
 few_turns : (g step k : ℕ) → 1 ≤ step → k * step < g → k < (g + (step - 1)) / step

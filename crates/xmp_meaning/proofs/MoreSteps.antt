@@ -1,20 +1,19 @@
 -- With more steps the same comes, where it wasn't for want of steps that a run ended.
-use Rattle.std.proofs.Common.{◌≡◌, ◌+◌, ◌≤◌, ◌<◌, ◌==◌, ℕ, zero, suc, ℤ, pos, Bool, true, false, if◌then◌else◌, List, [], ◌∷◌, length, refl, sym, ap, ◌∙◌, subst, arith}
+use Rattle.std.proofs.Common.{◌≡◌, ◌+◌, ◌≤◌, ◌<◌, ◌==◌, ℕ, zero, suc, ℤ, pos, Bool, true, false, if◌then◌else◌, List, [], ◌∷◌, length, refl, sym, ap, subst, arith}
 use Rattle.std.specs.Prelude.{Option, Some, None, slice_get}
 use Rattle.xmp_num.specs.Arithmetic.{wrap}
 use Rattle.xmp_prog.specs.declared.parts.ProgParts.{ProgParts}
 use Rattle.xmp_prog.specs.declared.parts.Function.{Function}
-use Rattle.xmp_meaning.specs.declared.ends.End.{End}
 use Rattle.xmp_meaning.specs.declared.ends.End.TheVariants.{Trapped, OutOfSteps, PhaseEnd}
 use Rattle.xmp_meaning.specs.declared.ends.Flow.{Flow}
 use Rattle.xmp_meaning.specs.declared.ends.Flow.TheVariants.{Next, Returned}
-use Rattle.xmp_meaning.specs.Runs.{State, Step, Gave, Ended, Run, and_then, ◌>>=◌, pure, step_of, take_step}
+use Rattle.xmp_meaning.specs.Runs.{State, Step, Gave, Ended, Run, and_then, ◌>>=◌, pure, step_of}
 use Rattle.xmp_meaning.specs.Context.{Context}
-use Rattle.xmp_meaning.specs.Expressions.{call, after_call}
-use Rattle.xmp_meaning.specs.Loops.{after, then_run, choose, turns, turn, while_loop}
+use Rattle.xmp_meaning.specs.Expressions.{after_call}
+use Rattle.xmp_meaning.specs.Loops.{after, then_run, choose, turns, turn}
 use Rattle.xmp_meaning.specs.Directives.{erased}
 use Rattle.xmp_meaning.specs.Statements.{stmt_of}
-use Rattle.xmp_meaning.specs.Calls.{frame, bind, returned, invoke, invoke_some, context, call_of, main_context}
+use Rattle.xmp_meaning.specs.Calls.{frame, bind, returned, invoke_some, context, call_of, main_context}
 use Rattle.xmp_meaning.specs.Programs.{beginning, outcome_of, serial, serial_end}
 use Rattle.xmp_meaning.specs.Exchanges.{state_of}
 use Rattle.xmp_meaning.specs.Laws.{richer, SameWithMore, SameOutcome}

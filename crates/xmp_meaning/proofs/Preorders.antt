@@ -1,19 +1,14 @@
 -- What every part of a run respects, where its primitives do: a reflexive and transitive relation between the state before and the state after.
 use Rattle.std.proofs.Common.{◌≡◌, ◌++◌, ℕ, zero, suc, ℤ, Bool, true, false, List, [], ◌∷◌, map, refl}
 use Rattle.std.specs.Prelude.{slice_set}
-use Rattle.std.specs.List.{AllByRecursion}
-use Rattle.xmp_prog.specs.declared.statements.LoopDirective.{LoopDirective}
-use Rattle.xmp_prog.specs.declared.statements.Name.{Name}
-use Rattle.xmp_prog.specs.declared.statements.MoveSide.{MoveSide}
 use Rattle.xmp_meaning.specs.declared.ends.Flow.{Flow}
 use Rattle.xmp_meaning.specs.declared.ends.Flow.TheVariants.{Next, Returned}
 use Rattle.xmp_meaning.specs.Cells.{with_cell}
-use Rattle.xmp_meaning.specs.Runs.{State, Step, Gave, Ended, Run, and_then, ◌>>=◌, pure, step_of, take_step}
+use Rattle.xmp_meaning.specs.Runs.{State, Step, Gave, Ended, Run, and_then, pure, step_of}
 use Rattle.xmp_meaning.specs.Context.{Context}
 use Rattle.xmp_meaning.specs.Expressions.{call}
-use Rattle.xmp_meaning.specs.Loops.{after, then_run, block, choose, turns, turn, while_loop}
-use Rattle.xmp_meaning.specs.Sections.{Move}
-use Rattle.xmp_meaning.specs.Directives.{Directives, TaskRun, task_run, erased}
+use Rattle.xmp_meaning.specs.Loops.{after, then_run, block, choose, turns, turn}
+use Rattle.xmp_meaning.specs.Directives.{TaskRun, task_run, erased}
 use Rattle.xmp_meaning.specs.Exchanges.{state_of}
 use Rattle.xmp_meaning.proofs.Keeps.{Keeps, KeepsDirectives, AllAlike}
 

@@ -1,5 +1,5 @@
 -- Statements keep every such relation.
-use Rattle.std.proofs.Common.{◌≡◌, ◌++◌, ◌+◌, ◌*◌, ◌+ℤ◌, ℕ, zero, suc, ℤ, pos, Bool, true, false, not, List, [], ◌∷◌, map, length, Option, Some, None, refl, sym, subst, if◌then◌else◌}
+use Rattle.std.proofs.Common.{◌≡◌, ◌++◌, ◌+ℤ◌, ℕ, ℤ, pos, Bool, true, false, not, List, [], ◌∷◌, map, length, Option, Some, None, refl, sym, subst}
 use Rattle.std.specs.List.{AllByRecursion, concat}
 use Rattle.xmp_base.specs.declared.place.Place.{Place}
 use Rattle.xmp_num.specs.declared.types.TrapKind.TheVariants.{Section}
@@ -29,10 +29,10 @@ use Rattle.xmp_meaning.specs.declared.ends.Flow.{Flow}
 use Rattle.xmp_meaning.specs.declared.ends.Flow.TheVariants.{Next, Returned}
 use Rattle.xmp_meaning.specs.Runs.{Run, ◌>>=◌, pure}
 use Rattle.xmp_meaning.specs.Context.{Context, extents, scalar_type, array_type}
-use Rattle.xmp_meaning.specs.Expressions.{expr_of, cell_of, each, call, is_zero, natural, within, or_subscript}
+use Rattle.xmp_meaning.specs.Expressions.{expr_of, is_zero, natural, within}
 use Rattle.xmp_meaning.specs.Formats.{printed}
-use Rattle.xmp_meaning.specs.Assignments.{location_type, value_at, store, at_target, new_value, assign, initialise, declare, store_read, scan}
-use Rattle.xmp_meaning.specs.Loops.{after, then_run, block, choose, turns, holds, inside, is_inside, step_up, turn_count, counted, nest}
+use Rattle.xmp_meaning.specs.Assignments.{location_type, value_at, store, at_target, new_value, assign, initialise, store_read, scan}
+use Rattle.xmp_meaning.specs.Loops.{then_run, block, holds, inside, is_inside, step_up, turn_count, counted, nest}
 use Rattle.xmp_meaning.specs.Sections.{Chosen, One, Many, chosen, numbers, in_range, progression, section, subscripts, all_subscripts, cells_from, cells, cell_at, lengths, fit, name_of, lengths_fit, spread, store_all, Move, move, written}
 use Rattle.xmp_meaning.specs.Directives.{Directives, TaskRun}
 use Rattle.xmp_meaning.specs.Statements.{plain_of, stmt_step, task_step, stmt_of}

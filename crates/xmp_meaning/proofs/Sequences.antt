@@ -1,11 +1,10 @@
 -- Parts of a run one after the other.
-use Rattle.std.proofs.Common.{◌≡◌, ◌+◌, ◌++◌, ℕ, zero, suc, Bool, true, false, List, [], ◌∷◌, refl, sym, ap, ◌∙◌, arith}
-use Rattle.xmp_meaning.specs.declared.ends.End.{End}
+use Rattle.std.proofs.Common.{◌≡◌, ◌+◌, ◌++◌, ℕ, zero, suc, Bool, true, false, [], ◌∷◌, refl, sym, ap, ◌∙◌, arith}
 use Rattle.xmp_meaning.specs.declared.ends.Flow.{Flow}
 use Rattle.xmp_meaning.specs.declared.ends.Flow.TheVariants.{Next, Returned}
-use Rattle.xmp_meaning.specs.Runs.{State, Step, Gave, Ended, Run, and_then, ◌>>=◌, pure}
+use Rattle.xmp_meaning.specs.Runs.{State, Step, Gave, Ended, Run, and_then, pure}
 use Rattle.xmp_meaning.specs.Loops.{after, then_run, block, choose, turns}
-use Rattle.xmp_meaning.specs.Laws.{IsAssociative, StatementsAssociate, BlocksJoin, StaysFalse, TurnsAdd, EndsAreFinal}
+use Rattle.xmp_meaning.specs.Laws.{IsAssociative, StatementsAssociate, BlocksJoin, TurnsAdd, EndsAreFinal}
 
 steps_associate : {X A B C : Type 0} (r : Step X A) (f : A → Run X B) (g : B → Run X C)
     → and_then (and_then r f) g ≡ and_then r (λ a s. and_then (f a s) g)

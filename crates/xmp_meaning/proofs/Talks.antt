@@ -1,5 +1,5 @@
 -- A node takes from its feed as many exchanges as it says.
-use Rattle.std.proofs.Common.{◌≡◌, ◌++◌, ◌+◌, ℕ, zero, suc, ℤ, Bool, true, false, if◌then◌else◌, List, [], ◌∷◌, map, length, drop, refl, sym, ap, ◌∙◌, append-nil, append_assoc, Option, Some, None}
+use Rattle.std.proofs.Common.{◌≡◌, ◌++◌, ℕ, zero, suc, ℤ, Bool, true, false, if◌then◌else◌, List, [], ◌∷◌, map, length, drop, refl, sym, ap, ◌∙◌, append-nil, append_assoc, Option, Some, None}
 use Rattle.std.specs.Prelude.{slice_set, ◌==◌}
 use Rattle.xmp_prog.specs.declared.parts.ProgParts.{ProgParts}
 use Rattle.xmp_prog.specs.declared.statements.Name.{Name}
@@ -11,15 +11,15 @@ use Rattle.xmp_meaning.specs.declared.ends.Flow.{Flow}
 use Rattle.xmp_meaning.specs.declared.ends.Flow.TheVariants.{Next, Returned}
 use Rattle.xmp_num.specs.Reduction.{unit_of}
 use Rattle.xmp_meaning.specs.Cells.{row_in, with_cell}
-use Rattle.xmp_meaning.specs.Runs.{State, Step, Gave, Ended, Run, and_then, ◌>>=◌, pure, set_scalar}
+use Rattle.xmp_meaning.specs.Runs.{State, Step, Gave, Ended, Run, and_then, pure, set_scalar}
 use Rattle.xmp_meaning.specs.Context.{Context, scalar_type}
 use Rattle.xmp_meaning.specs.Expressions.{after_call}
-use Rattle.xmp_meaning.specs.Loops.{after, then_run, block, choose}
+use Rattle.xmp_meaning.specs.Loops.{after, then_run, choose}
 use Rattle.xmp_meaning.specs.Directives.{TaskRun}
 use Rattle.xmp_meaning.specs.Statements.{stmt_of}
 use Rattle.xmp_meaning.specs.Parts.{begin, only, owns_iteration, part_of}
 use Rattle.xmp_meaning.specs.Exchanges.{PartEnd, Whole, Stopped, TaskEnd, Exchange, AtBarrier, Broadcast, Reflected, Moved, LoopEnd, TasksEnd, values_of, part_end, state_of, unprinted}
-use Rattle.xmp_meaning.specs.AtNode.{Talk, is_copy, home_of, with_copies, values_said, later_said, talked, exchange, first_said, is_member, set_all, bcast_at, reflect_at, gmove_at, closed, all_joined, units, parts_said, loop_heard, loop_at, own_end, known_ends, tasks_said, texts, first_end, ending, tasks_heard, own_tasks, tasks_at, move_kept, gmove_heard, at_node}
+use Rattle.xmp_meaning.specs.AtNode.{Talk, is_copy, home_of, with_copies, values_said, later_said, talked, exchange, first_said, is_member, set_all, reflect_at, closed, all_joined, units, parts_said, loop_heard, loop_at, own_end, known_ends, tasks_said, texts, first_end, ending, tasks_heard, own_tasks, tasks_at, move_kept, gmove_heard, at_node}
 use Rattle.xmp_meaning.specs.Writes.{scalars_written, arrays_written}
 use Rattle.xmp_meaning.specs.Laws.{TakesAsItSays}
 use Rattle.xmp_meaning.proofs.Keeps.{KeepsDirectives, AllAlike}

@@ -1,12 +1,11 @@
 -- An uncounted loop is a test, a turn and the loop again.
-use Rattle.std.proofs.Common.{◌≡◌, ◌≤◌, ◌<◌, ℕ, zero, suc, ℤ, not, Bool, true, false, List, [], ◌∷◌, refl, sym, ap, ◌∙◌, arith}
+use Rattle.std.proofs.Common.{◌≡◌, ◌≤◌, ◌<◌, ℕ, zero, suc, ℤ, not, Bool, true, false, List, refl, arith}
 use Rattle.xmp_prog.specs.declared.parts.ProgParts.{ProgParts}
 use Rattle.xmp_prog.specs.declared.expressions.Expr.{Expr}
 use Rattle.xmp_prog.specs.declared.statements.Stmt.{Stmt}
-use Rattle.xmp_meaning.specs.declared.ends.End.{End}
 use Rattle.xmp_meaning.specs.declared.ends.Flow.{Flow}
 use Rattle.xmp_meaning.specs.declared.ends.Flow.TheVariants.{Next, Returned}
-use Rattle.xmp_meaning.specs.Runs.{State, Step, Gave, Ended, Run, and_then, ◌>>=◌, pure, step_of, take_step}
+use Rattle.xmp_meaning.specs.Runs.{State, Step, Gave, Ended, Run, and_then, ◌>>=◌, pure, step_of}
 use Rattle.xmp_meaning.specs.Context.{Context}
 use Rattle.xmp_meaning.specs.Expressions.{expr_of, is_zero}
 use Rattle.xmp_meaning.specs.Loops.{after, then_run, choose, turns, turn, while_loop, holds}
@@ -19,7 +18,7 @@ use Rattle.xmp_meaning.specs.Laws.{LoopUnrolls}
 use Rattle.xmp_meaning.proofs.RelatedExpressions.{keeps-expr}
 use Rattle.xmp_meaning.proofs.RelatedStatements.{keeps-stmt}
 use Rattle.xmp_meaning.proofs.Stays.{all_any}
-use Rattle.xmp_meaning.proofs.MoreSteps.{Rich, CallsRichly, richly, richly_erased, calls_richly}
+use Rattle.xmp_meaning.proofs.MoreSteps.{CallsRichly, richly, richly_erased, calls_richly}
 
 module _ {X : Type 0} (test : Run X Bool) (body : Run X Flow)
     (h : (s : State X) → (state_of (test s)).steps ≤ s.steps) (i : (s : State X) → (state_of (body s)).steps ≤ s.steps) where

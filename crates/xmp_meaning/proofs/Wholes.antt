@@ -1,5 +1,5 @@
 -- The part of a node that owns every iteration is the whole loop.
-use Rattle.std.proofs.Common.{◌≡◌, ℕ, zero, suc, ℤ, Bool, true, false, List, [], ◌∷◌, refl, sym, ap, ◌∙◌}
+use Rattle.std.proofs.Common.{◌≡◌, suc, Bool, true, List, [], ◌∷◌, refl, ap, ◌∙◌}
 use Rattle.xmp_prog.specs.declared.parts.ProgParts.{ProgParts}
 use Rattle.xmp_prog.specs.declared.statements.LoopDirective.{LoopDirective}
 use Rattle.xmp_prog.specs.declared.statements.Reduction.{Reduction}
@@ -8,9 +8,9 @@ use Rattle.xmp_meaning.specs.declared.ends.Flow.TheVariants.{Next}
 use Rattle.xmp_meaning.specs.Runs.{State, Step, Gave, Ended, Run, and_then, ◌>>=◌, pure, take_step}
 use Rattle.xmp_meaning.specs.Context.{Context}
 use Rattle.xmp_meaning.specs.Loops.{choose, turn, nest}
-use Rattle.xmp_meaning.specs.Parts.{begin, only, owns_iteration, part_of}
+use Rattle.xmp_meaning.specs.Parts.{begin, only, owns_iteration}
 use Rattle.xmp_prog.specs.Statements.{indices_of}
-use Rattle.xmp_meaning.specs.Laws.{PartIsWhole, OwnsAll}
+use Rattle.xmp_meaning.specs.Laws.{PartIsWhole}
 use Rattle.xmp_meaning.proofs.Keeps.{Joins, Keeps, turns_kept}
 use Rattle.xmp_meaning.proofs.RelatedStatements.{keeps-nest}
 use Rattle.xmp_meaning.proofs.Stays.{Any, all_any}

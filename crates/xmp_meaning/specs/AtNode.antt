@@ -1,7 +1,6 @@
 -- A node by itself: it goes through the program on its own store. At an exchange it says what it has to say, and takes what the others say
 -- from a list that it is fed with (this project).
-use Rattle.std.specs.Prelude.{ℕ, zero, suc, ◌==◌, ◌&&◌, not, if◌then◌else◌, Bool, true, false, List, [], ◌∷◌, ◌++◌, map, length, ℤ, pos, Option, Some, None, unwrap_or, slice_get, slice_set, int_lt}
-use Rattle.std.specs.List.{range_with_len}
+use Rattle.std.specs.Prelude.{ℕ, suc, ◌==◌, ◌&&◌, not, if◌then◌else◌, Bool, true, false, List, [], ◌∷◌, ◌++◌, map, ℤ, Option, Some, None, slice_get, slice_set, int_lt}
 use Rattle.std.specs.Ordering.{int_eq}
 use Rattle.xmp_num.specs.Reduction.{combine_of, unit_of}
 use Rattle.xmp_map.specs.declared.grid.NodeSet.{NodeSet}
@@ -20,7 +19,7 @@ use Rattle.xmp_prog.specs.declared.statements.MoveSide.TheVariants as side
 use Rattle.xmp_meaning.specs.declared.ends.End.{End}
 use Rattle.xmp_meaning.specs.declared.ends.Flow.{Flow}
 use Rattle.xmp_meaning.specs.declared.ends.Flow.TheVariants.{Next}
-use Rattle.xmp_meaning.specs.Runs.{State, Step, Gave, Ended, Run, ◌>>=◌, ◌>>◌, pure, set_scalar}
+use Rattle.xmp_meaning.specs.Runs.{Step, Gave, Ended, Run, ◌>>=◌, pure, set_scalar}
 use Rattle.xmp_meaning.specs.Cells.{row_in}
 use Rattle.xmp_meaning.specs.Context.{scalar_type}
 use Rattle.xmp_meaning.specs.Loops.{then_run, block}

@@ -1,5 +1,5 @@
 -- Small programs, and what they come to.
-use Rattle.std.specs.Prelude.{ℕ, false, List, [], ◌∷◌, ℤ, pos, Option, Some, None}
+use Rattle.std.specs.Prelude.{ℕ, List, [], ◌∷◌, pos, Some}
 use Rattle.xmp_base.specs.declared.place.Place.{Place}
 use Rattle.xmp_num.specs.declared.types.Ty.TheVariants.{Int}
 use Rattle.xmp_num.specs.declared.types.BinOp.TheVariants as op

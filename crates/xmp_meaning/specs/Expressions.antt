@@ -4,12 +4,11 @@ use Rattle.xmp_base.specs.declared.place.Place.{Place}
 use Rattle.xmp_num.specs.declared.types.TrapKind.TheVariants.{Subscript}
 use Rattle.xmp_num.specs.Arithmetic.{binary_of, wrap}
 use Rattle.xmp_map.specs.RowMajor.{product}
-use Rattle.xmp_prog.specs.declared.parts.ProgParts.{ProgParts}
 use Rattle.xmp_prog.specs.declared.expressions.Expr.{Expr}
 use Rattle.xmp_prog.specs.declared.expressions.Expr.TheOpen.{Expr-F, Access-F}
 use Rattle.xmp_prog.specs.declared.expressions.Expr.TheFolds.{fold-Expr, fold-Access}
 use Rattle.xmp_prog.specs.declared.expressions.Access.{Access}
-use Rattle.xmp_meaning.specs.Runs.{State, Step, Gave, Ended, Run, ◌>>=◌, ◌>>◌, pure, trap, or_trap, scalar, cell}
+use Rattle.xmp_meaning.specs.Runs.{State, Step, Gave, Ended, Run, ◌>>=◌, pure, trap, or_trap, scalar, cell}
 use Rattle.xmp_meaning.specs.Context.{Context, extents, is_coarray}
 use Rattle.xmp_prog.specs.Fits.{node_count}
 

@@ -1,6 +1,6 @@
 -- Laws of runs and of statements.
-use Rattle.std.specs.Prelude.{◌≡◌, ◌≢◌, ◌≤◌, ◌<◌, ◌↔◌, ◌+◌, ◌*◌, ◌++◌, ◌+ℤ◌, pos, ℕ, ℤ, Bool, true, false, List, [], ◌∷◌, length, drop, IsTrue, slice_get, Option, Some, None}
-use Rattle.std.specs.List.{AllByRecursion, list_all, flat_map}
+use Rattle.std.specs.Prelude.{◌≡◌, ◌≢◌, ◌≤◌, ◌<◌, ◌↔◌, ◌+◌, ◌*◌, ◌++◌, ◌+ℤ◌, pos, ℕ, ℤ, Bool, true, false, List, [], length, drop, IsTrue, slice_get}
+use Rattle.std.specs.List.{list_all, flat_map}
 use Rattle.xmp_prog.specs.declared.parts.ProgParts.{ProgParts}
 use Rattle.xmp_prog.specs.declared.statements.LoopDirective.{LoopDirective}
 use Rattle.xmp_prog.specs.declared.statements.Stmt.{Stmt}
@@ -17,7 +17,7 @@ use Rattle.xmp_meaning.specs.Expressions.{call}
 use Rattle.xmp_prog.specs.Formats.{Piece, spelling, is_piece}
 use Rattle.xmp_meaning.specs.Formats.{pieces_of}
 use Rattle.xmp_meaning.specs.Loops.{is_inside, turn_count, then_run, block, choose, turns, turn, while_loop, nest}
-use Rattle.xmp_meaning.specs.Directives.{Directives, erased}
+use Rattle.xmp_meaning.specs.Directives.{erased}
 use Rattle.xmp_meaning.specs.Statements.{stmt_of}
 use Rattle.xmp_meaning.specs.Calls.{main_context}
 use Rattle.xmp_meaning.specs.Programs.{beginning, program, outcome_of, serial}
@@ -25,7 +25,6 @@ use Rattle.xmp_meaning.specs.Exchanges.{Exchange, state_of, traced}
 use Rattle.xmp_meaning.specs.Parts.{owns_iteration, part_of}
 use Rattle.xmp_meaning.specs.AtNode.{Talk}
 use Rattle.xmp_meaning.specs.Phases.{Memory, image_run, phases}
-use Rattle.xmp_meaning.specs.Writes.{scalars_written, arrays_written}
 
 -- one part, then two more, is two parts and then one more
 abbrev pub IsAssociative : (X A B C : Type 0) → Type 0

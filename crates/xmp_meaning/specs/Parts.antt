@@ -1,5 +1,5 @@
 -- The part of a node in a loop directive (XcalableMP 1.4, loop construct): the iterations whose point it owns.
-use Rattle.std.specs.Prelude.{ℕ, ◌==◌, if◌then◌else◌, Bool, true, false, List, [], ◌∷◌, map, ℤ, pos, ◌+ℤ◌, Option, Some, None, unwrap_or, slice_get}
+use Rattle.std.specs.Prelude.{ℕ, ◌==◌, if◌then◌else◌, Bool, false, List, [], ◌∷◌, map, ℤ, pos, ◌+ℤ◌, Option, Some, None, unwrap_or, slice_get}
 use Rattle.xmp_num.specs.Reduction.{unit_of}
 use Rattle.xmp_map.specs.declared.template.Template.{Template}
 use Rattle.xmp_map.specs.RowMajor.{unravel}
@@ -11,7 +11,7 @@ use Rattle.xmp_prog.specs.declared.statements.Point.TheVariants as point
 use Rattle.xmp_prog.specs.declared.statements.Reduction.{Reduction}
 use Rattle.xmp_meaning.specs.declared.ends.Flow.{Flow}
 use Rattle.xmp_meaning.specs.declared.ends.Flow.TheVariants.{Next}
-use Rattle.xmp_meaning.specs.Runs.{State, Run, ◌>>=◌, ◌>>◌, pure, set_scalar}
+use Rattle.xmp_meaning.specs.Runs.{State, Run, ◌>>=◌, pure, set_scalar}
 use Rattle.xmp_meaning.specs.Context.{scalar_type}
 use Rattle.xmp_meaning.specs.Loops.{choose}
 

@@ -10,7 +10,7 @@ use Rattle.xmp_meaning.specs.declared.ends.Flow.{Flow}
 use Rattle.xmp_meaning.specs.declared.ends.Flow.TheVariants.{Next}
 use Rattle.xmp_meaning.specs.declared.outcome.Outcome.{Outcome}
 use Rattle.xmp_meaning.specs.declared.outcome.Outcome.TheVariants as outcome
-use Rattle.xmp_meaning.specs.Runs.{State, Step, Gave, Ended, Run, pure, stop}
+use Rattle.xmp_meaning.specs.Runs.{Step, Gave, Ended, Run, stop}
 use Rattle.xmp_prog.specs.Fits.{node_count}
 use Rattle.xmp_prog.specs.Tests.{is_image}
 use Rattle.xmp_meaning.specs.Directives.{Directives, erased}

@@ -1,5 +1,5 @@
 -- Parts of a run (this project): each goes from a state to a value and a state, or to an end.
-use Rattle.std.specs.Prelude.{◌≡◌, ◌++◌, ◌∷◌, [], ℕ, zero, suc, List, ℤ, pos, Option, Some, None, Result, Ok, Err, unwrap_or, slice_get, slice_set}
+use Rattle.std.specs.Prelude.{◌≡◌, ◌++◌, ℕ, zero, suc, List, ℤ, pos, Result, Ok, Err, unwrap_or, slice_get, slice_set}
 use Rattle.xmp_base.specs.declared.place.Place.{Place}
 use Rattle.xmp_num.specs.declared.types.TrapKind.{TrapKind}
 use Rattle.xmp_meaning.specs.declared.ends.End.{End}

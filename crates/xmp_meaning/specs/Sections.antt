@@ -1,11 +1,10 @@
 -- Assignments of sections under `gmove` (XcalableMP 1.4, gmove construct; the order of evaluation and the traps are this project's).
-use Rattle.std.specs.Prelude.{ℕ, ◌+◌, ◌*◌, ◌-◌, ◌&&◌, zero, suc, Bool, true, false, if◌then◌else◌, nat_lt, List, [], ◌∷◌, ◌++◌, map, length, replicate, ℤ, pos, ◌+ℤ◌, ◌*ℤ◌, int_lt, int_le, Option, Some, None}
+use Rattle.std.specs.Prelude.{ℕ, ◌+◌, ◌*◌, ◌&&◌, zero, suc, Bool, true, false, List, [], ◌∷◌, map, length, replicate, ℤ, pos, ◌+ℤ◌, ◌*ℤ◌, int_lt, int_le}
 use Rattle.std.specs.List.{range_with_len, flat_map}
 use Rattle.std.specs.Ordering.{int_eq}
 use Rattle.xmp_base.specs.declared.place.Place.{Place}
 use Rattle.xmp_num.specs.declared.types.TrapKind.TheVariants.{Section}
 use Rattle.xmp_prog.specs.declared.statements.Name.{Name}
-use Rattle.xmp_prog.specs.declared.statements.Number.{Number}
 use Rattle.xmp_prog.specs.declared.statements.Part.{Part}
 use Rattle.xmp_prog.specs.declared.statements.Part.TheVariants as part
 use Rattle.xmp_prog.specs.declared.statements.MoveSide.{MoveSide}
@@ -14,7 +13,7 @@ use Rattle.xmp_meaning.specs.declared.location.Location.{Location}
 use Rattle.xmp_meaning.specs.declared.location.Location.TheVariants as location
 use Rattle.xmp_meaning.specs.declared.ends.Flow.{Flow}
 use Rattle.xmp_meaning.specs.declared.ends.Flow.TheVariants.{Next}
-use Rattle.xmp_meaning.specs.Runs.{Run, ◌>>=◌, ◌>>◌, pure, trap}
+use Rattle.xmp_meaning.specs.Runs.{Run, ◌>>=◌, pure, trap}
 use Rattle.xmp_meaning.specs.Context.{Context, extents}
 use Rattle.xmp_meaning.specs.Expressions.{expr_of, each, within, or_subscript, natural}
 use Rattle.xmp_meaning.specs.Assignments.{value_at, store}

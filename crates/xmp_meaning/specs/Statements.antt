@@ -1,5 +1,5 @@
 -- What a statement does (ISO C11 6.8).
-use Rattle.std.specs.Prelude.{ℕ, List, [], ◌∷◌, map, not, pos}
+use Rattle.std.specs.Prelude.{[], map, pos}
 use Rattle.xmp_prog.specs.declared.statements.Plain.{Plain}
 use Rattle.xmp_prog.specs.declared.statements.Plain.TheVariants as plain
 use Rattle.xmp_prog.specs.declared.statements.Stmt.{Stmt}
@@ -7,7 +7,7 @@ use Rattle.xmp_prog.specs.declared.statements.Stmt.TheOpen.{Stmt-F, Task-F}
 use Rattle.xmp_prog.specs.declared.statements.Stmt.TheFolds.{fold-Stmt}
 use Rattle.xmp_meaning.specs.declared.ends.Flow.{Flow}
 use Rattle.xmp_meaning.specs.declared.ends.Flow.TheVariants.{Next, Returned}
-use Rattle.xmp_meaning.specs.Runs.{Run, ◌>>=◌, ◌>>◌, pure, set_scalar, write}
+use Rattle.xmp_meaning.specs.Runs.{Run, ◌>>=◌, pure, set_scalar, write}
 use Rattle.xmp_meaning.specs.Context.{Context}
 use Rattle.xmp_meaning.specs.Expressions.{expr_of, each, call}
 use Rattle.xmp_meaning.specs.Formats.{printed}

@@ -1,5 +1,5 @@
 -- Which scalars and arrays a statement writes.
-use Rattle.std.specs.Prelude.{ℕ, List, [], ◌∷◌, ◌++◌, map}
+use Rattle.std.specs.Prelude.{ℕ, List, [], ◌∷◌, ◌++◌}
 use Rattle.std.specs.List.{concat}
 use Rattle.xmp_prog.specs.Statements.{indices_of}
 use Rattle.xmp_prog.specs.declared.statements.MoveSide.{MoveSide}
