@@ -14,3 +14,4 @@ pub mod Unrolled
 pub mod Talks
 pub mod FormatLaws
 pub mod Counting
+pub mod CountedTurns

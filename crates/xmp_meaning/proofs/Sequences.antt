@@ -15,7 +15,7 @@ pub associative : (X A B C : Type 0) → IsAssociative X A B C
 associative X A B C p f g s = steps_associate (p s) f g
 
 -- what follows both, by what the first statement gave
-flows_associate : {X : Type 0} (r : Step X Flow) (q t : Run X Flow)
+pub flows_associate : {X : Type 0} (r : Step X Flow) (q t : Run X Flow)
     → and_then (and_then r (λ flow. after flow q)) (λ flow. after flow t) ≡ and_then r (λ flow. after flow (then_run q t))
 flows_associate (Gave Next s) q t = refl
 flows_associate (Gave (Returned v) s) q t = refl

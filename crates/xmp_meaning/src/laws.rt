@@ -17,7 +17,7 @@ ghost use Rattle.xmp_meaning.specs.Programs.{serial};
 ghost use Rattle.xmp_meaning.specs.Exchanges.{state_of};
 ghost use Rattle.xmp_meaning.specs.AtNode.{Talk, at_node};
 ghost use Rattle.xmp_meaning.specs.Writes.{scalars_written, arrays_written};
-ghost use Rattle.xmp_meaning.specs.Laws.{IsAssociative, StatementsAssociate, BlocksJoin, TurnsAdd, EndsAreFinal, OutputGrows, KeepsScalar, KeepsArray, CallTakesSteps, SameOutcome, NotesApart, TracedIsSerial, PartIsWhole, OneImage, LoopUnrolls, TakesAsItSays, FormatsRead, TurnsAreCounted};
+ghost use Rattle.xmp_meaning.specs.Laws.{IsAssociative, StatementsAssociate, BlocksJoin, TurnsAdd, EndsAreFinal, OutputGrows, KeepsScalar, KeepsArray, CallTakesSteps, SameOutcome, NotesApart, TracedIsSerial, PartIsWhole, OneImage, LoopUnrolls, TakesAsItSays, FormatsRead, TurnsAreCounted, CountedTurns};
 
 /// Parts of a run follow each other in one way, however they are grouped.
 pub fn sequences_associate<X, A, B, C>()
@@ -99,4 +99,9 @@ pub fn formats_are_read()
 /// A counted loop makes as many turns as there are values of its index inside its bound.
 pub fn turns_are_counted()
     ensures { TurnsAreCounted }
+{}
+
+/// The turns of a counted loop are those that are counted when it begins: no test fails before, and the index goes up by the step each time.
+pub fn counted_turns<X>()
+    ensures { CountedTurns X }
 {}
