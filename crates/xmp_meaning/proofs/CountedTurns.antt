@@ -1,6 +1,6 @@
 -- The turns of a counted loop are those that are counted when it begins.
-use Rattle.std.proofs.Common.{◌≡◌, ◌+◌, ◌*◌, ◌<◌, ◌≤◌, ℕ, zero, suc, Bool, true, false, refl, sym, ap, ◌∙◌, arith}
-use Rattle.std.specs.Prelude.{ℤ, pos, ◌+ℤ◌, Option, Some, slice_get, slice_set, unwrap_or}
+use Rattle.std.proofs.Common.{◌≡◌, ◌+◌, ◌*◌, ◌<◌, ℕ, zero, suc, Bool, true, refl, ap, ◌∙◌, arith}
+use Rattle.std.specs.Prelude.{ℤ, pos, ◌+ℤ◌, Some, slice_get, slice_set, unwrap_or}
 use Rattle.std.proofs.lemmas.Int.{ints}
 use Rattle.xmp_num.specs.declared.types.Ty.TheVariants.{Int}
 use Rattle.xmp_num.specs.Arithmetic.{wrap}
@@ -56,14 +56,15 @@ module _ {X : Type 0} (cx : Context) (head : LoopHead) (body : Run X Flow) (fits
       ap (λ r. and_then r (λ more. choose more (then_run (then_run body (step_up head)) loop) (pure Next))) (tested k lt s fit at)
       ∙ flows_associate (body s) (step_up head) loop
       ∙ same_after_next (body s) (then_run (step_up head) loop) (next_turn n k) (λ t went.
-          let kept : _ = c.turn_fits s t fit went in
-          let there : slice_get t.scalars head.index.number ≡ Some (index_at k) = kept.1 ∙ at in
-          let set : _ = c.index_fits t (index_at (suc k)) kept.0 in
-          ap (λ r. and_then r (λ flow. after flow loop)) (stepped k lt t there)
-          ∙ counted_from n (suc k) (let q : n + suc k ≡ count = omega (arith, e) in q) (with_index t (index_at (suc k))) set.0 set.1)
+      let kept : _ = c.turn_fits s t fit went in
+      let there : slice_get t.scalars head.index.number ≡ Some (index_at k) = kept.1 ∙ at in
+      let set : _ = c.index_fits t (index_at (suc k)) kept.0 in
+      ap (λ r. and_then r (λ flow. after flow loop)) (stepped k lt t there)
+      ∙ counted_from n (suc k) (let q : n + suc k ≡ count = omega (arith, e) in q) (with_index t (index_at (suc k))) set.0 set.1)
     where
       lt : k < count
       lt = omega (arith, e)
+
       loop : Run X Flow
       loop = turns n (inside cx head) (then_run body (step_up head))
 
@@ -73,5 +74,5 @@ index_at_first from step = grind (arith, ints)
 pub counted_turns : (X : Type 0) → CountedTurns X
 counted_turns X cx head body fits from to c s fit at =
     counted_from cx head body fits from to c (turn_count from (wrap Int to) head.inclusive head.step) 0
-        (let q : turn_count from (wrap Int to) head.inclusive head.step + 0 ≡ turn_count from (wrap Int to) head.inclusive head.step = omega arith in q)
-        s fit (at ∙ ap Some (index_at_first from head.step))
+    (let q : turn_count from (wrap Int to) head.inclusive head.step + 0 ≡ turn_count from (wrap Int to) head.inclusive head.step = omega arith in q)
+    s fit (at ∙ ap Some (index_at_first from head.step))

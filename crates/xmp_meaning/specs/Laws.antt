@@ -1,5 +1,5 @@
 -- Laws of runs and of statements.
-use Rattle.std.specs.Prelude.{◌≡◌, ◌≢◌, ◌≤◌, ◌<◌, ◌↔◌, ◌+◌, ◌*◌, ◌++◌, ◌+ℤ◌, pos, zero, suc, ℕ, ℤ, Option, Some, Bool, true, false, List, [], length, drop, IsTrue, slice_get, slice_set}
+use Rattle.std.specs.Prelude.{◌≡◌, ◌≢◌, ◌≤◌, ◌<◌, ◌↔◌, ◌+◌, ◌*◌, ◌++◌, ◌+ℤ◌, pos, zero, suc, ℕ, ℤ, Some, Bool, true, false, List, [], length, drop, IsTrue, slice_get, slice_set}
 use Rattle.std.specs.List.{list_all, flat_map}
 use Rattle.xmp_prog.specs.declared.parts.ProgParts.{ProgParts}
 use Rattle.xmp_num.specs.declared.types.Ty.TheVariants.{Int}
@@ -167,7 +167,7 @@ pub record IsCounted (X : Type 0) (cx : Context) (head : LoopHead) (body : Run X
       → (fits t ≡ true) × (slice_get t.scalars head.index.number ≡ slice_get s.scalars head.index.number)
   pub index_fits : (s : State X) (v : ℤ) → fits s ≡ true
       → (fits (record s { scalars = slice_set s.scalars head.index.number v }) ≡ true)
-          × (slice_get (slice_set s.scalars head.index.number v) head.index.number ≡ Some v)
+      × (slice_get (slice_set s.scalars head.index.number v) head.index.number ≡ Some v)
   pub step_fits : (k : ℕ) → k < turn_count from (wrap Int to) head.inclusive head.step
       → wrap Int ((from +ℤ pos (k * head.step)) +ℤ pos head.step) ≡ from +ℤ pos (suc k * head.step)
 
@@ -176,4 +176,4 @@ abbrev pub CountedTurns : (X : Type 0) → Type 0
 CountedTurns X = (cx : Context) (head : LoopHead) (body : Run X Flow) (fits : State X → Bool) (from to : ℤ) → IsCounted X cx head body fits from to
     → (s : State X) → fits s ≡ true → slice_get s.scalars head.index.number ≡ Some from
     → let n = turn_count from (wrap Int to) head.inclusive head.step in
-        turns n (inside cx head) (then_run body (step_up head)) s ≡ repeated head n 0 from body s
+    turns n (inside cx head) (then_run body (step_up head)) s ≡ repeated head n 0 from body s
