@@ -7,7 +7,7 @@ use Rattle.xmp_prog.specs.declared.parts.Function.{Function}
 use Rattle.xmp_meaning.specs.declared.ends.End.TheVariants.{Trapped, OutOfSteps, PhaseEnd}
 use Rattle.xmp_meaning.specs.declared.ends.Flow.{Flow}
 use Rattle.xmp_meaning.specs.declared.ends.Flow.TheVariants.{Next, Returned}
-use Rattle.xmp_meaning.specs.Runs.{State, Step, Gave, Ended, Run, and_then, ◌>>=◌, pure, step_of}
+use Rattle.xmp_meaning.specs.Runs.{State, Step, Gave, Ended, Run, and_then, ◌>>=◌, pure, step_of, state_of}
 use Rattle.xmp_meaning.specs.Context.{Context}
 use Rattle.xmp_meaning.specs.Expressions.{after_call}
 use Rattle.xmp_meaning.specs.Loops.{after, then_run, choose, turns, turn}
@@ -15,7 +15,6 @@ use Rattle.xmp_meaning.specs.Directives.{erased}
 use Rattle.xmp_meaning.specs.Statements.{stmt_of}
 use Rattle.xmp_meaning.specs.Calls.{frame, bind, returned, invoke_some, context, call_of, main_context}
 use Rattle.xmp_meaning.specs.Programs.{beginning, outcome_of, serial, serial_end}
-use Rattle.xmp_meaning.specs.Exchanges.{state_of}
 use Rattle.xmp_meaning.specs.Laws.{richer, SameWithMore, SameOutcome}
 use Rattle.xmp_meaning.proofs.Keeps.{Joins, Keeps, KeepsDirectives, tasks_kept}
 use Rattle.xmp_meaning.proofs.RelatedStatements.{keeps-stmt, keeps-program}

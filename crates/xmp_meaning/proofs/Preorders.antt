@@ -4,12 +4,11 @@ use Rattle.std.specs.Prelude.{slice_set}
 use Rattle.xmp_meaning.specs.declared.ends.Flow.{Flow}
 use Rattle.xmp_meaning.specs.declared.ends.Flow.TheVariants.{Next, Returned}
 use Rattle.xmp_meaning.specs.Cells.{with_cell}
-use Rattle.xmp_meaning.specs.Runs.{State, Step, Gave, Ended, Run, and_then, pure, step_of}
+use Rattle.xmp_meaning.specs.Runs.{State, Step, Gave, Ended, Run, and_then, pure, step_of, state_of}
 use Rattle.xmp_meaning.specs.Context.{Context}
 use Rattle.xmp_meaning.specs.Expressions.{call}
 use Rattle.xmp_meaning.specs.Loops.{after, then_run, block, choose, turns, turn}
 use Rattle.xmp_meaning.specs.Directives.{TaskRun, task_run, erased}
-use Rattle.xmp_meaning.specs.Exchanges.{state_of}
 use Rattle.xmp_meaning.proofs.Keeps.{Keeps, KeepsDirectives, AllAlike}
 
 -- The relation, and that the primitives respect it: writes of scalars in S and of cells of arrays in T.

@@ -4,12 +4,11 @@ use Rattle.std.specs.Prelude.{slice_get, slice_set}
 use Rattle.std.specs.List.{AllByRecursion}
 use Rattle.xmp_prog.specs.declared.statements.Stmt.{Stmt}
 use Rattle.xmp_meaning.specs.Cells.{row_in}
-use Rattle.xmp_meaning.specs.Runs.{State, Step, Gave, Ended}
+use Rattle.xmp_meaning.specs.Runs.{State, Step, Gave, Ended, state_of}
 use Rattle.xmp_meaning.specs.Context.{Context}
 use Rattle.xmp_meaning.specs.Expressions.{after_call}
 use Rattle.xmp_meaning.specs.Directives.{erased}
 use Rattle.xmp_meaning.specs.Statements.{stmt_of}
-use Rattle.xmp_meaning.specs.Exchanges.{state_of}
 use Rattle.xmp_meaning.specs.Writes.{scalars_written, arrays_written}
 use Rattle.xmp_meaning.specs.Laws.{OutputGrows, KeepsScalar, KeepsArray, CallTakesSteps}
 use Rattle.xmp_meaning.proofs.Preorders.{Respected, keeps, keeps_erased}

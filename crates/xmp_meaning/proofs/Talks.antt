@@ -11,14 +11,14 @@ use Rattle.xmp_meaning.specs.declared.ends.Flow.{Flow}
 use Rattle.xmp_meaning.specs.declared.ends.Flow.TheVariants.{Next, Returned}
 use Rattle.xmp_num.specs.Reduction.{unit_of}
 use Rattle.xmp_meaning.specs.Cells.{row_in, with_cell}
-use Rattle.xmp_meaning.specs.Runs.{State, Step, Gave, Ended, Run, and_then, pure, set_scalar}
+use Rattle.xmp_meaning.specs.Runs.{State, Step, Gave, Ended, Run, and_then, pure, set_scalar, state_of}
 use Rattle.xmp_meaning.specs.Context.{Context, scalar_type}
 use Rattle.xmp_meaning.specs.Expressions.{after_call}
 use Rattle.xmp_meaning.specs.Loops.{after, then_run, choose}
 use Rattle.xmp_meaning.specs.Directives.{TaskRun}
 use Rattle.xmp_meaning.specs.Statements.{stmt_of}
 use Rattle.xmp_meaning.specs.Parts.{begin, only, owns_iteration, part_of}
-use Rattle.xmp_meaning.specs.Exchanges.{PartEnd, Whole, Stopped, TaskEnd, Exchange, AtBarrier, Broadcast, Reflected, Moved, LoopEnd, TasksEnd, values_of, part_end, state_of, unprinted}
+use Rattle.xmp_meaning.specs.Exchanges.{PartEnd, Whole, Stopped, TaskEnd, Exchange, AtBarrier, Broadcast, Reflected, Moved, LoopEnd, TasksEnd, values_of, part_end, unprinted}
 use Rattle.xmp_meaning.specs.AtNode.{Talk, is_copy, home_of, with_copies, values_said, later_said, talked, exchange, first_said, is_member, set_all, reflect_at, closed, all_joined, units, parts_said, loop_heard, loop_at, own_end, known_ends, tasks_said, texts, first_end, ending, tasks_heard, own_tasks, tasks_at, move_kept, gmove_heard, at_node}
 use Rattle.xmp_meaning.specs.Writes.{scalars_written, arrays_written}
 use Rattle.xmp_meaning.specs.Laws.{TakesAsItSays}

@@ -5,14 +5,13 @@ use Rattle.xmp_prog.specs.declared.expressions.Expr.{Expr}
 use Rattle.xmp_prog.specs.declared.statements.Stmt.{Stmt}
 use Rattle.xmp_meaning.specs.declared.ends.Flow.{Flow}
 use Rattle.xmp_meaning.specs.declared.ends.Flow.TheVariants.{Next, Returned}
-use Rattle.xmp_meaning.specs.Runs.{State, Step, Gave, Ended, Run, and_then, ◌>>=◌, pure, step_of}
+use Rattle.xmp_meaning.specs.Runs.{State, Step, Gave, Ended, Run, and_then, ◌>>=◌, pure, step_of, state_of}
 use Rattle.xmp_meaning.specs.Context.{Context}
 use Rattle.xmp_meaning.specs.Expressions.{expr_of, is_zero}
 use Rattle.xmp_meaning.specs.Loops.{after, then_run, choose, turns, turn, while_loop, holds}
 use Rattle.xmp_meaning.specs.Directives.{erased}
 use Rattle.xmp_meaning.specs.Statements.{stmt_of}
 use Rattle.xmp_meaning.specs.Calls.{context}
-use Rattle.xmp_meaning.specs.Exchanges.{state_of}
 use Rattle.xmp_meaning.specs.Writes.{scalars_written, arrays_written}
 use Rattle.xmp_meaning.specs.Laws.{LoopUnrolls}
 use Rattle.xmp_meaning.proofs.RelatedExpressions.{keeps-expr}

@@ -53,6 +53,7 @@ assign cx compound e l = do
   _ ← store cx l v
   pure Next
 
+-- the initialiser where there is one, converted to its variable's type
 abbrev pub initialise : {X : Type 0} → Context → ℕ → Option Expr → Run X Flow
 initialise cx slot None = pure Next
 initialise cx slot (Some e) = do

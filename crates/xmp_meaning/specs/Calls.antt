@@ -34,6 +34,7 @@ invoke cx f vs = do
   flow ← stmt_of erased cx f.body
   pure (wrap f.result (returned flow))
 
+-- the same of a function by its number; a number that names none gives 0
 abbrev pub invoke_some : Context → Option Function → List ℤ → Run (Unit {0}) ℤ
 invoke_some cx None vs = pure (pos 0)
 invoke_some cx (Some f) vs = invoke cx f vs

@@ -26,6 +26,7 @@ over_scalars grid body = record {
   body = stmt.Block body;
 }
 
+-- a constant
 abbrev pub number : ℕ → Expr
 number n = expr.Const (pos n) Int
 

@@ -12,6 +12,7 @@ use Rattle.xmp_meaning.specs.Runs.{State, Step, Gave, Ended, Run, ◌>>=◌, pur
 use Rattle.xmp_meaning.specs.Context.{Context, extents, is_coarray}
 use Rattle.xmp_prog.specs.Fits.{node_count}
 
+-- a value that is 0
 abbrev pub is_zero : ℤ → Bool
 is_zero (pos zero) = true
 is_zero (pos (suc n)) = false
@@ -33,6 +34,7 @@ abbrev pub within : ℤ → ℕ → Option ℕ
 within (pos x) extent = if nat_lt x extent then Some x else None
 within (negsuc x) extent = None
 
+-- a subscript, or the trap at the array's name
 abbrev pub or_subscript : {X : Type 0} → Option ℕ → Place → Run X ℕ
 or_subscript (Some x) at = pure x
 or_subscript None at = trap Subscript at
@@ -62,6 +64,7 @@ pub record Element (X : Type 0) : Type 0 where
 abbrev pub in_image : Context → ℕ → ℕ → ℕ → ℕ
 in_image cx array x image = image * product (extents cx.program array) + x
 
+-- the subscripts from left to right, and then the image
 abbrev pub access_step : {X : Type 0} → Context → Access-F (Run X ℤ) (Element X) → Element X
 access_step cx a = record {
   array = a.array;
@@ -85,6 +88,7 @@ abbrev pub after_call : {X : Type 0} → State X → Step (Unit {0}) ℤ → Ste
 after_call s (Gave v t) = Gave v (record s { steps = t.steps })
 after_call s (Ended e t) = Ended e (record s { steps = t.steps })
 
+-- a call of a function by its number
 abbrev pub call : {X : Type 0} → Context → ℕ → List ℤ → Run X ℤ
 call cx function vs = λ s. after_call s (cx.call function vs s.steps)
 

@@ -13,7 +13,7 @@ use Rattle.xmp_meaning.specs.declared.ends.Flow.{Flow}
 use Rattle.xmp_meaning.specs.declared.ends.Flow.TheVariants.{Next}
 use Rattle.xmp_meaning.specs.declared.outcome.Outcome.{Outcome}
 use Rattle.xmp_meaning.specs.declared.outcome.Outcome.TheVariants as outcome
-use Rattle.xmp_meaning.specs.Runs.{State, Step, Gave, Ended, Run, ◌>>=◌, pure, set_scalar}
+use Rattle.xmp_meaning.specs.Runs.{State, Step, Gave, Ended, Run, ◌>>=◌, pure, set_scalar, state_of}
 use Rattle.xmp_meaning.specs.Context.{Context}
 use Rattle.xmp_prog.specs.Fits.{node_count}
 use Rattle.xmp_meaning.specs.Expressions.{call, expr_of}
@@ -24,7 +24,7 @@ use Rattle.xmp_meaning.specs.Directives.{erased}
 use Rattle.xmp_meaning.specs.Statements.{stmt_of}
 use Rattle.xmp_meaning.specs.Calls.{main_context}
 use Rattle.xmp_meaning.specs.Programs.{beginning, program, outcome_of, serial}
-use Rattle.xmp_meaning.specs.Exchanges.{Exchange, state_of, traced}
+use Rattle.xmp_meaning.specs.Exchanges.{Exchange, traced}
 use Rattle.xmp_meaning.specs.Parts.{owns_iteration, part_of}
 use Rattle.xmp_meaning.specs.AtNode.{Talk}
 use Rattle.xmp_meaning.specs.Phases.{Memory, image_run, phases}

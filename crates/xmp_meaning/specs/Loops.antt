@@ -62,6 +62,7 @@ abbrev pub is_inside : Bool → ℤ → ℤ → Bool
 is_inside true i to = int_le i to
 is_inside false i to = int_lt i to
 
+-- the test of a counted loop, from the state as it is
 abbrev pub inside : {X : Type 0} → Context → LoopHead → Run X Bool
 inside cx head = do
   i ← scalar head.index.number

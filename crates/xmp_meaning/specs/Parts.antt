@@ -20,6 +20,7 @@ abbrev pub coordinate : List ℤ → Point → ℤ
 coordinate scalars point.Any = pos 0
 coordinate scalars (point.Index slot offset) = unwrap_or (slice_get scalars slot) (pos 0) +ℤ offset
 
+-- whether a node owns a point of a template
 abbrev pub owns_coordinates : ProgParts → ℕ → Option Template → List ℤ → Bool
 owns_coordinates p node None at = false
 owns_coordinates p node (Some t) at = owns_point (unravel p.grid.sizes node) t.spread at

@@ -67,6 +67,7 @@ told_of p a home.Copy cells = []
 told_of p a (home.Spread t m) cells = cells ∷ []
 told_of p a home.Image cells = cut (node_count p) (product a.extents) cells
 
+-- the same for all arrays in the order of their declarations
 abbrev pub told : ProgParts → List Array → List (List ℤ) → List (List ℤ)
 told p (a ∷ all) (cells ∷ rows) = told_of p a a.home cells ++ told p all rows
 told p [] rows = []
@@ -84,5 +85,6 @@ outcome_of p (Ended end.PhaseEnd s) = outcome.Ended s.out (told p p.arrays s.arr
 abbrev pub serial_end : ProgParts → List ℕ → ℕ → Step (Unit {0}) Flow
 serial_end p input steps = program erased (main_context p 0 input) (beginning p steps tt)
 
+-- what the program comes to
 abbrev pub serial : ProgParts → List ℕ → ℕ → Outcome
 serial p input steps = outcome_of p (serial_end p input steps)

@@ -51,6 +51,7 @@ in_range extent base length step = false
 abbrev pub progression : ℕ → ℕ → ℕ → List ℕ
 progression base step length = map (λ k. base + k * step) (range_with_len 0 length)
 
+-- the subscripts of a section that is in range, or the trap at the array's name
 abbrev pub section : {X : Type 0} → Bool → Place → List ℕ → Run X (List ℕ)
 section true at xs = pure xs
 section false at xs = trap Section at
@@ -104,10 +105,12 @@ fit target [] = true
 fit [] (n ∷ ns) = true
 fit (m ∷ ms) (n ∷ ns) = int_eq m n && fit ms ns
 
+-- the name of a side
 abbrev pub name_of : MoveSide → Name
 name_of (side.Scalar name) = name
 name_of (side.Array name parts) = name
 
+-- goes on where the lengths fit, or the trap at the target's name
 abbrev pub lengths_fit : {X : Type 0} → Bool → Place → Run X (Unit {0})
 lengths_fit true at = pure tt
 lengths_fit false at = trap Section at

@@ -40,9 +40,11 @@ plain_of d cx (plain.Barrier at) = d.barrier
 plain_of d cx (plain.Cast variables from at) = d.bcast variables from
 plain_of d cx (plain.Gmove target source at) = d.gmove target source (move cx target source) (written cx target)
 
+-- a task with what its statement does
 abbrev pub task_step : {X : Type 0} → Task-F (Run X Flow) (TaskRun X) → TaskRun X
 task_step t = record { nodes = t.nodes; run = t.body; at = t.at }
 
+-- a statement, by what the statements in it do
 abbrev pub stmt_step : {X : Type 0} → Directives X → Context → Stmt-F (Run X Flow) (TaskRun X) → Run X Flow
 stmt_step d cx (Stmt-F.Plain p) = plain_of d cx p
 stmt_step d cx (Stmt-F.Block all) = block all
