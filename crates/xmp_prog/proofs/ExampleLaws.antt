@@ -31,13 +31,13 @@ use Rattle.xmp_prog.specs.Formats.{Byte, Number}
 use Rattle.xmp_prog.specs.Examples.{empty, number, exchange, exchange_body, first_cell, next_image}
 use Rattle.xmp_prog.proofs.Rolls.{at_const, at_scalar, at_cell, at_binary, at_node, at_nodes, at_plain, at_block}
 
-typed_number : (p : ProgParts) (n : ℕ) → typed p (number n) ≡ typed_step p (Expr-F.Const (pos n) Int)
+pub typed_number : (p : ProgParts) (n : ℕ) → typed p (number n) ≡ typed_step p (Expr-F.Const (pos n) Int)
 typed_number p n = at_const Typed Typed (typed_step p) (access_step p) (pos n) Int
 
-typed_scalar : (p : ProgParts) (slot : ℕ) (at : Place) → typed p (expr.Scalar slot at) ≡ typed_step p (Expr-F.Scalar slot at)
+pub typed_scalar : (p : ProgParts) (slot : ℕ) (at : Place) → typed p (expr.Scalar slot at) ≡ typed_step p (Expr-F.Scalar slot at)
 typed_scalar p slot at = at_scalar Typed Typed (typed_step p) (access_step p) slot at
 
-walked_plain : (s : _) → walked (stmt.Plain s) ≡ walk_step (Stmt-F.Plain s)
+pub walked_plain : (s : _) → walked (stmt.Plain s) ≡ walk_step (Stmt-F.Plain s)
 walked_plain s = at_plain Walked WalkedTask walk_step walk_task s
 
 -- ---- the empty program
@@ -130,7 +130,7 @@ typed_nodes : (p : ProgParts) → typed p expr.Nodes ≡ typed_step p Expr-F.Nod
 typed_nodes p = at_nodes Typed Typed (typed_step p) (access_step p)
 
 -- five equations at once
-five : {A B : Type 0} (f : A → A → A → A → A → B) {a a' b b' c c' d d' e e' : A} → a ≡ a' → b ≡ b' → c ≡ c' → d ≡ d' → e ≡ e' → f a b c d e ≡ f a' b' c' d' e'
+pub five : {A B : Type 0} (f : A → A → A → A → A → B) {a a' b b' c c' d d' e e' : A} → a ≡ a' → b ≡ b' → c ≡ c' → d ≡ d' → e ≡ e' → f a b c d e ≡ f a' b' c' d' e'
 five f p q r s t = rw (p, q, r, s, t) refl
 
 -- the terms of main

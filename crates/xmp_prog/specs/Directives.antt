@@ -1,4 +1,4 @@
--- Loop directives, gmoves, bcasts and tasks: how their parts go together (XcalableMP 1.4, 4.4.2, 4.5.3, 4.5.6, 4.4.1).
+-- Loop directives, gmoves, bcasts and tasks: how their parts go together (the loop, gmove, bcast, task and tasks directives of XcalableMP 1.4; the limits are this project's).
 use Rattle.std.specs.Prelude.{ℕ, Bool, true, false, ◌==◌, ◌&&◌, ◌||◌, nat_lt, List, [], ◌∷◌, length, slice_get, pos, int_le, neg_ℤ, Option, Some, None}
 use Rattle.std.specs.List.{list_all, flat_map, count_by}
 use Rattle.xmp_map.specs.declared.spread_dim.SpreadDim.{SpreadDim}

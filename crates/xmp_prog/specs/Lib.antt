@@ -9,3 +9,4 @@ pub mod Directives
 pub mod Tests
 pub mod Fits
 pub mod Examples
+pub mod Squares
