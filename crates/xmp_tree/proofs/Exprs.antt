@@ -183,7 +183,7 @@ link_reads n op q e ls b h P L = record {
 number_passes : (q : Place) (n : ℤ) (y : Ty) → Passes 0 (number q n y)
 number_passes q n y = record { reads = λ c K us en ac nx. fast 3 (λ E. go nx) }
 
-ref_first : (ds : Subscripts) (i : Image) (us : List Token) → Not (is_mark m.OpenParen) us → Not (is_mark m.OpenParen) (spell_subscripts ds (spell_image i us))
+pub ref_first : (ds : Subscripts) (i : Image) (us : List Token) → Not (is_mark m.OpenParen) us → Not (is_mark m.OpenParen) (spell_subscripts ds (spell_image i us))
 ref_first no_more no_image us h = h
 ref_first no_more (image q o e c) us h = refl
 ref_first (subscript o e c ds) i us h = refl
@@ -196,6 +196,11 @@ image_first (image q o e c) us h = refl
 pub name_reads : (ds : Subscripts) (i : Image) → SubscriptsRead ds → ImageReads i → (c : Bool) (K : List Rule) (us : List Token) → Ends 0 c us → Accepts c K → Next K us
     → Next (part p.subscripts ∷ part (p.image c) ∷ K) (spell_subscripts ds (spell_image i us))
 name_reads ds i S I c K us en ac nx = silent 1 (λ E x xs. refl) (S.all (part (p.image c) ∷ K) (spell_image i us) (image_first i us (ends_bracket 0 c us en)) (I.all c K us en ac nx))
+
+pub name_reads_before : (ds : Subscripts) (i : Image) → SubscriptsRead ds → ImageReads i → (r : Rule) (K : List Rule) (us : List Token) → Ends 0 false us → Next (r ∷ K) us
+    → Next (part p.subscripts ∷ (part (p.image false) · r) ∷ K) (spell_subscripts ds (spell_image i us))
+name_reads_before ds i S I r K us en nx = silent 1 (λ E x xs. refl) (S.all ((part (p.image false) · r) ∷ K) (spell_image i us) (image_first i us (ends_bracket 0 false us en))
+    (silent 1 (λ E x xs. refl) (I.all false (r ∷ K) us en tt nx)))
 
 read_passes : (v : Name) (ds : Subscripts) (i : Image) → SubscriptsRead ds → ImageReads i → Passes 0 (read (ref v ds i))
 read_passes v ds i S I = record {

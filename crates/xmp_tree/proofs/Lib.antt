@@ -3,3 +3,4 @@ pub mod TokenFacts
 pub mod Exprs
 pub mod Lists
 pub mod Lines
+pub mod Statements
