@@ -4,3 +4,5 @@ pub mod Exprs
 pub mod Lists
 pub mod Lines
 pub mod Statements
+pub mod Blocks
+pub mod Programs

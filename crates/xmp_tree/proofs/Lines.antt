@@ -75,7 +75,7 @@ coarray_rule None K us e n = (no_bracket us e, skip _ _ K us (no_colon us e) n)
 coarray_rule (Some x) K us e n = (refl, fast 8 (λ E. go n))
 
 -- behind the name
-abbrev declarator_rest : Declarator → List Token → List Token
+abbrev pub declarator_rest : Declarator → List Token → List Token
 declarator_rest (d.Scalar v x) r = optional value x r
 declarator_rest (d.Array v ds c) r = dims expr ds (optional coarray c r)
 
@@ -95,8 +95,8 @@ declarator_first : (x : Declarator) (r : List Token) → Not (is_word w.Int) (de
 declarator_first (d.Scalar v x) r = refl
 declarator_first (d.Array v ds c) r = refl
 
-pub declaration_reads : (x : Declaration) → FitsDeclaration x → (K : List Rule) (us : List Token) → Next K us → Next (part p.declaration ∷ K) (spell_declaration x us)
-declaration_reads x F K us n = silent 2 (λ E x xs. refl) (type_reads x.ty _ (list declarator x.items (t.Mark m.Semicolon at x.end ∷ us)) (declarator_first x.items.first _)
+pub declaration_reads : (x : Declaration) → FitsDeclaration x → (K : List Rule) (us : List Token) → Next K us → Next (rule p.declaration ∷ K) (spell_declaration x us)
+declaration_reads x F K us n = silent 1 (λ E x xs. refl) (type_reads x.ty _ (list declarator x.items (t.Mark m.Semicolon at x.end ∷ us)) (declarator_first x.items.first _)
     (silent 1 (λ E x xs. refl) (list_reads declarator (part p.declarator) FitsDeclarator EndsDeclarator declarator_reads (λ q vs. (((refl, refl, refl, refl), refl), refl)) x.items F
       (g.semicolon ∷ K) (t.Mark m.Semicolon at x.end ∷ us) (((refl, refl, refl, refl), refl), refl) refl (fast 1 (λ E. go n)))))
 

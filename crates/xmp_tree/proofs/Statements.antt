@@ -59,9 +59,9 @@ step_ends m.OpenBracket h = cc
 step_ends m.Colon h = cc
 step_ends _ h = (refl, refl, refl, refl)
 
-step_statement : (op : Mark) → is_step_mark op ≡ true → (statement_of (t.Mark op) ≡ p.simple_statement) × (item_of (t.Mark op) ≡ p.simple_statement) × (mark_code m.CloseParen == mark_code op ≡ false)
-step_statement m.Increment h = (refl, refl, refl)
-step_statement m.Decrement h = (refl, refl, refl)
+pub step_statement : (op : Mark) → is_step_mark op ≡ true → (statement_of (t.Mark op) ≡ p.simple_statement) × (item_of (t.Mark op) ≡ p.simple_statement) × (mark_code m.CloseParen == mark_code op ≡ false) × (mark_code m.CloseBrace == mark_code op ≡ false)
+step_statement m.Increment h = (refl, refl, refl, refl)
+step_statement m.Decrement h = (refl, refl, refl, refl)
 step_statement _ h = cc
 
 low_level : (b : ℕ) → nat_le 1 b && nat_le b 10 ≡ false → nat_le 1 b && nat_le b 0 ≡ false
@@ -81,7 +81,7 @@ behind_name_before : (x : Reference made.Expr) → FitsRef (ref_view x) → (r :
 behind_name_before x F r K us e n =
     name_reads_before (subscripts_view x.subscripts) (image_view x.image) (subscripts_read (subscripts_view x.subscripts) F.0) (image_read (image_view x.image) F.1) r K us e n
 
-reference_reads : (x : Reference made.Expr) → FitsRef (ref_view x) → (K : List Rule) (us : List Token) → Ends 0 false us → Next K us → Next (part (p.reference false) ∷ K) (spell_ref (ref_view x) us)
+pub reference_reads : (x : Reference made.Expr) → FitsRef (ref_view x) → (K : List Rule) (us : List Token) → Ends 0 false us → Next K us → Next (part (p.reference false) ∷ K) (spell_ref (ref_view x) us)
 reference_reads x F K us e n = fast 3 (λ E. go (silent 1 (λ E x xs. refl) (behind_name x F K us e n)))
 
 no_call : (x : Reference made.Expr) (us : List Token) → Ends 0 false us → Not (is_mark m.OpenParen) (spell_subscripts (subscripts_view x.subscripts) (spell_image (image_view x.image) us))
@@ -133,7 +133,7 @@ next_reads (Some x) F K q us n =
     choice_first (λ k. not (is_mark m.CloseParen k)) (part p.simple) nothing K (spell_simple x r) (simple_first x F r) (simple_reads x F K r ((refl, refl, refl, refl), refl) n)
 
 -- a for, before its statement; `K` is what follows the whole
-for_reads : (x : ForHead) → FitsHead x → (K : List Rule) (us : List Token) → Next (part p.statement ∷ mark leave ∷ K) us → Next (rule p.for_statement ∷ K) (for_head x us)
+pub for_reads : (x : ForHead) → FitsHead x → (K : List Rule) (us : List Token) → Next (part p.statement ∷ mark leave ∷ K) us → Next (rule p.for_statement ∷ K) (for_head x us)
 for_reads x F K us n =
     let c : List Token = t.Mark m.CloseParen at x.close ∷ us in
     let b : List Token = t.Mark m.Semicolon at x.test_end ∷ optional spell_simple x.next c in
@@ -148,6 +148,6 @@ pub record Both (K : List Rule) (ts : List Token) : Type 0 where
   pub item : Next (part p.block_item ∷ K) ts
 
 -- the rest of the lines of directives with no statement, from the word on
-reflect_reads : (l : DirectiveLine) (x : Inside (CommaList Name)) (K : List Rule) (us : List Token) → Next K us
+pub reflect_reads : (l : DirectiveLine) (x : Inside (CommaList Name)) (K : List Rule) (us : List Token) → Next K us
     → Next (rule p.reflect ∷ K) (t.Name (codes "reflect") at l.word ∷ in_parens names x (t.Close at l.end ∷ us))
 reflect_reads l x K us n = fast 5 (λ E. go (silent 1 (λ E x xs. refl) (names_read x.item _ (t.Mark m.CloseParen at x.close ∷ t.Close at l.end ∷ us) refl (fast 2 (λ E. go n)))))

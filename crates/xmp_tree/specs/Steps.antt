@@ -140,9 +140,9 @@ stuck_tokens D K t u ds E M us left h w s =
       ends = λ b. s.ends (begins_behind D K t (u ∷ s.front ++ s.bad ∷ []) ds E M (s.front ++ s.bad ∷ []) (h (s.front ++ s.bad ∷ [])) b);
     }
 
-split : (a : List Token) (x : Token) (b : List Token) → a ++ x ∷ b ≡ (a ++ x ∷ []) ++ b
-split [] x b = refl
-split (y ∷ a) x b = ap (λ l. y ∷ l) (split a x b)
+pub regroup : (a : List Token) (x : Token) (b : List Token) → a ++ x ∷ b ≡ (a ++ x ∷ []) ++ b
+regroup [] x b = refl
+regroup (y ∷ a) x b = ap (λ l. y ∷ l) (regroup a x b)
 
 -- the front of a refusal, taken apart
 stuck_silent : (D : Depths) (K : List Rule) (t : Token) (vs : List Token) (E : Depths) (M : List Rule) (left : ℕ)
@@ -175,7 +175,7 @@ stuck_silent D K t vs E M left h (x ∷ front) bad after w k b g =
       begins = a.0;
       shallow = a.1;
       ends = λ c. g (subst (λ (y : Token). Begins E M (y ∷ front ++ bad ∷ [])) q
-          (begins_behind D K t (front ++ bad ∷ []) [] E M (t ∷ front ++ bad ∷ []) (h (front ++ bad ∷ []) after (z ∙ split front bad after)) c));
+          (begins_behind D K t (front ++ bad ∷ []) [] E M (t ∷ front ++ bad ∷ []) (h (front ++ bad ∷ []) after (z ∙ regroup front bad after)) c));
     }
 
 -- A refusal behind a step is one before it.
