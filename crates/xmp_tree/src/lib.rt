@@ -7,6 +7,9 @@ mod expression;
 mod laws;
 mod parts;
 mod program;
+mod rest;
+mod spelling;
+mod spelling_lines;
 mod statement;
 
 pub use declaration::{Declaration, Declarator};
