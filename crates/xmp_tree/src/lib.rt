@@ -10,6 +10,8 @@ mod program;
 mod rest;
 mod spelling;
 mod spelling_lines;
+mod spelling_program;
+mod spelling_statements;
 mod statement;
 
 pub use declaration::{Declaration, Declarator};
@@ -23,4 +25,5 @@ pub use parts::{
     Call, CommaList, Format, Image, Inside, Link, Name, Next, Placed, Reference, TypeWords,
 };
 pub use program::{Function, Parameters, TopItem, Tree};
+pub use spelling_program::tokens_of;
 pub use statement::{BlockItem, ForFirst, ForHead, Plain, Simple, Stmt};

@@ -1,10 +1,12 @@
 // The tokens of declarations and of the lines of directives.
-ghost use Rattle.std.specs.Prelude.{◌≡◌, OnOk};
-ghost use Rattle.xmp_tree.specs.Spell.{after_colon, align_dimension, coarray, declarator, dims, dist_form, each, expr, in_parens, list, loop_line, name, names, next, offset, optional, point, reduction, reduction_list, reduction_operator, section, sections, sign, spell_declaration, spell_mapping, task_line, type_words, value, width};
+ghost use Rattle.std.specs.Prelude.{◌≡◌, ◌∷◌, OnOk};
+ghost use Rattle.xmp_lex.specs.declared.token.Mark.TheVariants.{Star};
+ghost use Rattle.xmp_lex.specs.declared.token.TokenKind.TheVariants.{Close, Pragma};
+ghost use Rattle.xmp_tree.specs.Spell.{◌at◌, after_colon, align_dimension, coarray, declarator, dims, dist_form, each, expr, in_brackets, in_parens, list, loop_line, name, names, next, offset, optional, point, reduction, reduction_list, reduction_operator, section, sections, sign, spell_declaration, spell_mapping, spelled, task_line, type_words, value, width};
 
 use crate::declaration::{Declaration, Declarator};
 use crate::directive::{
-    AlignDimension, DistForm, LoopLine, Mapping, Point, Reduction, ReductionOperator, Section, Sections, TaskLine,
+    AlignDimension, DirectiveLine, DistForm, LoopLine, Mapping, Point, Reduction, ReductionOperator, Section, Sections, TaskLine,
 };
 use crate::expression::Expr;
 use crate::parts::{CommaList, Inside, Name, Next, Placed, TypeWords};
@@ -291,4 +293,140 @@ fn put_widths(rest: &mut Rest, alloc: Global, xs: &[Inside<(Expr, Option<(Place,
         rest.put_sign(Mark::OpenBracket, x.open)?;
     }
     Ok(())
+}
+
+/// The names of a distribute or an align behind its list: a word, and a name.
+fn put_target(rest: &mut Rest, alloc: Global, bytes: &[u8], place: Place, target: &Name) -> Result<(), NoMemory>
+    ensures { OnOk result (rest.new ≡ spelled bytes.now place (name target.now rest.old)) }
+{
+    put_name(rest, alloc, target)?;
+    rest.put_spelled(alloc, bytes, place)
+}
+
+/// The first two tokens of a directive's line.
+pub fn put_start(rest: &mut Rest, alloc: Global, bytes: &[u8], line: DirectiveLine) -> Result<(), NoMemory>
+    ensures { OnOk result (rest.new ≡ (Pragma at line.start) ∷ spelled bytes.now line.word rest.old) }
+{
+    rest.put_spelled(alloc, bytes, line.word)?;
+    rest.put(TokenKind::Pragma, line.start)
+}
+
+/// The last token of a directive's line.
+pub fn put_end(rest: &mut Rest, line: DirectiveLine) -> Result<(), NoMemory>
+    ensures { OnOk result (rest.new ≡ (Close at line.end) ∷ rest.old) }
+{
+    rest.put(TokenKind::Close, line.end)
+}
+
+fn put_star(rest: &mut Rest, star: &Inside<Place>) -> Result<(), NoMemory>
+    ensures { OnOk result (rest.new ≡ in_brackets (sign Star) star.now rest.old) }
+{
+    rest.put_sign(Mark::CloseBracket, star.close)?;
+    rest.put_sign(Mark::Star, star.item)?;
+    rest.put_sign(Mark::OpenBracket, star.open)
+}
+
+pub fn put_mapping(rest: &mut Rest, alloc: Global, x: &Mapping) -> Result<(), NoMemory>
+    ensures { OnOk result (rest.new ≡ spell_mapping x.now rest.old) }
+{
+    match x {
+        Mapping::Nodes(line, name, extents) => {
+            put_end(rest, *line)?;
+            put_dims(rest, alloc, extents.as_slice())?;
+            put_name(rest, alloc, name)?;
+            put_start(rest, alloc, b"nodes", *line)
+        }
+        Mapping::NodesStar(line, name, star) => {
+            put_end(rest, *line)?;
+            put_star(rest, star)?;
+            put_name(rest, alloc, name)?;
+            put_start(rest, alloc, b"nodes", *line)
+        }
+        Mapping::Template(line, name, extents) => {
+            put_end(rest, *line)?;
+            put_dims(rest, alloc, extents.as_slice())?;
+            put_name(rest, alloc, name)?;
+            put_start(rest, alloc, b"template", *line)
+        }
+        Mapping::Distribute(line, name, forms, onto, nodes) => {
+            put_end(rest, *line)?;
+            put_target(rest, alloc, b"onto", *onto, nodes)?;
+            put_forms(rest, alloc, forms.as_slice())?;
+            put_name(rest, alloc, name)?;
+            put_start(rest, alloc, b"distribute", *line)
+        }
+        Mapping::Align(line, name, dimensions, with, template, points) => {
+            put_end(rest, *line)?;
+            put_points(rest, alloc, points.as_slice())?;
+            put_target(rest, alloc, b"with", *with, template)?;
+            put_align_dimensions(rest, alloc, dimensions.as_slice())?;
+            put_name(rest, alloc, name)?;
+            put_start(rest, alloc, b"align", *line)
+        }
+        Mapping::Shadow(line, name, widths) => {
+            put_end(rest, *line)?;
+            put_widths(rest, alloc, widths.as_slice())?;
+            put_name(rest, alloc, name)?;
+            put_start(rest, alloc, b"shadow", *line)
+        }
+    }
+}
+
+fn put_reduction_operator(rest: &mut Rest, alloc: Global, x: &ReductionOperator) -> Result<(), NoMemory>
+    ensures { OnOk result (rest.new ≡ reduction_operator x.now rest.old) }
+{
+    match x {
+        ReductionOperator::Mark(mark) => rest.put_sign(mark.what, mark.at),
+        ReductionOperator::Max(place) => rest.put_spelled(alloc, b"max", *place),
+        ReductionOperator::Min(place) => rest.put_spelled(alloc, b"min", *place),
+    }
+}
+
+fn put_reduction(rest: &mut Rest, alloc: Global, x: &Reduction) -> Result<(), NoMemory>
+    ensures { OnOk result (rest.new ≡ reduction x.now rest.old) }
+{
+    rest.put_sign(Mark::CloseParen, x.list.close)?;
+    put_names(rest, alloc, &x.list.item.2)?;
+    rest.put_sign(Mark::Colon, x.list.item.1)?;
+    put_reduction_operator(rest, alloc, &x.list.item.0)?;
+    rest.put_sign(Mark::OpenParen, x.list.open)?;
+    rest.put_spelled(alloc, b"reduction", x.word)
+}
+
+fn put_reductions(rest: &mut Rest, alloc: Global, xs: &[Reduction]) -> Result<(), NoMemory>
+    ensures { OnOk result (rest.new ≡ each reduction xs.now rest.old) }
+{
+    'items: for i in (0..xs.len()).rev() {
+        put_reduction(rest, alloc, &xs[i])?;
+    }
+    Ok(())
+}
+
+fn put_loop_names(rest: &mut Rest, alloc: Global, x: &Option<Inside<CommaList<Name>>>) -> Result<(), NoMemory>
+    ensures { OnOk result (rest.new ≡ optional (in_parens names) x.now rest.old) }
+{
+    match x {
+        Some(x) => put_names_inside(rest, alloc, x),
+        None => Ok(()),
+    }
+}
+
+pub fn put_loop_line(rest: &mut Rest, alloc: Global, x: &LoopLine) -> Result<(), NoMemory>
+    ensures { OnOk result (rest.new ≡ loop_line x.now rest.old) }
+{
+    put_end(rest, x.line)?;
+    put_reductions(rest, alloc, x.reductions.as_slice())?;
+    put_points(rest, alloc, x.points.as_slice())?;
+    put_target(rest, alloc, b"on", x.on, &x.template)?;
+    put_loop_names(rest, alloc, &x.names)?;
+    put_start(rest, alloc, b"loop", x.line)
+}
+
+pub fn put_task_line(rest: &mut Rest, alloc: Global, x: &TaskLine) -> Result<(), NoMemory>
+    ensures { OnOk result (rest.new ≡ task_line x.now rest.old) }
+{
+    put_end(rest, x.line)?;
+    put_sections(rest, alloc, &x.set)?;
+    rest.put_spelled(alloc, b"on", x.on)?;
+    put_start(rest, alloc, b"task", x.line)
 }
