@@ -27,7 +27,7 @@ pub begins_step : (D : Depths) (K : List Rule) (ts : List Token) (ds : List ℕ)
     → step rule (reading D K ts) ≡ goes ds (reading E M us) → Begins E M us → Begins D K ts
 begins_step D K ts ds E M us e b = record { depths = ds ++ b.depths; now = b.now; left = b.left; reads = onward e b.reads }
 
-fronts_silent : (D : Depths) (K : List Rule) (t : Token) (vs : List Token) (ds : List ℕ) (E : Depths) (M : List Rule)
+pub fronts_silent : (D : Depths) (K : List Rule) (t : Token) (vs : List Token) (ds : List ℕ) (E : Depths) (M : List Rule)
     → ((f rest : List Token) → vs ≡ f ++ rest → step rule (reading D K (t ∷ f)) ≡ goes ds (reading E M (t ∷ f)))
     → ((f rest : List Token) → t ∷ vs ≡ f ++ rest → Begins E M f) → (f rest : List Token) → t ∷ vs ≡ f ++ rest → Begins D K f
 fronts_silent D K t vs ds E M h g [] rest w = begins_nothing D K
@@ -36,7 +36,7 @@ fronts_silent D K t vs ds E M h g (x ∷ f) rest w =
     let z : vs ≡ f ++ rest = cc in
     subst (λ (y : Token). Begins D K (y ∷ f)) q (begins_step D K (t ∷ f) ds E M (t ∷ f) (h f rest z) (g (t ∷ f) rest (ap (λ l. t ∷ l) z)))
 
-fronts_one : (D : Depths) (K : List Rule) (t : Token) (us : List Token) (ds : List ℕ) (E : Depths) (M : List Rule)
+pub fronts_one : (D : Depths) (K : List Rule) (t : Token) (us : List Token) (ds : List ℕ) (E : Depths) (M : List Rule)
     → ((f : List Token) → step rule (reading D K (t ∷ f)) ≡ goes ds (reading E M f))
     → ((f rest : List Token) → us ≡ f ++ rest → Begins E M f) → (f rest : List Token) → t ∷ us ≡ f ++ rest → Begins D K f
 fronts_one D K t us ds E M h g [] rest w = begins_nothing D K
@@ -45,7 +45,7 @@ fronts_one D K t us ds E M h g (x ∷ f) rest w =
     let z : us ≡ f ++ rest = cc in
     subst (λ (y : Token). Begins D K (y ∷ f)) q (begins_step D K (t ∷ f) ds E M f (h f) (g f rest z))
 
-fronts_two : (D : Depths) (K : List Rule) (t u : Token) (us : List Token) (ds : List ℕ) (E : Depths) (M : List Rule)
+pub fronts_two : (D : Depths) (K : List Rule) (t u : Token) (us : List Token) (ds : List ℕ) (E : Depths) (M : List Rule)
     → ((f : List Token) → step rule (reading D K (t ∷ u ∷ f)) ≡ goes ds (reading E M f)) → Begins D K (t ∷ [])
     → ((f rest : List Token) → us ≡ f ++ rest → Begins E M f) → (f rest : List Token) → t ∷ u ∷ us ≡ f ++ rest → Begins D K f
 fronts_two D K t u us ds E M h b g [] rest w = begins_nothing D K

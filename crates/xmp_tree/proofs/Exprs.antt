@@ -40,18 +40,18 @@ pub record Both (e : Expr) : Type 0 where
   pub all : ExprReads e
 
 -- the operators of a level with their operands, and the rest of a conditional
-abbrev tail : ℕ → Bool → Rule
+abbrev pub tail : ℕ → Bool → Rule
 tail n c = many (binary (suc n)) (tok operator (binary (suc n)) · part (p.level n c))
 
-abbrev question : Bool → Rule
+abbrev pub question : Bool → Rule
 question c = g.optional (is_mark m.Question) (tok operator (is_mark m.Question) · g.expr_colon · tok operator (is_mark m.Colon) · part (p.expression c))
 
-accepts_tail : (n : ℕ) (c : Bool) (K : List Rule) → Accepts c K → Accepts c (tail n c ∷ K)
+pub accepts_tail : (n : ℕ) (c : Bool) (K : List Rule) → Accepts c K → Accepts c (tail n c ∷ K)
 accepts_tail n false K a = tt
 accepts_tail n true K a = λ D q. begins_step D (tail n true ∷ K) (t.Mark m.Colon at q ∷ []) [] D K (t.Mark m.Colon at q ∷ [])
     (ap (λ b. goes [] (reading D (cond b ((tok operator (binary (suc n)) · part (p.level n true)) ∷ tail n true ∷ K) K) (t.Mark m.Colon at q ∷ []))) (no_operator n)) (a D q)
 
-accepts_question : (c : Bool) (K : List Rule) → Accepts c K → Accepts c (question c ∷ K)
+pub accepts_question : (c : Bool) (K : List Rule) → Accepts c K → Accepts c (question c ∷ K)
 accepts_question false K a = tt
 accepts_question true K a = λ D q. begins_step D (question true ∷ K) (t.Mark m.Colon at q ∷ []) [] D (nothing ∷ K) (t.Mark m.Colon at q ∷ []) refl
     (begins_step D (nothing ∷ K) (t.Mark m.Colon at q ∷ []) [] D K (t.Mark m.Colon at q ∷ []) refl (a D q))

@@ -6,3 +6,4 @@ pub mod Lines
 pub mod Statements
 pub mod Blocks
 pub mod Programs
+pub mod Shorter

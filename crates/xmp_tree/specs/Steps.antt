@@ -53,7 +53,7 @@ both_of false D r K p q t u ts ds E M us h e =
         let k : p t.kind && q v.kind ≡ false = subst (λ (x : Token). p t.kind && q x.kind ≡ false) z h in
         ap (λ b. pair_step b D r K t v f) k ∙ cc
 
-took : (b : Bool) (x : List ℕ) (s t : State) (ds : List ℕ) → cond b (goes x s) halts ≡ goes ds t → (b ≡ true) × (x ≡ ds) × (s ≡ t)
+pub took : (b : Bool) (x : List ℕ) (s t : State) (ds : List ℕ) → cond b (goes x s) halts ≡ goes ds t → (b ≡ true) × (x ≡ ds) × (s ≡ t)
 took true x s t ds e = (refl, cc, cc)
 took false x s t ds e = cc
 

@@ -13,6 +13,8 @@ mod spelling_lines;
 mod spelling_program;
 mod spelling_statements;
 mod statement;
+#[cfg(test)]
+mod tests;
 
 pub use declaration::{Declaration, Declarator};
 pub use directive::{
@@ -20,7 +22,7 @@ pub use directive::{
     ReductionOperator, Section, Sections, TaskLine,
 };
 pub use expression::Expr;
-pub use laws::program_or_refused;
+pub use laws::{one_stuck_token, program_or_refused, shorter_begins};
 pub use parts::{
     Call, CommaList, Format, Image, Inside, Link, Name, Next, Placed, Reference, TypeWords,
 };

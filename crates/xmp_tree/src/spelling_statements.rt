@@ -1,7 +1,7 @@
 // The tokens of statements.
-ghost use Rattle.std.specs.Prelude.{◌≡◌, OnOk};
+ghost use Rattle.std.specs.Prelude.{◌≡◌, OnOk, codes};
 ghost use Rattle.xmp_tree.specs.View.{call_view, items_view, rest_view, stmt_view, tasks_view};
-ghost use Rattle.xmp_tree.specs.Spell.{expr, for_first, for_head, format, in_parens, optional, spell, spell_items, spell_plain, spell_simple, spell_stmt, spell_tasks};
+ghost use Rattle.xmp_tree.specs.Spell.{directive_line, expr, for_first, for_head, format, in_parens, optional, spell, spell_items, spell_plain, spell_rest, spell_simple, spell_stmt, spell_tasks};
 
 use crate::expression::Expr;
 use crate::parts::{Call, Format, Inside, Next};
@@ -10,7 +10,7 @@ use crate::spelling::{put_arguments, put_expr, put_name, put_reference};
 use crate::spelling_lines::{
     put_declaration, put_end, put_loop_line, put_mapping, put_names_inside, put_sections, put_start, put_task_line,
 };
-use crate::directive::TaskLine;
+use crate::directive::{DirectiveLine, TaskLine};
 use crate::statement::{BlockItem, ForFirst, ForHead, Plain, Simple, Stmt};
 use sqlite_items::Boxed;
 use std::alloc::Global;
@@ -181,6 +181,13 @@ fn put_plain(rest: &mut Rest, alloc: Global, x: &Plain) -> Result<(), NoMemory>
     }
 }
 
+fn put_tasks_line(rest: &mut Rest, alloc: Global, line: DirectiveLine) -> Result<(), NoMemory>
+    ensures { OnOk result (rest.new ≡ directive_line (codes "tasks") (λ r. r) line rest.old) }
+{
+    put_end(rest, line)?;
+    put_start(rest, alloc, b"tasks", line)
+}
+
 fn put_condition(rest: &mut Rest, alloc: Global, x: &Inside<Expr>) -> Result<(), NoMemory>
     ensures { OnOk result (rest.new ≡ in_parens expr x.now rest.old) }
 {
@@ -234,8 +241,7 @@ pub fn put_stmt(rest: &mut Rest, alloc: Global, x: &Stmt) -> Result<(), NoMemory
             rest.put_sign(Mark::CloseBrace, x.close)?;
             put_tasks(rest, alloc, x.item.as_slice())?;
             rest.put_sign(Mark::OpenBrace, x.open)?;
-            put_end(rest, *line)?;
-            put_start(rest, alloc, b"tasks", *line)
+            put_tasks_line(rest, alloc, *line)
         }
     }
 }

@@ -5,7 +5,6 @@ use Rattle.xmp_tree.specs.declared.program.Tree.{Tree}
 use Rattle.xmp_tree.specs.Refused.{IsProgram, Stuck, TooDeep, start, program_rules}
 use Rattle.xmp_tree.specs.Steps.{regroup, all_split}
 use Rattle.xmp_tree.proofs.Programs.{tree_reads}
-use Rattle.xmp_tree.specs.Seen.{seen_block}
 use Rattle.xmp_tree.proofs.laws.program_or_refused.Goals as goal
 
 no_refusal : (ts : List Token) (x : Tree) (left : ℕ) → IsProgram ts x → Stuck start program_rules ts left → ⊥
