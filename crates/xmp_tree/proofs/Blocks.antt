@@ -188,37 +188,43 @@ pub record StmtReads (s : Stmt) : Type 0 where
 pub record ItemsRead (xs : BlockItems) : Type 0 where
   pub all : (K : List Rule) (c : Place) (us : List Token) → Next K us
       → Not (is_word w.Else) (spell_items xs (t.Mark m.CloseBrace at c ∷ us))
-        × Next (many (λ k. not (is_mark m.CloseBrace k)) (part p.block_item) ∷ tok closing (is_mark m.CloseBrace) ∷ K) (spell_items xs (t.Mark m.CloseBrace at c ∷ us))
+      × Next (many (λ k. not (is_mark m.CloseBrace k)) (part p.block_item) ∷ tok closing (is_mark m.CloseBrace) ∷ K) (spell_items xs (t.Mark m.CloseBrace at c ∷ us))
 
 pub record TasksRead (xs : Tasks) : Type 0 where
   pub all : (K : List Rule) (c : Place) (us : List Token) → Next K us
       → Not (is_word w.Else) (spell_tasks xs (t.Mark m.CloseBrace at c ∷ us))
-        × Next (many is_pragma (tok plain is_pragma · part p.task) ∷ tok closing (is_mark m.CloseBrace) ∷ K) (spell_tasks xs (t.Mark m.CloseBrace at c ∷ us))
+      × Next (many is_pragma (tok plain is_pragma · part p.task) ∷ tok closing (is_mark m.CloseBrace) ∷ K) (spell_tasks xs (t.Mark m.CloseBrace at c ∷ us))
 
 -- a statement that is counted with what stands before it
 counted_reads : (s : Stmt) → StmtReads s → (K : List Rule) (us : List Token) → Quiet (takes_else s) us → Next K us → Next (part p.statement ∷ mark leave ∷ K) (spell_stmt s us)
 counted_reads s S K us q n = (S.all (mark leave ∷ K) us q (leave_reads K us (quiet_some (takes_else s) us q) n)).stmt
 
 while_reads : (q : Place) (e : Inside made.Expr) (s : Stmt) → FitsExpr e.item → StmtReads s → StmtReads (tr.while_do q e s)
-while_reads q e s F S = record { all = λ K us h n.
-    let b = fast 8 (λ E. go (in_parens_reads (expr_view e.item) _ e.close (spell_stmt s us) (expr_reads e.item F) (counted_reads s S K us h n))) in
-    both_two K us b }
+while_reads q e s F S = record {
+  all = λ K us h n.
+      let b = fast 8 (λ E. go (in_parens_reads (expr_view e.item) _ e.close (spell_stmt s us) (expr_reads e.item F) (counted_reads s S K us h n))) in
+      both_two K us b;
+}
   where
     both_two : (K : List Rule) (us : List Token) → Next (rule p.while_statement ∷ K) (spell_stmt (tr.while_do q e s) us) → Both K (spell_stmt (tr.while_do q e s) us)
     both_two K us b = record { stmt = fast 2 (λ E. go b); item = fast 2 (λ E. go b) }
 
 if_reads : (q : Place) (e : Inside made.Expr) (s : Stmt) → FitsExpr e.item → StmtReads s → StmtReads (tr.if_then q e s)
-if_reads q e s F S = record { all = λ K us h n.
-    both_two K us (fast 9 (λ E. go (in_parens_reads (expr_view e.item) _ e.close (spell_stmt s us) (expr_reads e.item F)
-      (counted_reads s S _ us (no_else_quiet (takes_else s) us (quiet_no_else us h)) (skip _ _ K us (quiet_no_else us h) n))))) }
+if_reads q e s F S = record {
+  all = λ K us h n.
+      both_two K us (fast 9 (λ E. go (in_parens_reads (expr_view e.item) _ e.close (spell_stmt s us) (expr_reads e.item F)
+      (counted_reads s S _ us (no_else_quiet (takes_else s) us (quiet_no_else us h)) (skip _ _ K us (quiet_no_else us h) n)))));
+}
   where
     both_two : (K : List Rule) (us : List Token) → Next (rule p.if_statement ∷ K) (spell_stmt (tr.if_then q e s) us) → Both K (spell_stmt (tr.if_then q e s) us)
     both_two K us b = record { stmt = fast 2 (λ E. go b); item = fast 2 (λ E. go b) }
 
 else_reads : (q : Place) (e : Inside made.Expr) (s : Stmt) (z : Place) (u : Stmt) → FitsExpr e.item → takes_else s ≡ false → StmtReads s → StmtReads u → StmtReads (tr.if_else q e s z u)
-else_reads q e s z u F f S U = record { all = λ K us h n.
-    both_two K us (fast 9 (λ E. go (in_parens_reads (expr_view e.item) _ e.close _ (expr_reads e.item F)
-      (counted_reads s S _ (t.Word w.Else at z ∷ spell_stmt u us) (ap (λ b. b && true) f) (fast 6 (λ E. go (counted_reads u U K us h n))))))) }
+else_reads q e s z u F f S U = record {
+  all = λ K us h n.
+      both_two K us (fast 9 (λ E. go (in_parens_reads (expr_view e.item) _ e.close _ (expr_reads e.item F)
+      (counted_reads s S _ (t.Word w.Else at z ∷ spell_stmt u us) (ap (λ b. b && true) f) (fast 6 (λ E. go (counted_reads u U K us h n)))))));
+}
   where
     both_two : (K : List Rule) (us : List Token) → Next (rule p.if_statement ∷ K) (spell_stmt (tr.if_else q e s z u) us) → Both K (spell_stmt (tr.if_else q e s z u) us)
     both_two K us b = record { stmt = fast 2 (λ E. go b); item = fast 2 (λ E. go b) }
@@ -233,16 +239,19 @@ loop_names None K r q v us n = fast 6 (λ E. go n)
 loop_names (Some x) K r q v us n = fast 3 (λ E. go (silent 1 (λ E x xs. refl) (names_read x.item _ (t.Mark m.CloseParen at x.close ∷ t.Name (codes "on") at q ∷ name v us) refl (fast 5 (λ E. go n)))))
 
 loop_reads : (l : LoopLine) (h : ForHead) (s : Stmt) → FitsLoopLine l → FitsHead h → StmtReads s → StmtReads (tr.loop l h s)
-loop_reads l h s F G S = record { all = λ K us q n.
-    let c = counted_reads s S _ us q (leave_reads K us (quiet_some (takes_else s) us q) n) in
-    let b = for_reads h G _ (spell_stmt s us) c in
-    let r : List Token = t.Close at l.line.end ∷ for_head h (spell_stmt s us) in
-    both_five K us (fast 5 (λ E. go (silent 1 (λ E x xs. refl) (loop_names l.names _ _ l.on l.template _ (silent 1 (λ E x xs. refl) (dims_read point (part p.point) FitsPoint point_reads l.points F.0 _ (each reduction l.reductions r) (first_reduction l.reductions r refl)
-      (silent 1 (λ E x xs. refl) (reductions_read l.reductions F.1 _ r refl (fast 2 (λ E. go (silent 1 (λ E x xs. refl) b))))))))))) }
+loop_reads l h s F G S = record {
+  all = λ K us q n.
+      let c = counted_reads s S _ us q (leave_reads K us (quiet_some (takes_else s) us q) n) in
+      let b = for_reads h G _ (spell_stmt s us) c in
+      let r : List Token = t.Close at l.line.end ∷ for_head h (spell_stmt s us) in
+      both_five K us (fast 5 (λ E. go (silent 1 (λ E x xs. refl) (loop_names l.names _ _ l.on l.template _ (silent 1 (λ E x xs. refl) (dims_read point (part p.point) FitsPoint point_reads l.points F.0 _ (each reduction l.reductions r) (first_reduction l.reductions r refl)
+      (silent 1 (λ E x xs. refl) (reductions_read l.reductions F.1 _ r refl (fast 2 (λ E. go (silent 1 (λ E x xs. refl) b)))))))))));
+}
   where
     first_reduction : (xs : List Reduction) (r : List Token) → Not (is_mark m.OpenBracket) r → Not (is_mark m.OpenBracket) (each reduction xs r)
     first_reduction [] r k = k
     first_reduction (x ∷ xs) r k = refl
+
     both_five : (K : List Rule) (us : List Token) → Next (rule p.loop ∷ K) (t.Name (codes "loop") at l.line.word ∷ optional (in_parens names) l.names (t.Name (codes "on") at l.on ∷ name l.template (dims point l.points (each reduction l.reductions (t.Close at l.line.end ∷ for_head h (spell_stmt s us)))))) → Both K (spell_stmt (tr.loop l h s) us)
     both_five K us b = record { stmt = fast 5 (λ E. go b); item = fast 5 (λ E. go b) }
 
@@ -255,8 +264,10 @@ task_reads : (l : TaskLine) (s : Stmt) → FitsSet l.set → StmtReads s → Stm
 task_reads l s F S = record { all = λ K us q n. let b = task_rest l s F S K us q n in record { stmt = fast 5 (λ E. go b); item = fast 5 (λ E. go b) } }
 
 tasks_reads : (l : DirectiveLine) (o : Place) (xs : Tasks) (c : Place) → TasksRead xs → StmtReads (tr.tasks l o xs c)
-tasks_reads l o xs c T = record { all = λ K us q n.
-    both_five K us (fast 9 (λ E. go (silent 1 (λ E x xs. refl) ((T.all _ c us (leave_reads K us (quiet_some false us q) n)).1)))) }
+tasks_reads l o xs c T = record {
+  all = λ K us q n.
+      both_five K us (fast 9 (λ E. go (silent 1 (λ E x xs. refl) ((T.all _ c us (leave_reads K us (quiet_some false us q) n)).1))));
+}
   where
     both_five : (K : List Rule) (us : List Token) → Next (rule p.tasks ∷ K) (t.Name (codes "tasks") at l.word ∷ t.Close at l.end ∷ t.Mark m.OpenBrace at o ∷ spell_tasks xs (t.Mark m.CloseBrace at c ∷ us)) → Both K (spell_stmt (tr.tasks l o xs c) us)
     both_five K us b = record { stmt = fast 5 (λ E. go b); item = fast 5 (λ E. go b) }
@@ -271,18 +282,20 @@ block_all o xs c T = record { all = λ K us q n. let b = block_reads o xs c T K 
 
 one_item : (f : List Token → List Token) (xs : BlockItems) → ((K : List Rule) (us : List Token) → Not (is_word w.Else) us → Next K us → Next (part p.block_item ∷ K) (f us)) → ((us : List Token) → Inner (f us)) → ItemsRead xs
     → (K : List Rule) (c : Place) (us : List Token) → Next K us
-      → Not (is_word w.Else) (f (spell_items xs (t.Mark m.CloseBrace at c ∷ us)))
-        × Next (many (λ k. not (is_mark m.CloseBrace k)) (part p.block_item) ∷ tok closing (is_mark m.CloseBrace) ∷ K) (f (spell_items xs (t.Mark m.CloseBrace at c ∷ us)))
+    → Not (is_word w.Else) (f (spell_items xs (t.Mark m.CloseBrace at c ∷ us)))
+    × Next (many (λ k. not (is_mark m.CloseBrace k)) (part p.block_item) ∷ tok closing (is_mark m.CloseBrace) ∷ K) (f (spell_items xs (t.Mark m.CloseBrace at c ∷ us)))
 one_item f xs h i T K c us n =
     let r = T.all K c us n in
     let a = i (spell_items xs (t.Mark m.CloseBrace at c ∷ us)) in
     (a.0, many_more _ _ _ _ a.1 (h _ (spell_items xs (t.Mark m.CloseBrace at c ∷ us)) r.0 r.1))
 
 one_task : (l : TaskLine) (s : Stmt) (xs : Tasks) → FitsSet l.set → StmtReads s → TasksRead xs → TasksRead (tr.a_task l s xs)
-one_task l s xs F S T = record { all = λ K c us n.
-    let r = T.all K c us n in
-    let e : List Token = spell_tasks xs (t.Mark m.CloseBrace at c ∷ us) in
-    (refl, fast 4 (λ E. go (task_rest l s F S _ e (no_else_quiet (takes_else s) e r.0) r.1))) }
+one_task l s xs F S T = record {
+  all = λ K c us n.
+      let r = T.all K c us n in
+      let e : List Token = spell_tasks xs (t.Mark m.CloseBrace at c ∷ us) in
+      (refl, fast 4 (λ E. go (task_rest l s F S _ e (no_else_quiet (takes_else s) e r.0) r.1)));
+}
 
 mutual
   pub stmt_reads : (s : Stmt) → FitsStmt s → StmtReads s

@@ -142,14 +142,16 @@ take_token e p K t ts i n =
 
 pub take_pair : (p q : Test) (r : Rule) (K : List Rule) (t u : Token) (ts : List Token) → p t.kind && q u.kind ≡ true
     → ((D : Depths) → Begins D K (t ∷ [])) → Next (r ∷ K) ts → Next (pair p q r ∷ K) (t ∷ u ∷ ts)
-take_pair p q r K t u ts i b n = record { from = λ E. let d = n.from (behind opening E) in
-    let e : (f : List Token) → step rule (reading E (pair p q r ∷ K) (t ∷ u ∷ f)) ≡ goes (now E ∷ now (behind opening E) ∷ []) (reading (behind opening E) (r ∷ K) f) = (λ f. ap (λ b. pair_step b E r K t u f) i) in
-    record {
-      depths = (now E ∷ now (behind opening E) ∷ []) ++ d.depths;
-      now = d.now;
-      reads = onward (e ts) d.reads;
-      fronts = fronts_two E (pair p q r ∷ K) t u ts _ (behind opening E) (r ∷ K) e (begins_step E (pair p q r ∷ K) (t ∷ []) [] E K (t ∷ []) refl (b E)) d.fronts;
-    } }
+take_pair p q r K t u ts i b n = record {
+  from = λ E. let d = n.from (behind opening E) in
+      let e : (f : List Token) → step rule (reading E (pair p q r ∷ K) (t ∷ u ∷ f)) ≡ goes (now E ∷ now (behind opening E) ∷ []) (reading (behind opening E) (r ∷ K) f) = (λ f. ap (λ b. pair_step b E r K t u f) i) in
+      record {
+        depths = (now E ∷ now (behind opening E) ∷ []) ++ d.depths;
+        now = d.now;
+        reads = onward (e ts) d.reads;
+        fronts = fronts_two E (pair p q r ∷ K) t u ts _ (behind opening E) (r ∷ K) e (begins_step E (pair p q r ∷ K) (t ∷ []) [] E K (t ∷ []) refl (b E)) d.fronts;
+      };
+}
 
 -- what is read to its end has tokens
 done_none : (D E : Depths) (r : Rule) (K : List Rule) (ds : List ℕ) → Reads rule (reading D (r ∷ K) []) ds (reading E [] []) → ⊥

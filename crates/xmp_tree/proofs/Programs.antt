@@ -85,7 +85,7 @@ first_declarator (d.Array v ds c) F f r K us e n =
 declaration_top : (x : Declaration) → FitsDeclaration x → (us : List Token) → Next (part p.program ∷ []) us → Next (part p.program ∷ []) (spell_declaration x us)
 declaration_top x F us n =
     let more = more_read declarator (part p.declarator) FitsDeclarator EndsDeclarator declarator_reads (λ q vs. (((refl, refl, refl, refl), refl), refl)) x.items.more F.1
-        ((g.semicolon · part p.program) ∷ []) (t.Mark m.Semicolon at x.end ∷ us) (((refl, refl, refl, refl), refl), refl) refl (fast 2 (λ E. go n)) in
+    ((g.semicolon · part p.program) ∷ []) (t.Mark m.Semicolon at x.end ∷ us) (((refl, refl, refl, refl), refl), refl) refl (fast 2 (λ E. go n)) in
     let a = first_declarator x.items.first F.0 _ _ [] (each (next declarator) x.items.more (t.Mark m.Semicolon at x.end ∷ us)) more.0 (silent 1 (λ E x xs. refl) more.1) in
     silent 1 (λ E x xs. refl) (choice_second is_pragma _ _ [] _ (type_no_pragma x.ty _) (silent 1 (λ E x xs. refl) (type_reads x.ty _ _ a.0 a.1)))
 
@@ -99,15 +99,15 @@ all_named (x ∷ xs) = (tt, all_named xs)
 
 parameters_read : (x : Option Parameters) (K : List Rule) (c : Place) (us : List Token) → Next K us
     → Next ((g.optional (λ k. not (is_mark m.CloseParen k)) (choice (is_word w.Void) (g.word w.Void) (g.list (part p.parameter))) · tok closing (is_mark m.CloseParen)) ∷ K)
-      (optional parameters x (t.Mark m.CloseParen at c ∷ us))
+    (optional parameters x (t.Mark m.CloseParen at c ∷ us))
 parameters_read None K c us n = fast 4 (λ E. go n)
 parameters_read (Some (pr.Void q)) K c us n = fast 5 (λ E. go n)
 parameters_read (Some (pr.Named x)) K c us n =
     let r : List Token = t.Mark m.CloseParen at c ∷ us in
     let k = tok closing (is_mark m.CloseParen) ∷ K in
     silent 1 (λ E x xs. refl) (choice_first (λ k. not (is_mark m.CloseParen k)) _ nothing k (list parameter x r) (not_true (is_mark m.CloseParen) (list parameter x r) (type_no_paren x.first.0 _).0)
-      (choice_second (is_word w.Void) _ _ k (list parameter x r) (type_no_paren x.first.0 _).1
-        (list_reads parameter (part p.parameter) (λ y. ⊤) (λ y. ⊤) parameter_reads (λ q us. tt) x (tt, all_named x.more) k r tt refl (fast 1 (λ E. go n)))))
+    (choice_second (is_word w.Void) _ _ k (list parameter x r) (type_no_paren x.first.0 _).1
+    (list_reads parameter (part p.parameter) (λ y. ⊤) (λ y. ⊤) parameter_reads (λ q us. tt) x (tt, all_named x.more) k r tt refl (fast 1 (λ E. go n)))))
 
 function_top : (x : Function) → FitsItems (items_view x.body.item) → (us : List Token) → Next (choice is_finish (tok plain is_finish) (part p.program) ∷ []) us → Next (part p.program ∷ []) (function x us)
 function_top x F us n =

@@ -93,12 +93,12 @@ simple_reads (si.Assign x op e) F K us en n =
     let r : List Token = t.Mark op.what at op.at ∷ expr e us in
     let z : Ends 0 false r = (a.0, a.1, a.2, a.3) in
     fast 4 (λ E. go (choice_second (is_mark m.OpenParen) _ _ K _ (no_call x r z) (silent 1 (λ E x xs. refl) (behind_name_before x F.0 _ K r z
-      (choice_second is_step _ _ K r a.4 (silent 1 (λ E x xs. refl) (take_token plain is_assign _ _ _ F.1 ((expr_reads e F.2).all false K us en tt n))))))))
+    (choice_second is_step _ _ K r a.4 (silent 1 (λ E x xs. refl) (take_token plain is_assign _ _ _ F.1 ((expr_reads e F.2).all false K us en tt n))))))))
 simple_reads (si.Postfix x op) F K us en n =
     let a = step_ends op.what F.1 in
     let r : List Token = t.Mark op.what at op.at ∷ us in
     fast 4 (λ E. go (choice_second (is_mark m.OpenParen) _ _ K _ (no_call x r a) (silent 1 (λ E x xs. refl) (behind_name_before x F.0 _ K r a
-      (choice_first is_step _ _ K r F.1 (take_token plain is_step _ _ _ F.1 n))))))
+    (choice_first is_step _ _ K r F.1 (take_token plain is_step _ _ _ F.1 n))))))
 simple_reads (si.Prefix op x) F K us en n =
     fast 1 (λ E. go (choice_first is_step _ _ K _ F.0 (silent 1 (λ E x xs. refl) (take_token plain is_step _ _ _ F.0 (reference_reads x F.1 K us (ends_plain us en) n)))))
 simple_reads (si.Call x) F K us en n = fast 5 (λ E. go ((arguments_all (arguments_view x.arguments.item) F).all K x.arguments.open x.arguments.close us n))
@@ -117,7 +117,7 @@ test_reads None F K q us n = fast 2 (λ E. go n)
 test_reads (Some e) F K q us n =
     let r : List Token = t.Mark m.Semicolon at q ∷ us in
     choice_first (λ k. not (is_mark m.Semicolon k)) g.expr nothing K (expr e r) (not_true (is_mark m.Semicolon) (expr e r) (not_first m.Semicolon (expr_view e) F r refl))
-      ((expr_reads e F).all false K r ((refl, refl, refl, refl), refl) tt n)
+    ((expr_reads e F).all false K r ((refl, refl, refl, refl), refl) tt n)
 
 simple_first : (x : Simple) → FitsSimple x → (r : List Token) → Is (λ k. not (is_mark m.CloseParen k)) (spell_simple x r)
 simple_first (si.Assign x op e) F r = refl
@@ -140,7 +140,7 @@ for_reads x F K us n =
     let body : Next (tok closing (is_mark m.CloseParen) ∷ part p.statement ∷ mark leave ∷ K) c = fast 1 (λ E. go n) in
     let third = next_reads x.next F.2 _ x.close us body in
     fast 8 (λ E. go (silent 2 (λ E x xs. refl) (first_reads x.first F.0 _ x.first_end (optional expr x.test b)
-      (fast 2 (λ E. go (silent 1 (λ E x xs. refl) (test_reads x.test F.1 _ x.test_end (optional spell_simple x.next c) (fast 2 (λ E. go third)))))))))
+    (fast 2 (λ E. go (silent 1 (λ E x xs. refl) (test_reads x.test F.1 _ x.test_end (optional spell_simple x.next c) (fast 2 (λ E. go third)))))))))
 
 -- In a block and elsewhere.
 pub record Both (K : List Rule) (ts : List Token) : Type 0 where

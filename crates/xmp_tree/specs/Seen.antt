@@ -99,4 +99,4 @@ seen_items h v o xs c e m d s = e ∙ ap (λ l. block o (items_of l) c) (same_it
 pub seen_block : (o : Place) (xs : List (BlockItem made_stmt.Stmt)) (c : Place) → stmt_view (s.Block (record { «open» = o; item = xs; close = c })) ≡ block o (items_view xs) c
 seen_block o xs c =
     seen_items _ _ o xs c (ap stmt_view (sym (s.rolls-Block _)) ∙ fold-roll-Stmt Stmt stmt_step (Stmt-F.Block (record { «open» = o; item = xs; close = c })))
-        (λ x. refl) (λ x. refl) (λ x. refl)
+    (λ x. refl) (λ x. refl) (λ x. refl)

@@ -65,8 +65,8 @@ local D (nothing ∷ K) (t ∷ ts) ds E M us e = quiet D _ t ts ds E M us _ _ (�
 local D (tok x p ∷ K) (t ∷ ts) ds E M us e =
     let w = took (p t.kind) (now (behind x D) ∷ []) (reading (behind x D) K ts) (reading E M us) ds e in
     one_token t (now (behind x D)) (let z : reading (behind x D) K ts ≡ reading E M us = w.2 in let y : ts ≡ us = cc in ap (λ l. t ∷ l) y) (sym w.1)
-        (λ f. ap (λ b. cond b (goes (now (behind x D) ∷ []) (reading (behind x D) K f)) halts) w.0
-            ∙ (let z : reading (behind x D) K ts ≡ reading E M us = w.2 in let y : now (behind x D) ∷ [] ≡ ds = w.1 in cc))
+    (λ f. ap (λ b. cond b (goes (now (behind x D) ∷ []) (reading (behind x D) K f)) halts) w.0
+    ∙ (let z : reading (behind x D) K ts ≡ reading E M us = w.2 in let y : now (behind x D) ∷ [] ≡ ds = w.1 in cc))
 local D (mark x ∷ K) (t ∷ ts) ds E M us e = quiet D _ t ts ds E M us _ _ (λ f. refl) e
 local D (part P ∷ K) (t ∷ ts) ds E M us e = quiet D _ t ts ds E M us _ _ (λ f. refl) e
 local D (by g ∷ K) (t ∷ ts) ds E M us e = quiet D _ t ts ds E M us _ _ (λ f. refl) e
@@ -183,8 +183,8 @@ pub stuck_before : (D : Depths) (K : List Rule) (ts : List Token) (ds : List ℕ
     → Local D K ts ds E M us → All (λ d. d ≤ 128) ds → Stuck E M us left → Stuck D K ts left
 stuck_before D K ts ds E M us left (no_token t vs p q n h) w s =
     subst (λ (l : List Token). Stuck D K l left) (sym p)
-      (stuck_silent D K t vs E M left (λ f rest z. subst (λ (l : List ℕ). step rule (reading D K (t ∷ f)) ≡ goes l (reading E M (t ∷ f))) n (h f rest z))
-        s.front s.bad s.after (sym q ∙ s.whole) s.count (s.begins, s.shallow) s.ends)
+    (stuck_silent D K t vs E M left (λ f rest z. subst (λ (l : List ℕ). step rule (reading D K (t ∷ f)) ≡ goes l (reading E M (t ∷ f))) n (h f rest z))
+    s.front s.bad s.after (sym q ∙ s.whole) s.count (s.begins, s.shallow) s.ends)
 stuck_before D K ts ds E M us left (one_token t d p n h) w s =
     subst (λ (l : List Token). Stuck D K l left) (sym p) (stuck_token D K t ds E M us left h w s)
 stuck_before D K ts ds E M us left (two_tokens t u d e p n h) w s =

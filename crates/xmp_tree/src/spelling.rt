@@ -86,7 +86,11 @@ fn put_links(rest: &mut Rest, alloc: Global, links: &[Link<Boxed<Expr>>]) -> Res
 }
 
 #[cycle(expr)]
-pub fn put_subscripts(rest: &mut Rest, alloc: Global, xs: &[Inside<Boxed<Expr>>]) -> Result<(), NoMemory>
+pub fn put_subscripts(
+    rest: &mut Rest,
+    alloc: Global,
+    xs: &[Inside<Boxed<Expr>>],
+) -> Result<(), NoMemory>
     ensures { OnOk result (rest.new ≡ spell_subscripts (subscripts_view xs.now) rest.old) }
 {
     'subscripts: for i in (0..xs.len()).rev() {
@@ -99,7 +103,11 @@ pub fn put_subscripts(rest: &mut Rest, alloc: Global, xs: &[Inside<Boxed<Expr>>]
 }
 
 #[cycle(expr)]
-pub fn put_image(rest: &mut Rest, alloc: Global, image: &Option<Image<Boxed<Expr>>>) -> Result<(), NoMemory>
+pub fn put_image(
+    rest: &mut Rest,
+    alloc: Global,
+    image: &Option<Image<Boxed<Expr>>>,
+) -> Result<(), NoMemory>
     ensures { OnOk result (rest.new ≡ spell_image (image_view image.now) rest.old) }
 {
     match image {
@@ -114,7 +122,11 @@ pub fn put_image(rest: &mut Rest, alloc: Global, image: &Option<Image<Boxed<Expr
 }
 
 #[cycle(expr)]
-pub fn put_arguments(rest: &mut Rest, alloc: Global, list: &Option<CommaList<Boxed<Expr>>>) -> Result<(), NoMemory>
+pub fn put_arguments(
+    rest: &mut Rest,
+    alloc: Global,
+    list: &Option<CommaList<Boxed<Expr>>>,
+) -> Result<(), NoMemory>
     ensures { OnOk result (rest.new ≡ spell_arguments (arguments_view list.now) rest.old) }
 {
     match list {
@@ -131,7 +143,11 @@ pub fn put_arguments(rest: &mut Rest, alloc: Global, list: &Option<CommaList<Box
     }
 }
 
-pub fn put_reference(rest: &mut Rest, alloc: Global, x: &Reference<Boxed<Expr>>) -> Result<(), NoMemory>
+pub fn put_reference(
+    rest: &mut Rest,
+    alloc: Global,
+    x: &Reference<Boxed<Expr>>,
+) -> Result<(), NoMemory>
     ensures { OnOk result (rest.new ≡ spell_ref (ref_view x.now) rest.old) }
 {
     put_image(rest, alloc, &x.image)?;

@@ -6,7 +6,8 @@ ghost use Rattle.xmp_tree.specs.Spell.{◌at◌, after_colon, align_dimension, c
 
 use crate::declaration::{Declaration, Declarator};
 use crate::directive::{
-    AlignDimension, DirectiveLine, DistForm, LoopLine, Mapping, Point, Reduction, ReductionOperator, Section, Sections, TaskLine,
+    AlignDimension, DirectiveLine, DistForm, LoopLine, Mapping, Point, Reduction,
+    ReductionOperator, Section, Sections, TaskLine,
 };
 use crate::expression::Expr;
 use crate::parts::{CommaList, Inside, Name, Next, Placed, TypeWords};
@@ -73,7 +74,11 @@ fn put_next_names(rest: &mut Rest, alloc: Global, xs: &[Next<Name>]) -> Result<(
 }
 
 /// Names behind commas in parentheses.
-pub fn put_names_inside(rest: &mut Rest, alloc: Global, x: &Inside<CommaList<Name>>) -> Result<(), NoMemory>
+pub fn put_names_inside(
+    rest: &mut Rest,
+    alloc: Global,
+    x: &Inside<CommaList<Name>>,
+) -> Result<(), NoMemory>
     ensures { OnOk result (rest.new ≡ in_parens names x.now rest.old) }
 {
     rest.put_sign(Mark::CloseParen, x.close)?;
@@ -93,7 +98,11 @@ fn put_value(rest: &mut Rest, alloc: Global, x: &Option<(Place, Expr)>) -> Resul
     }
 }
 
-fn put_after_colon(rest: &mut Rest, alloc: Global, x: &Option<(Place, Expr)>) -> Result<(), NoMemory>
+fn put_after_colon(
+    rest: &mut Rest,
+    alloc: Global,
+    x: &Option<(Place, Expr)>,
+) -> Result<(), NoMemory>
     ensures { OnOk result (rest.new ≡ optional after_colon x.now rest.old) }
 {
     match x {
@@ -135,7 +144,11 @@ fn put_declarator(rest: &mut Rest, alloc: Global, x: &Declarator) -> Result<(), 
     }
 }
 
-fn put_next_declarators(rest: &mut Rest, alloc: Global, xs: &[Next<Declarator>]) -> Result<(), NoMemory>
+fn put_next_declarators(
+    rest: &mut Rest,
+    alloc: Global,
+    xs: &[Next<Declarator>],
+) -> Result<(), NoMemory>
     ensures { OnOk result (rest.new ≡ each (next declarator) xs.now rest.old) }
 {
     'items: for i in (0..xs.len()).rev() {
@@ -202,7 +215,11 @@ fn put_align_dimension(rest: &mut Rest, alloc: Global, x: &AlignDimension) -> Re
     }
 }
 
-fn put_align_dimensions(rest: &mut Rest, alloc: Global, xs: &[Inside<AlignDimension>]) -> Result<(), NoMemory>
+fn put_align_dimensions(
+    rest: &mut Rest,
+    alloc: Global,
+    xs: &[Inside<AlignDimension>],
+) -> Result<(), NoMemory>
     ensures { OnOk result (rest.new ≡ dims align_dimension xs.now rest.old) }
 {
     'items: for i in (0..xs.len()).rev() {
@@ -214,7 +231,11 @@ fn put_align_dimensions(rest: &mut Rest, alloc: Global, xs: &[Inside<AlignDimens
     Ok(())
 }
 
-fn put_offset(rest: &mut Rest, alloc: Global, x: &Option<(Placed<Mark>, Expr)>) -> Result<(), NoMemory>
+fn put_offset(
+    rest: &mut Rest,
+    alloc: Global,
+    x: &Option<(Placed<Mark>, Expr)>,
+) -> Result<(), NoMemory>
     ensures { OnOk result (rest.new ≡ optional offset x.now rest.old) }
 {
     match x {
@@ -282,7 +303,11 @@ pub fn put_sections(rest: &mut Rest, alloc: Global, x: &Sections) -> Result<(), 
     put_name(rest, alloc, &x.name)
 }
 
-fn put_widths(rest: &mut Rest, alloc: Global, xs: &[Inside<(Expr, Option<(Place, Expr)>)>]) -> Result<(), NoMemory>
+fn put_widths(
+    rest: &mut Rest,
+    alloc: Global,
+    xs: &[Inside<(Expr, Option<(Place, Expr)>)>],
+) -> Result<(), NoMemory>
     ensures { OnOk result (rest.new ≡ dims width xs.now rest.old) }
 {
     'items: for i in (0..xs.len()).rev() {
@@ -296,7 +321,13 @@ fn put_widths(rest: &mut Rest, alloc: Global, xs: &[Inside<(Expr, Option<(Place,
 }
 
 /// The names of a distribute or an align behind its list: a word, and a name.
-fn put_target(rest: &mut Rest, alloc: Global, bytes: &[u8], place: Place, target: &Name) -> Result<(), NoMemory>
+fn put_target(
+    rest: &mut Rest,
+    alloc: Global,
+    bytes: &[u8],
+    place: Place,
+    target: &Name,
+) -> Result<(), NoMemory>
     ensures { OnOk result (rest.new ≡ spelled bytes.now place (name target.now rest.old)) }
 {
     put_name(rest, alloc, target)?;
@@ -304,7 +335,12 @@ fn put_target(rest: &mut Rest, alloc: Global, bytes: &[u8], place: Place, target
 }
 
 /// The first two tokens of a directive's line.
-pub fn put_start(rest: &mut Rest, alloc: Global, bytes: &[u8], line: DirectiveLine) -> Result<(), NoMemory>
+pub fn put_start(
+    rest: &mut Rest,
+    alloc: Global,
+    bytes: &[u8],
+    line: DirectiveLine,
+) -> Result<(), NoMemory>
     ensures { OnOk result (rest.new ≡ (Pragma at line.start) ∷ spelled bytes.now line.word rest.old) }
 {
     rest.put_spelled(alloc, bytes, line.word)?;
@@ -372,7 +408,11 @@ pub fn put_mapping(rest: &mut Rest, alloc: Global, x: &Mapping) -> Result<(), No
     }
 }
 
-fn put_reduction_operator(rest: &mut Rest, alloc: Global, x: &ReductionOperator) -> Result<(), NoMemory>
+fn put_reduction_operator(
+    rest: &mut Rest,
+    alloc: Global,
+    x: &ReductionOperator,
+) -> Result<(), NoMemory>
     ensures { OnOk result (rest.new ≡ reduction_operator x.now rest.old) }
 {
     match x {
@@ -402,7 +442,11 @@ fn put_reductions(rest: &mut Rest, alloc: Global, xs: &[Reduction]) -> Result<()
     Ok(())
 }
 
-fn put_loop_names(rest: &mut Rest, alloc: Global, x: &Option<Inside<CommaList<Name>>>) -> Result<(), NoMemory>
+fn put_loop_names(
+    rest: &mut Rest,
+    alloc: Global,
+    x: &Option<Inside<CommaList<Name>>>,
+) -> Result<(), NoMemory>
     ensures { OnOk result (rest.new ≡ optional (in_parens names) x.now rest.old) }
 {
     match x {

@@ -19,7 +19,11 @@ fn put_parameter(rest: &mut Rest, alloc: Global, x: &(TypeWords, Name)) -> Resul
     put_type_words(rest, x.0)
 }
 
-fn put_next_parameters(rest: &mut Rest, alloc: Global, xs: &[Next<(TypeWords, Name)>]) -> Result<(), NoMemory>
+fn put_next_parameters(
+    rest: &mut Rest,
+    alloc: Global,
+    xs: &[Next<(TypeWords, Name)>],
+) -> Result<(), NoMemory>
     ensures { OnOk result (rest.new ≡ each (next parameter) xs.now rest.old) }
 {
     'items: for i in (0..xs.len()).rev() {

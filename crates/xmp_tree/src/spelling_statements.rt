@@ -3,14 +3,15 @@ ghost use Rattle.std.specs.Prelude.{◌≡◌, OnOk, codes};
 ghost use Rattle.xmp_tree.specs.View.{call_view, items_view, rest_view, stmt_view, tasks_view};
 ghost use Rattle.xmp_tree.specs.Spell.{directive_line, expr, for_first, for_head, format, in_parens, optional, spell, spell_items, spell_plain, spell_rest, spell_simple, spell_stmt, spell_tasks};
 
+use crate::directive::{DirectiveLine, TaskLine};
 use crate::expression::Expr;
 use crate::parts::{Call, Format, Inside, Next};
 use crate::rest::Rest;
 use crate::spelling::{put_arguments, put_expr, put_name, put_reference};
 use crate::spelling_lines::{
-    put_declaration, put_end, put_loop_line, put_mapping, put_names_inside, put_sections, put_start, put_task_line,
+    put_declaration, put_end, put_loop_line, put_mapping, put_names_inside, put_sections,
+    put_start, put_task_line,
 };
-use crate::directive::{DirectiveLine, TaskLine};
 use crate::statement::{BlockItem, ForFirst, ForHead, Plain, Simple, Stmt};
 use sqlite_items::Boxed;
 use std::alloc::Global;
@@ -108,7 +109,12 @@ fn put_values(rest: &mut Rest, alloc: Global, xs: &[Next<Expr>]) -> Result<(), N
     Ok(())
 }
 
-fn put_print_list(rest: &mut Rest, alloc: Global, text: &Format, values: &[Next<Expr>]) -> Result<(), NoMemory>
+fn put_print_list(
+    rest: &mut Rest,
+    alloc: Global,
+    text: &Format,
+    values: &[Next<Expr>],
+) -> Result<(), NoMemory>
     ensures { OnOk result (rest.new ≡ format text.now (spell_rest (rest_view values.now) rest.old)) }
 {
     put_values(rest, alloc, values)?;

@@ -111,7 +111,11 @@ fn read(alloc: Global, text: &str) -> Result<Expr, Fail> {
     Ok(Expr::Read(reference(alloc, text)?))
 }
 
-fn call(alloc: Global, text: &str, arguments: Option<CommaList<Boxed<Expr>>>) -> Result<Call<Boxed<Expr>>, Fail> {
+fn call(
+    alloc: Global,
+    text: &str,
+    arguments: Option<CommaList<Boxed<Expr>>>,
+) -> Result<Call<Boxed<Expr>>, Fail> {
     let name = name(alloc, text)?;
     Ok(Call {
         name,
@@ -234,7 +238,16 @@ fn simple_rows(alloc: Global, rows: &mut Vec<Row>) -> Result<(), Fail> {
     let list = pair(alloc, boxed(alloc, number(1))?, boxed(alloc, number(2))?)?;
     let some = Simple::Call(call(alloc, "f", Some(list))?);
     rows.push((plain(Plain::Simple(some, AT)), "f(1, 2);"))?;
-    let printed = inside((format(alloc, "a")?, one(alloc, Next { comma: AT, item: number(1) })?));
+    let printed = inside((
+        format(alloc, "a")?,
+        one(
+            alloc,
+            Next {
+                comma: AT,
+                item: number(1),
+            },
+        )?,
+    ));
     rows.push((plain(Plain::Print(AT, printed, AT)), "printf(\"a\", 1);"))?;
     let scanned = inside((format(alloc, "a")?, AT, AT, reference(alloc, "x")?));
     rows.push((plain(Plain::Scan(AT, scanned, AT)), "scanf(\"a\", &x);"))?;
@@ -248,12 +261,21 @@ fn expression_rows(alloc: Global, rows: &mut Vec<Row>) -> Result<(), Fail> {
     let sum = chain(alloc, read(alloc, "x")?, Mark::Plus, product)?;
     rows.push((plain(Plain::Return(AT, sum, AT)), "return x + 2 * 3;"))?;
     let negative = Expr::Unary(mark(Mark::Minus), boxed(alloc, number(1))?);
-    let ty = inside(Placed { what: Ty::Long, at: AT });
+    let ty = inside(Placed {
+        what: Ty::Long,
+        at: AT,
+    });
     let converted = Expr::Cast(ty, boxed(alloc, negative)?);
     let parens = Expr::Parens(inside(boxed(alloc, converted)?));
     rows.push((plain(Plain::Return(AT, parens, AT)), "return ((long)-1);"))?;
     let called = Expr::Call(call(alloc, "f", Some(single(alloc, boxed(alloc, number(1))?)))?);
-    let chosen = Expr::Conditional(boxed(alloc, called)?, AT, boxed(alloc, number(2))?, AT, boxed(alloc, number(3))?);
+    let chosen = Expr::Conditional(
+        boxed(alloc, called)?,
+        AT,
+        boxed(alloc, number(2))?,
+        AT,
+        boxed(alloc, number(3))?,
+    );
     rows.push((plain(Plain::Return(AT, chosen, AT)), "return f(1) ? 2 : 3;"))?;
     Ok(())
 }
@@ -273,7 +295,12 @@ fn head(first: Option<ForFirst>, test: Option<Expr>, next: Option<Simple>) -> Fo
 
 fn nested_rows(alloc: Global, rows: &mut Vec<Row>) -> Result<(), Fail> {
     let block = Stmt::Block(inside(one(alloc, BlockItem::Stmt(boxed_stmt(alloc, empty())?))?));
-    let inner = Stmt::If(AT, inside(number(1)), boxed_stmt(alloc, block)?, Some((AT, boxed_stmt(alloc, empty())?)));
+    let inner = Stmt::If(
+        AT,
+        inside(number(1)),
+        boxed_stmt(alloc, block)?,
+        Some((AT, boxed_stmt(alloc, empty())?)),
+    );
     rows.push((BlockItem::Stmt(inner), "if (1) {;} else ;"))?;
     let alone = Stmt::If(AT, inside(number(1)), boxed_stmt(alloc, empty())?, None);
     rows.push((BlockItem::Stmt(alone), "if (1) ;"))?;
@@ -282,15 +309,25 @@ fn nested_rows(alloc: Global, rows: &mut Vec<Row>) -> Result<(), Fail> {
     let first = ForFirst::Declare(AT, name(alloc, "i")?, AT, number(0));
     let next = Simple::Postfix(reference(alloc, "i")?, mark(Mark::Increment));
     let whole = head(Some(first), Some(number(1)), Some(next));
-    rows.push((BlockItem::Stmt(Stmt::For(whole, boxed_stmt(alloc, empty())?)), "for (int i = 0; 1; i++) ;"))?;
+    rows.push((
+        BlockItem::Stmt(Stmt::For(whole, boxed_stmt(alloc, empty())?)),
+        "for (int i = 0; 1; i++) ;",
+    ))?;
     let first = ForFirst::Assign(reference(alloc, "i")?, AT, number(0));
     let short = head(Some(first), None, None);
-    rows.push((BlockItem::Stmt(Stmt::For(short, boxed_stmt(alloc, empty())?)), "for (i = 0;;) ;"))?;
+    rows.push((
+        BlockItem::Stmt(Stmt::For(short, boxed_stmt(alloc, empty())?)),
+        "for (i = 0;;) ;",
+    ))?;
     let ty = TypeWords::LongInt(AT, AT);
     let items = pair(
         alloc,
         Declarator::Scalar(name(alloc, "x")?, Some((AT, number(1)))),
-        Declarator::Array(name(alloc, "c")?, one(alloc, inside(number(2)))?, Some((AT, inside(AT)))),
+        Declarator::Array(
+            name(alloc, "c")?,
+            one(alloc, inside(number(2)))?,
+            Some((AT, inside(AT))),
+        ),
     )?;
     let declaration = BlockItem::Declaration(Declaration { ty, items, end: AT });
     rows.push((declaration, "long int x = 1, c[2]:[*];"))?;
@@ -299,18 +336,30 @@ fn nested_rows(alloc: Global, rows: &mut Vec<Row>) -> Result<(), Fail> {
 
 fn point(alloc: Global) -> Result<Items<Inside<Point>>, Fail> {
     let offset = Some((mark(Mark::Plus), number(1)));
-    two(alloc, inside(Point::Index(name(alloc, "i")?, offset)), inside(Point::Star(AT)))
+    two(
+        alloc,
+        inside(Point::Index(name(alloc, "i")?, offset)),
+        inside(Point::Star(AT)),
+    )
 }
 
 fn mapping_rows(alloc: Global, rows: &mut Vec<Row>) -> Result<(), Fail> {
-    let nodes = Mapping::Nodes(LINE, name(alloc, "p")?, two(alloc, inside(number(2)), inside(number(2)))?);
+    let nodes = Mapping::Nodes(
+        LINE,
+        name(alloc, "p")?,
+        two(alloc, inside(number(2)), inside(number(2)))?,
+    );
     rows.push((BlockItem::Mapping(nodes), "#pragma xmp nodes p[2][2]\n"))?;
     let all = Mapping::NodesStar(LINE, name(alloc, "p")?, inside(AT));
     rows.push((BlockItem::Mapping(all), "#pragma xmp nodes p[*]\n"))?;
     let template = Mapping::Template(LINE, name(alloc, "t")?, one(alloc, inside(number(8)))?);
     rows.push((BlockItem::Mapping(template), "#pragma xmp template t[8]\n"))?;
     let lengths = inside(inside(pair(alloc, number(1), number(2))?));
-    let mut forms = two(alloc, inside(DistForm::Whole(AT)), inside(DistForm::Block(AT)))?;
+    let mut forms = two(
+        alloc,
+        inside(DistForm::Whole(AT)),
+        inside(DistForm::Block(AT)),
+    )?;
     forms.push(inside(DistForm::Cyclic(AT, None)))?;
     forms.push(inside(DistForm::Cyclic(AT, Some(inside(number(2))))))?;
     forms.push(inside(DistForm::Gblock(AT, lengths)))?;
@@ -319,10 +368,28 @@ fn mapping_rows(alloc: Global, rows: &mut Vec<Row>) -> Result<(), Fail> {
         BlockItem::Mapping(distribute),
         "#pragma xmp distribute t[*][block][cyclic][cyclic(2)][gblock({1, 2})] onto p\n",
     ))?;
-    let dimensions = two(alloc, inside(AlignDimension::Dummy(name(alloc, "i")?)), inside(AlignDimension::Star(AT)))?;
-    let align = Mapping::Align(LINE, name(alloc, "a")?, dimensions, AT, name(alloc, "t")?, point(alloc)?);
-    rows.push((BlockItem::Mapping(align), "#pragma xmp align a[i][*] with t[i + 1][*]\n"))?;
-    let widths = two(alloc, inside((number(1), None)), inside((number(1), Some((AT, number(2))))))?;
+    let dimensions = two(
+        alloc,
+        inside(AlignDimension::Dummy(name(alloc, "i")?)),
+        inside(AlignDimension::Star(AT)),
+    )?;
+    let align = Mapping::Align(
+        LINE,
+        name(alloc, "a")?,
+        dimensions,
+        AT,
+        name(alloc, "t")?,
+        point(alloc)?,
+    );
+    rows.push((
+        BlockItem::Mapping(align),
+        "#pragma xmp align a[i][*] with t[i + 1][*]\n",
+    ))?;
+    let widths = two(
+        alloc,
+        inside((number(1), None)),
+        inside((number(1), Some((AT, number(2))))),
+    )?;
     let shadow = Mapping::Shadow(LINE, name(alloc, "a")?, widths);
     rows.push((BlockItem::Mapping(shadow), "#pragma xmp shadow a[1][1:2]\n"))?;
     Ok(())
@@ -330,40 +397,92 @@ fn mapping_rows(alloc: Global, rows: &mut Vec<Row>) -> Result<(), Fail> {
 
 fn set(alloc: Global) -> Result<Sections, Fail> {
     let range = Section::Numbers(number(0), Some((AT, number(1))), None);
-    sections(alloc, "p", two(alloc, inside(range), inside(Section::All(AT)))?)
+    sections(
+        alloc,
+        "p",
+        two(alloc, inside(range), inside(Section::All(AT)))?,
+    )
 }
 
 fn directive_rows(alloc: Global, rows: &mut Vec<Row>) -> Result<(), Fail> {
-    let names = || -> Result<Inside<CommaList<Name>>, Fail> { Ok(inside(pair(alloc, name(alloc, "a")?, name(alloc, "b")?)?)) };
-    rows.push((plain(Plain::Reflect(LINE, names()?)), "#pragma xmp reflect (a, b)\n"))?;
+    let names = || -> Result<Inside<CommaList<Name>>, Fail> {
+        Ok(inside(pair(alloc, name(alloc, "a")?, name(alloc, "b")?)?))
+    };
+    rows.push((
+        plain(Plain::Reflect(LINE, names()?)),
+        "#pragma xmp reflect (a, b)\n",
+    ))?;
     rows.push((plain(Plain::Barrier(LINE)), "#pragma xmp barrier\n"))?;
-    rows.push((plain(Plain::Bcast(LINE, names()?, AT, set(alloc)?)), "#pragma xmp bcast (a, b) from p[0:1][:]\n"))?;
+    rows.push((
+        plain(Plain::Bcast(LINE, names()?, AT, set(alloc)?)),
+        "#pragma xmp bcast (a, b) from p[0:1][:]\n",
+    ))?;
     let triple = Section::Numbers(number(0), Some((AT, number(4))), Some((AT, number(2))));
     let target = sections(alloc, "a", one(alloc, inside(triple))?)?;
     let source = sections(alloc, "b", none(alloc))?;
-    rows.push((plain(Plain::Gmove(LINE, target, AT, source, AT)), "#pragma xmp gmove\na[0:4:2] = b;"))?;
+    rows.push((
+        plain(Plain::Gmove(LINE, target, AT, source, AT)),
+        "#pragma xmp gmove\na[0:4:2] = b;",
+    ))?;
     let sum = ReductionOperator::Mark(mark(Mark::Plus));
     let most = ReductionOperator::Max(AT);
     let least = ReductionOperator::Min(AT);
     let mut reductions = Items::new(alloc);
     for operator in [sum, most, least] {
         let names = single(alloc, name(alloc, "s")?);
-        reductions.push(Reduction { word: AT, list: inside((operator, AT, names)) })?;
+        reductions.push(Reduction {
+            word: AT,
+            list: inside((operator, AT, names)),
+        })?;
     }
-    let line = LoopLine { line: LINE, names: Some(names()?), on: AT, template: name(alloc, "t")?, points: point(alloc)?, reductions };
+    let line = LoopLine {
+        line: LINE,
+        names: Some(names()?),
+        on: AT,
+        template: name(alloc, "t")?,
+        points: point(alloc)?,
+        reductions,
+    };
     let loop_row = Stmt::Loop(line, head(None, None, None), boxed_stmt(alloc, empty())?);
     rows.push((
         BlockItem::Stmt(loop_row),
         "#pragma xmp loop (a, b) on t[i + 1][*] reduction(+:s) reduction(max:s) reduction(min:s)\nfor (;;) ;",
     ))?;
-    let line = LoopLine { line: LINE, names: None, on: AT, template: name(alloc, "t")?, points: point(alloc)?, reductions: none(alloc) };
+    let line = LoopLine {
+        line: LINE,
+        names: None,
+        on: AT,
+        template: name(alloc, "t")?,
+        points: point(alloc)?,
+        reductions: none(alloc),
+    };
     let bare = Stmt::Loop(line, head(None, None, None), boxed_stmt(alloc, empty())?);
-    rows.push((BlockItem::Stmt(bare), "#pragma xmp loop on t[i + 1][*]\nfor (;;) ;"))?;
-    let task = TaskLine { line: LINE, on: AT, set: set(alloc)? };
-    rows.push((BlockItem::Stmt(Stmt::Task(task, boxed_stmt(alloc, empty())?)), "#pragma xmp task on p[0:1][:]\n;"))?;
-    let task = TaskLine { line: LINE, on: AT, set: set(alloc)? };
-    let tasks = Stmt::Tasks(LINE, inside(one(alloc, (task, boxed_stmt(alloc, empty())?))?));
-    rows.push((BlockItem::Stmt(tasks), "#pragma xmp tasks\n{\n#pragma xmp task on p[0:1][:]\n; }"))?;
+    rows.push((
+        BlockItem::Stmt(bare),
+        "#pragma xmp loop on t[i + 1][*]\nfor (;;) ;",
+    ))?;
+    let task = TaskLine {
+        line: LINE,
+        on: AT,
+        set: set(alloc)?,
+    };
+    rows.push((
+        BlockItem::Stmt(Stmt::Task(task, boxed_stmt(alloc, empty())?)),
+        "#pragma xmp task on p[0:1][:]\n;",
+    ))?;
+    let task = TaskLine {
+        line: LINE,
+        on: AT,
+        set: set(alloc)?,
+    };
+    let tasks = Stmt::Tasks(
+        LINE,
+        inside(one(alloc, (task, boxed_stmt(alloc, empty())?))?),
+    );
+    rows.push((
+        BlockItem::Stmt(tasks),
+        "#pragma xmp tasks\n{\n#pragma xmp task on p[0:1][:]\n; }",
+    ))?;
     Ok(())
 }
 
@@ -381,7 +500,11 @@ fn the_tokens_of_each_form_are_those_of_its_text(rt: HostRuntime) -> Result<(), 
         let mut whole = String::new(alloc);
         write!(whole, "int f() {{\n{text}\n}}")?;
         let expected = lexed(alloc, whole.as_str())?;
-        assert_eq!(rt; spelled(alloc, &tree)?.as_str(), expected.as_str(), "{text}");
+        assert_eq!(rt;
+            spelled(alloc, &tree)?.as_str(),
+            expected.as_str(),
+            "{text}"
+        );
     }
     Ok(())
 }
@@ -391,9 +514,21 @@ fn the_tokens_of_a_program_are_those_of_its_text(rt: HostRuntime) -> Result<(), 
     let alloc = rt.alloc();
     let mapping = Mapping::Nodes(LINE, name(alloc, "p")?, one(alloc, inside(number(4)))?);
     let items = single(alloc, Declarator::Scalar(name(alloc, "x")?, None));
-    let declaration = Declaration { ty: TypeWords::Long(AT), items, end: AT };
-    let mut parts = two(alloc, TopItem::Mapping(mapping), TopItem::Declaration(declaration))?;
-    let named = pair(alloc, (TypeWords::Int(AT), name(alloc, "x")?), (TypeWords::Long(AT), name(alloc, "y")?))?;
+    let declaration = Declaration {
+        ty: TypeWords::Long(AT),
+        items,
+        end: AT,
+    };
+    let mut parts = two(
+        alloc,
+        TopItem::Mapping(mapping),
+        TopItem::Declaration(declaration),
+    )?;
+    let named = pair(
+        alloc,
+        (TypeWords::Int(AT), name(alloc, "x")?),
+        (TypeWords::Long(AT), name(alloc, "y")?),
+    )?;
     for parameters in [Parameters::Void(AT), Parameters::Named(named)] {
         let name = name(alloc, "g")?;
         parts.push(TopItem::Function(Function {

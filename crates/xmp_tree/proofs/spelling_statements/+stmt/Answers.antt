@@ -14,7 +14,7 @@ put_stmt-returns-in_ok-put_sign-in-Tasks-2 n c =
     let x : _ = c.in-Tasks.x in
     let v : stmt_view c.args.x.now ≡ tasks c.in-Tasks.line x.open (tasks_view x.item) x.close = ap stmt_view c.in-Tasks.is ∙ seen_tasks c.in-Tasks.line x.open x.item x.close in
     let r : c.put_sign-in-Tasks-2.new.self ≡ t.Mark m.OpenBrace at x.open ∷ spell_tasks (tasks_view x.item) (t.Mark m.CloseBrace at x.close ∷ c.args.rest.now) =
-        c.in_ok-put_sign-in-Tasks-2.ensures ∙ ap (λ l. t.Mark m.OpenBrace at x.open ∷ l)
-          (c.in_ok-put_tasks-in-Tasks.ensures ∙ ap (λ l. spell_tasks (tasks_view l) c.put_sign-in-Tasks.new.self) c.as_slice-in-Tasks.ensures
-          ∙ ap (λ l. spell_tasks (tasks_view x.item) l) c.in_ok-put_sign-in-Tasks.ensures) in
+    c.in_ok-put_sign-in-Tasks-2.ensures ∙ ap (λ l. t.Mark m.OpenBrace at x.open ∷ l)
+    (c.in_ok-put_tasks-in-Tasks.ensures ∙ ap (λ l. spell_tasks (tasks_view l) c.put_sign-in-Tasks.new.self) c.as_slice-in-Tasks.ensures
+    ∙ ap (λ l. spell_tasks (tasks_view x.item) l) c.in_ok-put_sign-in-Tasks.ensures) in
     rw v (subst (λ (l : List Token). OnOk c.put_tasks_line.result (c.put_tasks_line.new.rest ≡ directive_line (codes "tasks") (λ z. z) c.in-Tasks.line l)) r c.put_tasks_line.ensures)
