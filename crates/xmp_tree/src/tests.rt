@@ -225,19 +225,37 @@ fn boxed_stmt(alloc: Global, x: Stmt) -> Result<Boxed<Stmt>, Fail> {
     Ok(Boxed::new(alloc, x)?)
 }
 
-fn simple_rows(alloc: Global, rows: &mut Vec<Row>) -> Result<(), Fail> {
-    rows.push((plain(Plain::Empty(AT)), ";"))?;
+fn simple_0(alloc: Global) -> Result<Row, Fail> {
+    Ok((plain(Plain::Empty(AT)), ";"))
+}
+
+fn simple_1(alloc: Global) -> Result<Row, Fail> {
     let assign = Simple::Assign(element(alloc, "x")?, mark(Mark::AddAssign), number(3));
-    rows.push((plain(Plain::Simple(assign, AT)), "x[1]:[2] += 3;"))?;
+    Ok((plain(Plain::Simple(assign, AT)), "x[1]:[2] += 3;"))
+}
+
+fn simple_2(alloc: Global) -> Result<Row, Fail> {
     let postfix = Simple::Postfix(reference(alloc, "x")?, mark(Mark::Increment));
-    rows.push((plain(Plain::Simple(postfix, AT)), "x++;"))?;
+    Ok((plain(Plain::Simple(postfix, AT)), "x++;"))
+}
+
+fn simple_3(alloc: Global) -> Result<Row, Fail> {
     let prefix = Simple::Prefix(mark(Mark::Decrement), reference(alloc, "x")?);
-    rows.push((plain(Plain::Simple(prefix, AT)), "--x;"))?;
+    Ok((plain(Plain::Simple(prefix, AT)), "--x;"))
+}
+
+fn simple_4(alloc: Global) -> Result<Row, Fail> {
     let none = Simple::Call(call(alloc, "f", None)?);
-    rows.push((plain(Plain::Simple(none, AT)), "f();"))?;
+    Ok((plain(Plain::Simple(none, AT)), "f();"))
+}
+
+fn simple_5(alloc: Global) -> Result<Row, Fail> {
     let list = pair(alloc, boxed(alloc, number(1))?, boxed(alloc, number(2))?)?;
     let some = Simple::Call(call(alloc, "f", Some(list))?);
-    rows.push((plain(Plain::Simple(some, AT)), "f(1, 2);"))?;
+    Ok((plain(Plain::Simple(some, AT)), "f(1, 2);"))
+}
+
+fn simple_6(alloc: Global) -> Result<Row, Fail> {
     let printed = inside((
         format(alloc, "a")?,
         one(
@@ -248,18 +266,26 @@ fn simple_rows(alloc: Global, rows: &mut Vec<Row>) -> Result<(), Fail> {
             },
         )?,
     ));
-    rows.push((plain(Plain::Print(AT, printed, AT)), "printf(\"a\", 1);"))?;
-    let scanned = inside((format(alloc, "a")?, AT, AT, reference(alloc, "x")?));
-    rows.push((plain(Plain::Scan(AT, scanned, AT)), "scanf(\"a\", &x);"))?;
-    let synced = inside((AT, reference(alloc, "x")?));
-    rows.push((plain(Plain::Sync(AT, synced, AT)), "xmp_sync_all(&x);"))?;
-    Ok(())
+    Ok((plain(Plain::Print(AT, printed, AT)), "printf(\"a\", 1);"))
 }
 
-fn expression_rows(alloc: Global, rows: &mut Vec<Row>) -> Result<(), Fail> {
+fn simple_7(alloc: Global) -> Result<Row, Fail> {
+    let scanned = inside((format(alloc, "a")?, AT, AT, reference(alloc, "x")?));
+    Ok((plain(Plain::Scan(AT, scanned, AT)), "scanf(\"a\", &x);"))
+}
+
+fn simple_8(alloc: Global) -> Result<Row, Fail> {
+    let synced = inside((AT, reference(alloc, "x")?));
+    Ok((plain(Plain::Sync(AT, synced, AT)), "xmp_sync_all(&x);"))
+}
+
+fn expression_0(alloc: Global) -> Result<Row, Fail> {
     let product = chain(alloc, number(2), Mark::Star, number(3))?;
     let sum = chain(alloc, read(alloc, "x")?, Mark::Plus, product)?;
-    rows.push((plain(Plain::Return(AT, sum, AT)), "return x + 2 * 3;"))?;
+    Ok((plain(Plain::Return(AT, sum, AT)), "return x + 2 * 3;"))
+}
+
+fn expression_1(alloc: Global) -> Result<Row, Fail> {
     let negative = Expr::Unary(mark(Mark::Minus), boxed(alloc, number(1))?);
     let ty = inside(Placed {
         what: Ty::Long,
@@ -267,7 +293,10 @@ fn expression_rows(alloc: Global, rows: &mut Vec<Row>) -> Result<(), Fail> {
     });
     let converted = Expr::Cast(ty, boxed(alloc, negative)?);
     let parens = Expr::Parens(inside(boxed(alloc, converted)?));
-    rows.push((plain(Plain::Return(AT, parens, AT)), "return ((long)-1);"))?;
+    Ok((plain(Plain::Return(AT, parens, AT)), "return ((long)-1);"))
+}
+
+fn expression_2(alloc: Global) -> Result<Row, Fail> {
     let called = Expr::Call(call(alloc, "f", Some(single(alloc, boxed(alloc, number(1))?)))?);
     let chosen = Expr::Conditional(
         boxed(alloc, called)?,
@@ -276,8 +305,7 @@ fn expression_rows(alloc: Global, rows: &mut Vec<Row>) -> Result<(), Fail> {
         AT,
         boxed(alloc, number(3))?,
     );
-    rows.push((plain(Plain::Return(AT, chosen, AT)), "return f(1) ? 2 : 3;"))?;
-    Ok(())
+    Ok((plain(Plain::Return(AT, chosen, AT)), "return f(1) ? 2 : 3;"))
 }
 
 fn head(first: Option<ForFirst>, test: Option<Expr>, next: Option<Simple>) -> ForHead {
@@ -293,7 +321,7 @@ fn head(first: Option<ForFirst>, test: Option<Expr>, next: Option<Simple>) -> Fo
     }
 }
 
-fn nested_rows(alloc: Global, rows: &mut Vec<Row>) -> Result<(), Fail> {
+fn nested_0(alloc: Global) -> Result<Row, Fail> {
     let block = Stmt::Block(inside(one(alloc, BlockItem::Stmt(boxed_stmt(alloc, empty())?))?));
     let inner = Stmt::If(
         AT,
@@ -301,24 +329,39 @@ fn nested_rows(alloc: Global, rows: &mut Vec<Row>) -> Result<(), Fail> {
         boxed_stmt(alloc, block)?,
         Some((AT, boxed_stmt(alloc, empty())?)),
     );
-    rows.push((BlockItem::Stmt(inner), "if (1) {;} else ;"))?;
+    Ok((BlockItem::Stmt(inner), "if (1) {;} else ;"))
+}
+
+fn nested_1(alloc: Global) -> Result<Row, Fail> {
     let alone = Stmt::If(AT, inside(number(1)), boxed_stmt(alloc, empty())?, None);
-    rows.push((BlockItem::Stmt(alone), "if (1) ;"))?;
+    Ok((BlockItem::Stmt(alone), "if (1) ;"))
+}
+
+fn nested_2(alloc: Global) -> Result<Row, Fail> {
     let while_loop = Stmt::While(AT, inside(number(1)), boxed_stmt(alloc, empty())?);
-    rows.push((BlockItem::Stmt(while_loop), "while (1) ;"))?;
+    Ok((BlockItem::Stmt(while_loop), "while (1) ;"))
+}
+
+fn nested_3(alloc: Global) -> Result<Row, Fail> {
     let first = ForFirst::Declare(AT, name(alloc, "i")?, AT, number(0));
     let next = Simple::Postfix(reference(alloc, "i")?, mark(Mark::Increment));
     let whole = head(Some(first), Some(number(1)), Some(next));
-    rows.push((
+    Ok((
         BlockItem::Stmt(Stmt::For(whole, boxed_stmt(alloc, empty())?)),
         "for (int i = 0; 1; i++) ;",
-    ))?;
+    ))
+}
+
+fn nested_4(alloc: Global) -> Result<Row, Fail> {
     let first = ForFirst::Assign(reference(alloc, "i")?, AT, number(0));
     let short = head(Some(first), None, None);
-    rows.push((
+    Ok((
         BlockItem::Stmt(Stmt::For(short, boxed_stmt(alloc, empty())?)),
         "for (i = 0;;) ;",
-    ))?;
+    ))
+}
+
+fn nested_5(alloc: Global) -> Result<Row, Fail> {
     let ty = TypeWords::LongInt(AT, AT);
     let items = pair(
         alloc,
@@ -330,8 +373,7 @@ fn nested_rows(alloc: Global, rows: &mut Vec<Row>) -> Result<(), Fail> {
         ),
     )?;
     let declaration = BlockItem::Declaration(Declaration { ty, items, end: AT });
-    rows.push((declaration, "long int x = 1, c[2]:[*];"))?;
-    Ok(())
+    Ok((declaration, "long int x = 1, c[2]:[*];"))
 }
 
 fn point(alloc: Global) -> Result<Items<Inside<Point>>, Fail> {
@@ -343,17 +385,26 @@ fn point(alloc: Global) -> Result<Items<Inside<Point>>, Fail> {
     )
 }
 
-fn mapping_rows(alloc: Global, rows: &mut Vec<Row>) -> Result<(), Fail> {
+fn mapping_0(alloc: Global) -> Result<Row, Fail> {
     let nodes = Mapping::Nodes(
         LINE,
         name(alloc, "p")?,
         two(alloc, inside(number(2)), inside(number(2)))?,
     );
-    rows.push((BlockItem::Mapping(nodes), "#pragma xmp nodes p[2][2]\n"))?;
+    Ok((BlockItem::Mapping(nodes), "#pragma xmp nodes p[2][2]\n"))
+}
+
+fn mapping_1(alloc: Global) -> Result<Row, Fail> {
     let all = Mapping::NodesStar(LINE, name(alloc, "p")?, inside(AT));
-    rows.push((BlockItem::Mapping(all), "#pragma xmp nodes p[*]\n"))?;
+    Ok((BlockItem::Mapping(all), "#pragma xmp nodes p[*]\n"))
+}
+
+fn mapping_2(alloc: Global) -> Result<Row, Fail> {
     let template = Mapping::Template(LINE, name(alloc, "t")?, one(alloc, inside(number(8)))?);
-    rows.push((BlockItem::Mapping(template), "#pragma xmp template t[8]\n"))?;
+    Ok((BlockItem::Mapping(template), "#pragma xmp template t[8]\n"))
+}
+
+fn mapping_3(alloc: Global) -> Result<Row, Fail> {
     let lengths = inside(inside(pair(alloc, number(1), number(2))?));
     let mut forms = two(
         alloc,
@@ -364,10 +415,13 @@ fn mapping_rows(alloc: Global, rows: &mut Vec<Row>) -> Result<(), Fail> {
     forms.push(inside(DistForm::Cyclic(AT, Some(inside(number(2))))))?;
     forms.push(inside(DistForm::Gblock(AT, lengths)))?;
     let distribute = Mapping::Distribute(LINE, name(alloc, "t")?, forms, AT, name(alloc, "p")?);
-    rows.push((
+    Ok((
         BlockItem::Mapping(distribute),
         "#pragma xmp distribute t[*][block][cyclic][cyclic(2)][gblock({1, 2})] onto p\n",
-    ))?;
+    ))
+}
+
+fn mapping_4(alloc: Global) -> Result<Row, Fail> {
     let dimensions = two(
         alloc,
         inside(AlignDimension::Dummy(name(alloc, "i")?)),
@@ -381,18 +435,25 @@ fn mapping_rows(alloc: Global, rows: &mut Vec<Row>) -> Result<(), Fail> {
         name(alloc, "t")?,
         point(alloc)?,
     );
-    rows.push((
+    Ok((
         BlockItem::Mapping(align),
         "#pragma xmp align a[i][*] with t[i + 1][*]\n",
-    ))?;
+    ))
+}
+
+fn mapping_5(alloc: Global) -> Result<Row, Fail> {
     let widths = two(
         alloc,
         inside((number(1), None)),
         inside((number(1), Some((AT, number(2))))),
     )?;
     let shadow = Mapping::Shadow(LINE, name(alloc, "a")?, widths);
-    rows.push((BlockItem::Mapping(shadow), "#pragma xmp shadow a[1][1:2]\n"))?;
-    Ok(())
+    Ok((BlockItem::Mapping(shadow), "#pragma xmp shadow a[1][1:2]\n"))
+}
+
+fn names(alloc: Global) -> Result<Inside<CommaList<Name>>, Fail> {
+    let list = pair(alloc, name(alloc, "a")?, name(alloc, "b")?)?;
+    Ok(inside(list))
 }
 
 fn set(alloc: Global) -> Result<Sections, Fail> {
@@ -404,26 +465,35 @@ fn set(alloc: Global) -> Result<Sections, Fail> {
     )
 }
 
-fn directive_rows(alloc: Global, rows: &mut Vec<Row>) -> Result<(), Fail> {
-    let names = || -> Result<Inside<CommaList<Name>>, Fail> {
-        Ok(inside(pair(alloc, name(alloc, "a")?, name(alloc, "b")?)?))
-    };
-    rows.push((
-        plain(Plain::Reflect(LINE, names()?)),
+fn directive_0(alloc: Global) -> Result<Row, Fail> {
+    Ok((
+        plain(Plain::Reflect(LINE, names(alloc)?)),
         "#pragma xmp reflect (a, b)\n",
-    ))?;
-    rows.push((plain(Plain::Barrier(LINE)), "#pragma xmp barrier\n"))?;
-    rows.push((
-        plain(Plain::Bcast(LINE, names()?, AT, set(alloc)?)),
+    ))
+}
+
+fn directive_1(alloc: Global) -> Result<Row, Fail> {
+    Ok((plain(Plain::Barrier(LINE)), "#pragma xmp barrier\n"))
+}
+
+fn directive_2(alloc: Global) -> Result<Row, Fail> {
+    Ok((
+        plain(Plain::Bcast(LINE, names(alloc)?, AT, set(alloc)?)),
         "#pragma xmp bcast (a, b) from p[0:1][:]\n",
-    ))?;
+    ))
+}
+
+fn directive_3(alloc: Global) -> Result<Row, Fail> {
     let triple = Section::Numbers(number(0), Some((AT, number(4))), Some((AT, number(2))));
     let target = sections(alloc, "a", one(alloc, inside(triple))?)?;
     let source = sections(alloc, "b", none(alloc))?;
-    rows.push((
+    Ok((
         plain(Plain::Gmove(LINE, target, AT, source, AT)),
         "#pragma xmp gmove\na[0:4:2] = b;",
-    ))?;
+    ))
+}
+
+fn directive_4(alloc: Global) -> Result<Row, Fail> {
     let sum = ReductionOperator::Mark(mark(Mark::Plus));
     let most = ReductionOperator::Max(AT);
     let least = ReductionOperator::Min(AT);
@@ -437,17 +507,20 @@ fn directive_rows(alloc: Global, rows: &mut Vec<Row>) -> Result<(), Fail> {
     }
     let line = LoopLine {
         line: LINE,
-        names: Some(names()?),
+        names: Some(names(alloc)?),
         on: AT,
         template: name(alloc, "t")?,
         points: point(alloc)?,
         reductions,
     };
     let loop_row = Stmt::Loop(line, head(None, None, None), boxed_stmt(alloc, empty())?);
-    rows.push((
+    Ok((
         BlockItem::Stmt(loop_row),
         "#pragma xmp loop (a, b) on t[i + 1][*] reduction(+:s) reduction(max:s) reduction(min:s)\nfor (;;) ;",
-    ))?;
+    ))
+}
+
+fn directive_5(alloc: Global) -> Result<Row, Fail> {
     let line = LoopLine {
         line: LINE,
         names: None,
@@ -457,19 +530,25 @@ fn directive_rows(alloc: Global, rows: &mut Vec<Row>) -> Result<(), Fail> {
         reductions: none(alloc),
     };
     let bare = Stmt::Loop(line, head(None, None, None), boxed_stmt(alloc, empty())?);
-    rows.push((
+    Ok((
         BlockItem::Stmt(bare),
         "#pragma xmp loop on t[i + 1][*]\nfor (;;) ;",
-    ))?;
+    ))
+}
+
+fn directive_6(alloc: Global) -> Result<Row, Fail> {
     let task = TaskLine {
         line: LINE,
         on: AT,
         set: set(alloc)?,
     };
-    rows.push((
+    Ok((
         BlockItem::Stmt(Stmt::Task(task, boxed_stmt(alloc, empty())?)),
         "#pragma xmp task on p[0:1][:]\n;",
-    ))?;
+    ))
+}
+
+fn directive_7(alloc: Global) -> Result<Row, Fail> {
     let task = TaskLine {
         line: LINE,
         on: AT,
@@ -479,22 +558,48 @@ fn directive_rows(alloc: Global, rows: &mut Vec<Row>) -> Result<(), Fail> {
         LINE,
         inside(one(alloc, (task, boxed_stmt(alloc, empty())?))?),
     );
-    rows.push((
+    Ok((
         BlockItem::Stmt(tasks),
         "#pragma xmp tasks\n{\n#pragma xmp task on p[0:1][:]\n; }",
-    ))?;
-    Ok(())
+    ))
 }
 
 #[test]
 fn the_tokens_of_each_form_are_those_of_its_text(rt: HostRuntime) -> Result<(), Fail> {
     let alloc = rt.alloc();
     let mut rows = Vec::new(alloc);
-    simple_rows(alloc, &mut rows)?;
-    expression_rows(alloc, &mut rows)?;
-    nested_rows(alloc, &mut rows)?;
-    mapping_rows(alloc, &mut rows)?;
-    directive_rows(alloc, &mut rows)?;
+    rows.push(simple_0(alloc)?)?;
+    rows.push(simple_1(alloc)?)?;
+    rows.push(simple_2(alloc)?)?;
+    rows.push(simple_3(alloc)?)?;
+    rows.push(simple_4(alloc)?)?;
+    rows.push(simple_5(alloc)?)?;
+    rows.push(simple_6(alloc)?)?;
+    rows.push(simple_7(alloc)?)?;
+    rows.push(simple_8(alloc)?)?;
+    rows.push(expression_0(alloc)?)?;
+    rows.push(expression_1(alloc)?)?;
+    rows.push(expression_2(alloc)?)?;
+    rows.push(nested_0(alloc)?)?;
+    rows.push(nested_1(alloc)?)?;
+    rows.push(nested_2(alloc)?)?;
+    rows.push(nested_3(alloc)?)?;
+    rows.push(nested_4(alloc)?)?;
+    rows.push(nested_5(alloc)?)?;
+    rows.push(mapping_0(alloc)?)?;
+    rows.push(mapping_1(alloc)?)?;
+    rows.push(mapping_2(alloc)?)?;
+    rows.push(mapping_3(alloc)?)?;
+    rows.push(mapping_4(alloc)?)?;
+    rows.push(mapping_5(alloc)?)?;
+    rows.push(directive_0(alloc)?)?;
+    rows.push(directive_1(alloc)?)?;
+    rows.push(directive_2(alloc)?)?;
+    rows.push(directive_3(alloc)?)?;
+    rows.push(directive_4(alloc)?)?;
+    rows.push(directive_5(alloc)?)?;
+    rows.push(directive_6(alloc)?)?;
+    rows.push(directive_7(alloc)?)?;
     while let Some((item, text)) = rows.pop() {
         let tree = program(alloc, one(alloc, item)?)?;
         let mut whole = String::new(alloc);
