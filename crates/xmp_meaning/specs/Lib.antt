@@ -1,0 +1,16 @@
+pub mod Cells
+pub mod Runs
+pub mod Context
+pub mod Expressions
+pub mod Formats
+pub mod Assignments
+pub mod Loops
+pub mod Sections
+pub mod Directives
+pub mod Statements
+pub mod Calls
+pub mod Programs
+pub mod Parts
+pub mod Exchanges
+pub mod AtNode
+pub mod Phases
