@@ -1,7 +1,6 @@
 //! What a program means with its directives erased.
 //!
-//! So far for one form of programs alone: `First` fills an array by an expression of the index, adds
-//! its cells up and prints the sum.
+//! `First` is one form of programs, which fills an array by an expression of the index, adds its cells up and prints the sum.
 #![tactic(auto)]
 
 mod first;
@@ -12,6 +11,8 @@ mod first_serial;
 #[cfg(test)]
 mod first_tests;
 mod first_value;
+mod rows;
+mod state;
 
 pub use first::First;
 pub use first_item::Item;
