@@ -1,2 +1,4 @@
 pub mod FirstTrees
 pub mod FirstSteps
+pub mod Inputs
+pub mod Steps

@@ -3,4 +3,7 @@ pub mod FirstGrammar
 pub mod FirstMeaning
 pub mod FirstRunning
 pub mod FirstTree
+pub mod Ends
+pub mod Turns
+pub mod Moves
 pub use Rattle.xmp_num.specs.Arithmetic

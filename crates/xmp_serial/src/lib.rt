@@ -3,6 +3,11 @@
 //! `First` is one form of programs, which fills an array by an expression of the index, adds its cells up and prints the sum.
 #![tactic(auto)]
 
+mod assign;
+mod callee;
+mod declared;
+mod eval;
+mod exec;
 mod first;
 mod first_item;
 mod first_items;
@@ -11,6 +16,9 @@ mod first_serial;
 #[cfg(test)]
 mod first_tests;
 mod first_value;
+mod gmove;
+mod plain;
+mod print;
 mod rows;
 mod state;
 

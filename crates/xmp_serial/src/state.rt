@@ -1,10 +1,13 @@
 // What a run reads and writes.
 ghost use Rattle.std.specs.Prelude.{◌≡◌, [], ◌++◌, ℤ, pos, replicate, unwrap_or, slice_get, slice_set, IfOk};
+ghost use Rattle.xmp_meaning.specs.Formats.{printed};
 ghost use Rattle.xmp_meaning.specs.Cells.{cell_in, with_cell};
 ghost use Rattle.xmp_meaning.specs.Runs.{Does, take_step, write};
 
+use crate::print::print;
 use crate::rows::{Rows, put};
 use sqlite_items::Items;
+use std::alloc::Global;
 use std::marker::Model;
 use xmp_base::{Bytes, NoMemory};
 use xmp_meaning::{End, Halt};
@@ -73,11 +76,11 @@ impl State {
         self.arrays.set_cell(array as usize, at, value);
     }
 
-    /// Appends to the output.
-    pub fn write(&mut self, text: &[u8]) -> Result<(), Halt>
-        ensures { Does (write text.now self.old) result self.new }
+    /// Appends what `printf` writes for a format and values.
+    pub fn print(&mut self, alloc: Global, format: &[u8], values: &[i64]) -> Result<(), Halt>
+        ensures { Does (write (printed format.now values.now) self.old) result self.new }
     {
-        match self.out.push_all(text) {
+        match print(alloc, &mut self.out, format, values) {
             Ok(()) => Ok(()),
             Err(NoMemory) => Err(Halt::NoMemory),
         }
