@@ -22,3 +22,6 @@ pub turns_left : (m i : ℕ) (test : Run (Unit {0}) Bool) (body : Run (Unit {0})
 turns_left m i test body s h = let e : m - i ≡ suc (m - (i + 1)) = omega arith in ap (λ (n : ℕ). turns n test body s) e
 
 pub ruleset loops = (turns_left)
+
+pub one_more : {X : Type 0} {x : X} (f : ℕ → X) (n at : ℕ) → at < n → x ≡ f (n - at) → x ≡ f (suc (n - (at + 1)))
+one_more f n at below e = let turn : n - at ≡ suc (n - (at + 1)) = omega arith in e ∙ ap f turn

@@ -4,6 +4,7 @@ ghost use Rattle.xmp_map.specs.RowMajor.{product};
 ghost use Rattle.xmp_meaning.specs.Context.{array_type, extents, is_coarray, is_image, nodes_of, scalar_type};
 ghost use Rattle.xmp_serial.specs.Ends.{OrNoMemory};
 
+use crate::lists::split;
 use xmp_meaning::{Halt, Location};
 use xmp_num::Ty;
 use xmp_prog::{Home, ProgParts};
@@ -69,7 +70,7 @@ pub fn node_count(p: &ProgParts) -> u32
 pub fn cell_count(extents: &[u32]) -> Option<usize>
     ensures { IfSome result (λ n. n ≡ product extents.now) }
 {
-    match extents.split_first() {
+    match split(extents) {
         None => Some(1),
         Some((extent, rest)) => {
             let behind = cell_count(rest)?;

@@ -1,13 +1,13 @@
 // The values of expressions.
-ghost use Rattle.std.specs.Prelude.{◌≡◌, ◌+◌, ◌*◌, [], ◌∷◌, ◌++◌, map, if◌then◌else◌, IfSome};
+ghost use Rattle.std.specs.Prelude.{◌≡◌, ◌+◌, ◌*◌, map, if◌then◌else◌, IfSome};
 ghost use Rattle.xmp_meaning.specs.Runs.{Does, Gave};
 ghost use Rattle.xmp_meaning.specs.Calls.{context_with};
 ghost use Rattle.xmp_meaning.specs.Context.{is_coarray};
 ghost use Rattle.xmp_meaning.specs.Expressions.{access_of, as_truth, call, cell_number, each, expr_of, natural, value_at, within};
-ghost use Rattle.xmp_serial.specs.Ends.{Pushes};
 
 use crate::callee::Callee;
 use crate::declared::{cell_of_image, extents, is_coarray, node_count};
+use crate::lists::push;
 use crate::state::State;
 use sqlite_items::Items;
 use std::alloc::Global;
@@ -186,15 +186,6 @@ pub fn value_at(state: &State, location: Location) -> i64
     match location {
         Location::Scalar(slot) => state.scalar(slot),
         Location::Cell(array, at) => state.cell(array, at),
-    }
-}
-
-fn push(values: &mut Items<i64>, value: i64) -> Result<(), Halt>
-    ensures { Pushes values.old value result values.new }
-{
-    match values.push(value) {
-        Ok(()) => Ok(()),
-        Err(_) => Err(Halt::NoMemory),
     }
 }
 

@@ -4,14 +4,14 @@ ghost use Rattle.std.specs.Int.{w32};
 ghost use Rattle.xmp_num.specs.Arithmetic.{wrap};
 ghost use Rattle.xmp_meaning.specs.Runs.{Does, Gave};
 ghost use Rattle.xmp_meaning.specs.Calls.{context_with};
-ghost use Rattle.xmp_meaning.specs.Directives.{erased};
+ghost use Rattle.xmp_meaning.specs.Directives.{task_run};
 ghost use Rattle.xmp_meaning.specs.Expressions.{expr_of};
 ghost use Rattle.xmp_meaning.specs.Loops.{block, counted, holds, inside, is_inside, nest, step_up, then_run, turn, turn_count, turns, while_loop};
-ghost use Rattle.xmp_meaning.specs.Statements.{stmt_of};
-ghost use Rattle.xmp_serial.specs.Turns.{Turns, gap, task_of};
+ghost use Rattle.xmp_serial.specs.Turns.{Turns, gap, run_of, task_of};
 
 use crate::callee::Callee;
 use crate::eval::{Frame, natural};
+use crate::lists::split;
 use crate::state::State;
 use xmp_meaning::{Flow, Halt};
 use xmp_num::{Ty, convert};
@@ -22,7 +22,7 @@ impl<C: Callee> Frame<'_, C> {
     #[cycle(exec)]
     pub fn exec(&self, s: &Stmt, state: &mut State) -> Result<Flow, Halt>
         requires { C.ready self.now.callee.now }
-        ensures { Does (stmt_of erased (context_with self.now.program.now self.now.node self.now.input.now (C.calls self.now.callee.now)) s.now state.old) result state.new }
+        ensures { Does (run_of (context_with self.now.program.now self.now.node self.now.input.now (C.calls self.now.callee.now)) s.now state.old) result state.new }
     {
         match s {
             Stmt::Plain(plain) => self.exec_plain(plain, state),
@@ -47,7 +47,7 @@ impl<C: Callee> Frame<'_, C> {
     #[cycle(exec)]
     fn exec_all(&self, all: &[Stmt], state: &mut State) -> Result<Flow, Halt>
         requires { C.ready self.now.callee.now }
-        ensures { Does (block (map (stmt_of erased (context_with self.now.program.now self.now.node self.now.input.now (C.calls self.now.callee.now))) all.now) state.old) result state.new }
+        ensures { Does (block (map (run_of (context_with self.now.program.now self.now.node self.now.input.now (C.calls self.now.callee.now))) all.now) state.old) result state.new }
     {
         'all: for s in all {
             match self.exec(s, state)? {
@@ -62,7 +62,7 @@ impl<C: Callee> Frame<'_, C> {
     #[cycle(exec)]
     fn exec_tasks(&self, all: &[Task], state: &mut State) -> Result<Flow, Halt>
         requires { C.ready self.now.callee.now }
-        ensures { Does (block (map (task_of (context_with self.now.program.now self.now.node self.now.input.now (C.calls self.now.callee.now))) all.now) state.old) result state.new }
+        ensures { Does (block (map task_run (map (task_of (context_with self.now.program.now self.now.node self.now.input.now (C.calls self.now.callee.now))) all.now)) state.old) result state.new }
     {
         'tasks: for task in all {
             match self.exec(&task.body, state)? {
@@ -75,20 +75,22 @@ impl<C: Callee> Frame<'_, C> {
 
     /// An uncounted loop: as many turns as there are steps, and one more, which can't begin.
     #[cycle(exec)]
-    #[tactic(auto, using(crate::proofs::Steps::loops))]
     fn exec_while(&self, body: &Stmt, test: &Expr, state: &mut State) -> Result<Flow, Halt>
         requires { C.ready self.now.callee.now }
-        ensures { Does (while_loop (holds (expr_of (context_with self.now.program.now self.now.node self.now.input.now (C.calls self.now.callee.now)) test.now)) (stmt_of erased (context_with self.now.program.now self.now.node self.now.input.now (C.calls self.now.callee.now)) body.now) state.old) result state.new }
+        ensures { Does (while_loop (holds (expr_of (context_with self.now.program.now self.now.node self.now.input.now (C.calls self.now.callee.now)) test.now)) (run_of (context_with self.now.program.now self.now.node self.now.input.now (C.calls self.now.callee.now)) body.now) state.old) result state.new }
     {
         let most = state.steps();
         'turns: for _turn in 0..most {
-            if let Some(flow) = self.while_turn(body, test, state)? {
-                return Ok(flow);
+            match self.while_turn(body, test, state) {
+                Ok(None) => {}
+                Ok(Some(flow)) => return Ok(flow),
+                Err(halt) => return Err(halt),
             }
         }
-        match self.while_turn(body, test, state)? {
-            Some(flow) => Ok(flow),
-            None => Ok(Flow::Next),
+        match self.while_turn(body, test, state) {
+            Ok(None) => Ok(Flow::Next),
+            Ok(Some(flow)) => Ok(flow),
+            Err(halt) => Err(halt),
         }
     }
 
@@ -96,7 +98,7 @@ impl<C: Callee> Frame<'_, C> {
     #[cycle(exec)]
     fn while_turn(&self, body: &Stmt, test: &Expr, state: &mut State) -> Result<Option<Flow>, Halt>
         requires { C.ready self.now.callee.now }
-        ensures { Turns (holds (expr_of (context_with self.now.program.now self.now.node self.now.input.now (C.calls self.now.callee.now)) test.now)) (turn (stmt_of erased (context_with self.now.program.now self.now.node self.now.input.now (C.calls self.now.callee.now)) body.now)) state.old result state.new }
+        ensures { Turns (holds (expr_of (context_with self.now.program.now self.now.node self.now.input.now (C.calls self.now.callee.now)) test.now)) (turn (run_of (context_with self.now.program.now self.now.node self.now.input.now (C.calls self.now.callee.now)) body.now)) state.old result state.new }
     {
         let value = self.eval(test, state)?;
         if value == 0 {
@@ -113,9 +115,9 @@ impl<C: Callee> Frame<'_, C> {
     #[cycle(exec)]
     fn exec_nest(&self, body: &Stmt, heads: &[LoopHead], state: &mut State) -> Result<Flow, Halt>
         requires { C.ready self.now.callee.now }
-        ensures { Does (nest (context_with self.now.program.now self.now.node self.now.input.now (C.calls self.now.callee.now)) heads.now (stmt_of erased (context_with self.now.program.now self.now.node self.now.input.now (C.calls self.now.callee.now)) body.now) state.old) result state.new }
+        ensures { Does (nest (context_with self.now.program.now self.now.node self.now.input.now (C.calls self.now.callee.now)) heads.now (run_of (context_with self.now.program.now self.now.node self.now.input.now (C.calls self.now.callee.now)) body.now) state.old) result state.new }
     {
-        match heads.split_first() {
+        match split(heads) {
             Some((head, inner)) => self.exec_counted(body, head, inner, state),
             None => self.exec(body, state),
         }
@@ -131,7 +133,7 @@ impl<C: Callee> Frame<'_, C> {
         state: &mut State,
     ) -> Result<Flow, Halt>
         requires { C.ready self.now.callee.now }
-        ensures { Does (counted (context_with self.now.program.now self.now.node self.now.input.now (C.calls self.now.callee.now)) head.now (nest (context_with self.now.program.now self.now.node self.now.input.now (C.calls self.now.callee.now)) inner.now (stmt_of erased (context_with self.now.program.now self.now.node self.now.input.now (C.calls self.now.callee.now)) body.now)) state.old) result state.new }
+        ensures { Does (counted (context_with self.now.program.now self.now.node self.now.input.now (C.calls self.now.callee.now)) head.now (nest (context_with self.now.program.now self.now.node self.now.input.now (C.calls self.now.callee.now)) inner.now (run_of (context_with self.now.program.now self.now.node self.now.input.now (C.calls self.now.callee.now)) body.now)) state.old) result state.new }
     {
         let from = to_int(self.eval(&head.from, state)?);
         state.set_scalar(head.index.number, from);
@@ -142,7 +144,6 @@ impl<C: Callee> Frame<'_, C> {
 
     /// At most so many turns of a counted loop.
     #[cycle(exec)]
-    #[tactic(auto, using(crate::proofs::Steps::loops))]
     fn count_up(
         &self,
         body: &Stmt,
@@ -152,11 +153,13 @@ impl<C: Callee> Frame<'_, C> {
         state: &mut State,
     ) -> Result<Flow, Halt>
         requires { C.ready self.now.callee.now }
-        ensures { Does (turns most (inside (context_with self.now.program.now self.now.node self.now.input.now (C.calls self.now.callee.now)) head.now) (then_run (nest (context_with self.now.program.now self.now.node self.now.input.now (C.calls self.now.callee.now)) inner.now (stmt_of erased (context_with self.now.program.now self.now.node self.now.input.now (C.calls self.now.callee.now)) body.now)) (step_up head.now)) state.old) result state.new }
+        ensures { Does (turns most (inside (context_with self.now.program.now self.now.node self.now.input.now (C.calls self.now.callee.now)) head.now) (then_run (nest (context_with self.now.program.now self.now.node self.now.input.now (C.calls self.now.callee.now)) inner.now (run_of (context_with self.now.program.now self.now.node self.now.input.now (C.calls self.now.callee.now)) body.now)) (step_up head.now)) state.old) result state.new }
     {
         'turns: for _turn in 0..most {
-            if let Some(flow) = self.counted_turn(body, head, inner, state)? {
-                return Ok(flow);
+            match self.counted_turn(body, head, inner, state) {
+                Ok(None) => {}
+                Ok(Some(flow)) => return Ok(flow),
+                Err(halt) => return Err(halt),
             }
         }
         Ok(Flow::Next)
@@ -172,11 +175,9 @@ impl<C: Callee> Frame<'_, C> {
         state: &mut State,
     ) -> Result<Option<Flow>, Halt>
         requires { C.ready self.now.callee.now }
-        ensures { Turns (inside (context_with self.now.program.now self.now.node self.now.input.now (C.calls self.now.callee.now)) head.now) (then_run (nest (context_with self.now.program.now self.now.node self.now.input.now (C.calls self.now.callee.now)) inner.now (stmt_of erased (context_with self.now.program.now self.now.node self.now.input.now (C.calls self.now.callee.now)) body.now)) (step_up head.now)) state.old result state.new }
+        ensures { Turns (inside (context_with self.now.program.now self.now.node self.now.input.now (C.calls self.now.callee.now)) head.now) (then_run (nest (context_with self.now.program.now self.now.node self.now.input.now (C.calls self.now.callee.now)) inner.now (run_of (context_with self.now.program.now self.now.node self.now.input.now (C.calls self.now.callee.now)) body.now)) (step_up head.now)) state.old result state.new }
     {
-        let i = state.scalar(head.index.number);
-        let to = to_int(self.eval(&head.to, state)?);
-        if !is_inside(head.inclusive, i, to) {
+        if !self.inside(head, state)? {
             return Ok(Some(Flow::Next));
         }
         match self.exec_nest(body, inner, state)? {
@@ -186,6 +187,16 @@ impl<C: Callee> Frame<'_, C> {
             }
             Flow::Returned(value) => Ok(Some(Flow::Returned(value))),
         }
+    }
+
+    /// Whether the index is inside the bound, which is evaluated anew.
+    fn inside(&self, head: &LoopHead, state: &mut State) -> Result<bool, Halt>
+        requires { C.ready self.now.callee.now }
+        ensures { Does (inside (context_with self.now.program.now self.now.node self.now.input.now (C.calls self.now.callee.now)) head.now state.old) result state.new }
+    {
+        let i = state.scalar(head.index.number);
+        let to = to_int(self.eval(&head.to, state)?);
+        Ok(is_inside(head.inclusive, i, to))
     }
 }
 

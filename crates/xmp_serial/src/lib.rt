@@ -17,6 +17,7 @@ mod first_serial;
 mod first_tests;
 mod first_value;
 mod gmove;
+mod lists;
 mod plain;
 mod print;
 mod rows;
