@@ -2,3 +2,4 @@ pub mod FirstTrees
 pub mod FirstSteps
 pub mod Inputs
 pub mod Steps
+pub mod Whiles
