@@ -13,24 +13,31 @@ use Rattle.xmp_meaning.specs.declared.location.Location.{Location}
 use Rattle.xmp_meaning.specs.declared.location.Location.TheVariants as location
 use Rattle.xmp_meaning.specs.declared.ends.Flow.{Flow}
 use Rattle.xmp_meaning.specs.declared.ends.Flow.TheVariants.{Next, Returned}
-use Rattle.xmp_meaning.specs.Runs.{Run, ◌>>=◌, ◌>>◌, pure, or_trap, set_scalar, set_cell, taken, set_taken}
+use Rattle.xmp_meaning.specs.Runs.{Run, ◌>>=◌, ◌>>◌, pure, or_trap, scalar, set_scalar, cell, set_cell, taken, set_taken}
 use Rattle.xmp_meaning.specs.Context.{Context, scalar_type, array_type}
-use Rattle.xmp_meaning.specs.Expressions.{expr_of, access_of, value_at}
+use Rattle.xmp_meaning.specs.Expressions.{expr_of, cell_of}
 
 -- the type of what is written at a location
 abbrev pub location_type : ProgParts → Location → Ty
 location_type p (location.Scalar slot) = scalar_type p slot
 location_type p (location.Cell array at) = array_type p array
 
+-- the value at a location
+abbrev pub value_at : {X : Type 0} → Location → Run X ℤ
+value_at (location.Scalar slot) = scalar slot
+value_at (location.Cell array at) = cell array at
+
 -- the value, converted to the location's type
 abbrev pub store : {X : Type 0} → Context → Location → ℤ → Run X (Unit {0})
 store cx (location.Scalar slot) v = set_scalar slot (wrap (scalar_type cx.program slot) v)
 store cx (location.Cell array at) v = set_cell array at (wrap (array_type cx.program array) v)
 
--- which location a target names: the subscripts of an element are evaluated and checked
-abbrev pub location_of : {X : Type 0} → Context → Target → Run X Location
-location_of cx (target.Scalar slot at) = pure (location.Scalar slot)
-location_of cx (target.Cell a) = access_of cx a
+-- what is done with the location that a target names; the subscripts of an element are evaluated and checked first
+abbrev pub at_target : {X A : Type 0} → Context → Target → (Location → Run X A) → Run X A
+at_target cx (target.Scalar slot at) f = f (location.Scalar slot)
+at_target cx (target.Cell a) f = do
+  n ← cell_of cx a
+  f (location.Cell a.array n)
 
 -- the right side; for a compound form the old value joined with it
 abbrev pub new_value : {X : Type 0} → Context → ℤ → Option Compound → Expr → Run X ℤ
@@ -39,10 +46,9 @@ new_value cx old (Some c) e = do
   v ← expr_of cx e
   or_trap (binary_of c.op c.ty old v) c.at
 
--- the target's subscripts, then the old value, then the right side
-abbrev pub assign : {X : Type 0} → Context → Target → Option Compound → Expr → Run X Flow
-assign cx to compound e = do
-  l ← location_of cx to
+-- the old value, then the right side
+abbrev pub assign : {X : Type 0} → Context → Option Compound → Expr → Location → Run X Flow
+assign cx compound e l = do
   old ← value_at l
   v ← new_value cx old compound e
   _ ← store cx l v
@@ -68,10 +74,9 @@ store_read cx l (Some v) = do
   _ ← store cx l v
   pure Next
 
--- one number of the input into a target, whose subscripts come first
-abbrev pub scan : {X : Type 0} → Context → Target → Run X Flow
-scan cx to = do
-  l ← location_of cx to
+-- one number of the input
+abbrev pub scan : {X : Type 0} → Context → Location → Run X Flow
+scan cx l = do
   at ← taken
   _ ← set_taken (scan_of (location_type cx.program l) cx.input at).1
   store_read cx l (scan_of (location_type cx.program l) cx.input at).0

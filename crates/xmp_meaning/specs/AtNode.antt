@@ -16,8 +16,7 @@ use Rattle.xmp_prog.specs.declared.statements.Name.{Name}
 use Rattle.xmp_prog.specs.declared.statements.LoopDirective.{LoopDirective}
 use Rattle.xmp_prog.specs.declared.statements.Reduction.{Reduction}
 use Rattle.xmp_prog.specs.declared.statements.MoveSide.{MoveSide}
-use Rattle.xmp_meaning.specs.declared.location.Location.{Location}
-use Rattle.xmp_meaning.specs.declared.location.Location.TheVariants as location
+use Rattle.xmp_prog.specs.declared.statements.MoveSide.TheVariants as side
 use Rattle.xmp_meaning.specs.declared.ends.End.{End}
 use Rattle.xmp_meaning.specs.declared.ends.Flow.{Flow}
 use Rattle.xmp_meaning.specs.declared.ends.Flow.TheVariants.{Next}
@@ -107,32 +106,37 @@ reflect_at p node (a ∷ all) = then_run
 
 -- ---- gmove
 
--- whether a node stores what is moved to a location: the owner of a cell of a distributed array, and each node elsewhere
+-- whether a node stores what is moved to a cell: the owner in a distributed array, and each node elsewhere
 abbrev pub stores_cell : Home → ℕ → ℕ → Bool
 stores_cell (home.Spread t m) node at = held.owns m node (unravel (held.extents m) at)
 stores_cell _ node at = true
 
-abbrev pub stores : ProgParts → ℕ → Location → Bool
-stores p node (location.Scalar slot) = true
-stores p node (location.Cell array at) = stores_cell (home_of p array) node at
+abbrev pub stores : ProgParts → ℕ → MoveSide → ℕ → Bool
+stores p node (side.Scalar name) at = true
+stores p node (side.Array name parts) at = stores_cell (home_of p name.number) node at
 
--- the targets that a node stores, and their values
-abbrev pub kept : ProgParts → ℕ → List Location → List ℤ → Move
-kept p node (l ∷ ls) (v ∷ vs) =
-    let rest = kept p node ls vs in
-    if stores p node l then record { targets = l ∷ rest.targets; sources = []; values = v ∷ rest.values } else rest
-kept p node [] vs = record { targets = []; sources = []; values = [] }
-kept p node (l ∷ ls) [] = record { targets = []; sources = []; values = [] }
+-- the target's cells that a node stores, and their values
+abbrev pub kept : (ℕ → Bool) → List ℕ → List ℤ → Move
+kept test (n ∷ ns) (v ∷ vs) =
+    let rest = kept test ns vs in
+    if test n then record { targets = n ∷ rest.targets; sources = []; values = v ∷ rest.values } else rest
+kept test [] vs = record { targets = []; sources = []; values = [] }
+kept test (n ∷ ns) [] = record { targets = []; sources = []; values = [] }
 
 abbrev pub is_spread : Home → Bool
 is_spread (home.Spread t m) = true
 is_spread _ = false
 
--- the values are said where the source is distributed; of any other source a node has its own
-abbrev pub gmove_at : ProgParts → ℕ → MoveSide → Run Talk Move → (Move → Run Talk Flow) → Run Talk Flow
-gmove_at p node source move written =
-    move >>= (λ m. exchange (Moved m)
-        (λ x. written (kept p node m.targets (if is_spread (home_of p (name_of source).number) then values_said x else m.values))))
+-- what it writes: the values are said where the source is distributed; of any other source it has its own
+abbrev pub move_kept : ProgParts → ℕ → MoveSide → MoveSide → Move → Exchange → Move
+move_kept p node target source own x =
+    kept (stores p node target) own.targets (if is_spread (home_of p (name_of source).number) then values_said x else own.values)
+
+abbrev pub gmove_heard : ProgParts → ℕ → MoveSide → MoveSide → (Move → Run Talk Flow) → Move → Exchange → Run Talk Flow
+gmove_heard p node target source written own x = written (move_kept p node target source own x)
+
+abbrev pub gmove_at : ProgParts → ℕ → MoveSide → MoveSide → Run Talk Move → (Move → Run Talk Flow) → Run Talk Flow
+gmove_at p node target source move written = move >>= (λ own. exchange (Moved own) (gmove_heard p node target source written own))
 
 -- ---- the end of a loop directive
 
@@ -171,13 +175,16 @@ abbrev pub closed : List Reduction → PartEnd → Run Talk Flow
 closed rs (Whole vs) = set_all (map (λ r. r.variable) rs) vs
 closed rs (Stopped e at) = λ s. Ended e s
 
+-- what is made of the parts' ends, its own among them
+abbrev pub loop_heard : ProgParts → ℕ → LoopDirective → PartEnd → Exchange → Run Talk Flow
+loop_heard p node directive own x =
+    closed directive.reductions (all_joined p directive.reductions (Whole (units p directive.reductions)) (slice_set (parts_said x) node own))
+
 abbrev pub loop_at : ProgParts → ℕ → LoopDirective → (Run Talk Flow → Run Talk Flow) → Run Talk Flow → Run Talk Flow
 loop_at p node directive around body = λ s.
-    let own = part_of p directive node around body s in
-    let said = part_end directive own in
-    exchange (LoopEnd (said ∷ []))
-        (λ x. closed directive.reductions (all_joined p directive.reductions (Whole (units p directive.reductions)) (slice_set (parts_said x) node said)))
-        (state_of own)
+    let step = part_of p directive node around body s in
+    let own = part_end directive step in
+    exchange (LoopEnd (own ∷ [])) (loop_heard p node directive own) (state_of step)
 
 -- ---- the end of tasks
 
@@ -218,15 +225,21 @@ abbrev pub ending : Option End → Run Talk Flow
 ending None = pure Next
 ending (Some e) = λ s. Ended e s
 
--- node 0 keeps the texts
+-- what is made of the tasks' ends, its own among them; node 0 keeps the texts, behind what it printed before
+abbrev pub tasks_heard : ProgParts → ℕ → List TaskEnd → (before : List ℕ) → Exchange → Run Talk Flow
+tasks_heard p node own before x = λ s.
+    let ends = known_ends p node own (tasks_said x) in
+    ending (first_end ends) (record s { out = before ++ (if node == 0 then texts ends else []) })
+
+-- it runs the task of which it is a member, and nothing of the others
+abbrev pub own_tasks : ProgParts → ℕ → List (TaskRun Talk) → Run Talk Flow
+own_tasks p node all = block (map (λ t. only (λ s. is_member p node t.nodes) t.run) all)
+
 abbrev pub tasks_at : ProgParts → ℕ → List (TaskRun Talk) → Run Talk Flow
 tasks_at p node all = λ s.
-    let step = block (map (λ t. only (λ u. is_member p node t.nodes) t.run) all) (unprinted s) in
+    let step = own_tasks p node all (unprinted s) in
     let own = map (own_end p node step) all in
-    exchange (TasksEnd own)
-        (λ x t. let ends = known_ends p node own (tasks_said x) in
-            ending (first_end ends) (record t { out = s.out ++ (if node == 0 then texts ends else []) }))
-        (state_of step)
+    exchange (TasksEnd own) (tasks_heard p node own s.out) (state_of step)
 
 abbrev pub at_node : ProgParts → ℕ → Directives Talk
 at_node p node = record {
@@ -234,7 +247,7 @@ at_node p node = record {
   reflect = reflect_at p node;
   barrier = exchange AtBarrier (λ x. pure Next);
   bcast = bcast_at p node;
-  gmove = λ target source move written. gmove_at p node source move written;
+  gmove = λ target source move written. gmove_at p node target source move written;
   tasks = tasks_at p node;
   sync = pure Next;
 }

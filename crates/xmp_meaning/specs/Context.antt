@@ -2,11 +2,9 @@
 use Rattle.std.specs.Prelude.{ℕ, List, [], ℤ, Option, Some, None, slice_get, unwrap_or, Bool, true, false, map}
 use Rattle.xmp_num.specs.declared.types.Ty.{Ty}
 use Rattle.xmp_num.specs.declared.types.Ty.TheVariants.{Long}
-use Rattle.xmp_map.specs.RowMajor.{product}
 use Rattle.xmp_prog.specs.declared.parts.ProgParts.{ProgParts}
 use Rattle.xmp_prog.specs.declared.parts.Array.{Array}
-use Rattle.xmp_prog.specs.declared.parts.Home.{Home}
-use Rattle.xmp_prog.specs.declared.parts.Home.TheVariants as home
+use Rattle.xmp_prog.specs.Tests.{is_image}
 use Rattle.xmp_meaning.specs.Runs.{Step}
 
 -- The program, the number of the node that runs, the input, and what a call of a function with these arguments comes to where so many
@@ -16,10 +14,6 @@ pub record Context : Type 0 where
   pub node : ℕ
   pub input : List ℕ
   pub call : ℕ → List ℤ → ℕ → Step (Unit {0}) ℤ
-
--- how many nodes there are
-abbrev pub nodes_of : ProgParts → ℕ
-nodes_of p = product p.grid.sizes
 
 -- the type of a scalar
 abbrev pub scalar_type : ProgParts → ℕ → Ty
@@ -40,10 +34,6 @@ extents_of_array (Some a) = a.extents
 -- how many subscripts each dimension of an array has
 abbrev pub extents : ProgParts → ℕ → List ℕ
 extents p array = extents_of_array (slice_get p.arrays array)
-
-abbrev pub is_image : Home → Bool
-is_image home.Image = true
-is_image _ = false
 
 abbrev pub is_coarray_of : Option Array → Bool
 is_coarray_of None = false

@@ -12,7 +12,7 @@ use Rattle.xmp_meaning.specs.declared.ends.Flow.{Flow}
 use Rattle.xmp_meaning.specs.declared.ends.Flow.TheVariants.{Next}
 use Rattle.xmp_meaning.specs.Runs.{State, Step, Gave, Ended, Run, ◌>>=◌, ◌>>◌, pure}
 use Rattle.xmp_meaning.specs.Cells.{row_in}
-use Rattle.xmp_meaning.specs.Context.{nodes_of}
+use Rattle.xmp_prog.specs.Fits.{node_count}
 use Rattle.xmp_meaning.specs.Loops.{then_run, block}
 use Rattle.xmp_meaning.specs.Sections.{Move}
 use Rattle.xmp_meaning.specs.Directives.{Directives, TaskRun, task_run}
@@ -67,7 +67,7 @@ task_end s t =
 
 -- the ends of the parts of all nodes, each from this state
 abbrev pub part_ends : {X : Type 0} → ProgParts → LoopDirective → (Run X Flow → Run X Flow) → Run X Flow → State X → List PartEnd
-part_ends p directive around body s = map (λ node. part_end directive (part_of p directive node around body s)) (range_with_len 0 (nodes_of p))
+part_ends p directive around body s = map (λ node. part_end directive (part_of p directive node around body s)) (range_with_len 0 (node_count p))
 
 -- ---- the run that notes each exchange: the serial run, with the values that are said, in the order in which it comes to them
 

@@ -9,10 +9,9 @@ use Rattle.xmp_prog.specs.declared.expressions.Expr.{Expr}
 use Rattle.xmp_prog.specs.declared.expressions.Expr.TheOpen.{Expr-F, Access-F}
 use Rattle.xmp_prog.specs.declared.expressions.Expr.TheFolds.{fold-Expr, fold-Access}
 use Rattle.xmp_prog.specs.declared.expressions.Access.{Access}
-use Rattle.xmp_meaning.specs.declared.location.Location.{Location}
-use Rattle.xmp_meaning.specs.declared.location.Location.TheVariants as location
 use Rattle.xmp_meaning.specs.Runs.{State, Step, Gave, Ended, Run, ◌>>=◌, ◌>>◌, pure, trap, or_trap, scalar, cell}
-use Rattle.xmp_meaning.specs.Context.{Context, nodes_of, extents, is_coarray}
+use Rattle.xmp_meaning.specs.Context.{Context, extents, is_coarray}
+use Rattle.xmp_prog.specs.Fits.{node_count}
 
 abbrev pub is_zero : ℤ → Bool
 is_zero (pos zero) = true
@@ -55,16 +54,20 @@ image_of cx array (Some e) = do
   k ← e
   pure (natural k)
 
-abbrev pub access_step : {X : Type 0} → Context → Access-F (Run X ℤ) (Run X Location) → Run X Location
-access_step cx a = do
-  x ← cell_number a.subscripts (extents cx.program a.array) a.at 0
-  k ← image_of cx a.array a.image
-  pure (location.Cell a.array (k * product (extents cx.program a.array) + x))
+-- an element: its array, and what gives the number of its cell in it; the cells of a coarray lie image after image
+pub record Element (X : Type 0) : Type 0 where
+  pub array : ℕ
+  pub number : Run X ℕ
 
--- the value at a location
-abbrev pub value_at : {X : Type 0} → Location → Run X ℤ
-value_at (location.Scalar slot) = scalar slot
-value_at (location.Cell array at) = cell array at
+-- the number of a cell of an image
+abbrev pub in_image : Context → ℕ → ℕ → ℕ → ℕ
+in_image cx array x image = image * product (extents cx.program array) + x
+
+abbrev pub access_step : {X : Type 0} → Context → Access-F (Run X ℤ) (Element X) → Element X
+access_step cx a = record { array = a.array; number = do
+  x ← cell_number a.subscripts (extents cx.program a.array) a.at 0
+  image ← image_of cx a.array a.image
+  pure (in_image cx a.array x image) }
 
 -- ---- expressions
 
@@ -84,12 +87,12 @@ abbrev pub call : {X : Type 0} → Context → ℕ → List ℤ → Run X ℤ
 call cx function vs = λ s. after_call s (cx.call function vs s.steps)
 
 -- `&&`, `||` and `?:` evaluate only what they need
-abbrev pub expr_step : {X : Type 0} → Context → Expr-F (Run X ℤ) (Run X Location) → Run X ℤ
+abbrev pub expr_step : {X : Type 0} → Context → Expr-F (Run X ℤ) (Element X) → Run X ℤ
 expr_step cx (Expr-F.Const v ty) = pure v
 expr_step cx (Expr-F.Scalar slot at) = scalar slot
 expr_step cx (Expr-F.Cell a) = do
-  l ← a
-  value_at l
+  n ← a.number
+  cell a.array n
 expr_step cx (Expr-F.Binary op ty a b at) = do
   x ← a
   y ← b
@@ -114,12 +117,12 @@ expr_step cx (Expr-F.Call function arguments at) = do
   vs ← each arguments []
   call cx function vs
 expr_step cx Expr-F.Node = pure (pos cx.node)
-expr_step cx Expr-F.Nodes = pure (pos (nodes_of cx.program))
+expr_step cx Expr-F.Nodes = pure (pos (node_count cx.program))
 
 -- what an expression gives
 abbrev pub expr_of : {X : Type 0} → Context → Expr → Run X ℤ
-expr_of {X} cx = fold-Expr (Run X ℤ) (Run X Location) (expr_step cx) (access_step cx)
+expr_of {X} cx = fold-Expr (Run X ℤ) (Element X) (expr_step cx) (access_step cx)
 
--- which cell an element names
-abbrev pub access_of : {X : Type 0} → Context → Access → Run X Location
-access_of {X} cx = fold-Access (Run X ℤ) (Run X Location) (expr_step cx) (access_step cx)
+-- which cell of its array an element is
+abbrev pub cell_of : {X : Type 0} → Context → Access → Run X ℕ
+cell_of {X} cx a = (fold-Access (Run X ℤ) (Element X) (expr_step cx) (access_step cx) a).number

@@ -10,7 +10,10 @@ pub mod Directives
 pub mod Statements
 pub mod Calls
 pub mod Programs
+pub mod Writes
 pub mod Parts
 pub mod Exchanges
 pub mod AtNode
 pub mod Phases
+pub mod Laws
+pub mod Examples

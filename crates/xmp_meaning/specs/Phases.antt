@@ -11,7 +11,8 @@ use Rattle.xmp_meaning.specs.declared.ends.Flow.TheVariants.{Next}
 use Rattle.xmp_meaning.specs.declared.outcome.Outcome.{Outcome}
 use Rattle.xmp_meaning.specs.declared.outcome.Outcome.TheVariants as outcome
 use Rattle.xmp_meaning.specs.Runs.{State, Step, Gave, Ended, Run, pure, stop}
-use Rattle.xmp_meaning.specs.Context.{nodes_of, is_image}
+use Rattle.xmp_prog.specs.Fits.{node_count}
+use Rattle.xmp_prog.specs.Tests.{is_image}
 use Rattle.xmp_meaning.specs.Directives.{Directives, erased}
 use Rattle.xmp_meaning.specs.Exchanges.{state_of}
 use Rattle.xmp_meaning.specs.Calls.{main_context}
@@ -44,7 +45,7 @@ abbrev pub image_run : ProgParts → ℕ → List Memory → Step (List Memory) 
 image_run p image starts = program (at_image p) (main_context p image []) (beginning p 0 starts)
 
 abbrev pub image_runs : ProgParts → List Memory → List (Step (List Memory) Flow)
-image_runs p starts = map (λ image. image_run p image starts) (range_with_len 0 (nodes_of p))
+image_runs p starts = map (λ image. image_run p image starts) (range_with_len 0 (node_count p))
 
 -- ---- the end of a phase
 

@@ -13,7 +13,9 @@ use Rattle.xmp_meaning.specs.declared.ends.Flow.TheVariants.{Next}
 use Rattle.xmp_meaning.specs.declared.outcome.Outcome.{Outcome}
 use Rattle.xmp_meaning.specs.declared.outcome.Outcome.TheVariants as outcome
 use Rattle.xmp_meaning.specs.Runs.{State, Step, Gave, Ended, Run, ◌>>=◌, ◌>>◌, pure}
-use Rattle.xmp_meaning.specs.Context.{Context, nodes_of, is_image}
+use Rattle.xmp_meaning.specs.Context.{Context}
+use Rattle.xmp_prog.specs.Fits.{node_count}
+use Rattle.xmp_prog.specs.Tests.{is_image}
 use Rattle.xmp_meaning.specs.Expressions.{expr_of}
 use Rattle.xmp_meaning.specs.Assignments.{store}
 use Rattle.xmp_meaning.specs.Loops.{then_run}
@@ -23,7 +25,7 @@ use Rattle.xmp_meaning.specs.Calls.{main_context}
 
 -- how many cells an array has, those of all images together
 abbrev pub cell_count : ProgParts → Array → ℕ
-cell_count p a = (if is_image a.home then nodes_of p else 1) * product a.extents
+cell_count p a = (if is_image a.home then node_count p else 1) * product a.extents
 
 -- every cell is 0 at first
 abbrev pub no_writes : ProgParts → List (List ℤ)
@@ -60,7 +62,7 @@ cut (suc n) many cells = take many cells ∷ cut n many (drop many cells)
 abbrev pub told_of : ProgParts → Array → Home → List ℤ → List (List ℤ)
 told_of p a home.Copy cells = []
 told_of p a (home.Spread t m) cells = cells ∷ []
-told_of p a home.Image cells = cut (nodes_of p) (product a.extents) cells
+told_of p a home.Image cells = cut (node_count p) (product a.extents) cells
 
 abbrev pub told : ProgParts → List Array → List (List ℤ) → List (List ℤ)
 told p (a ∷ all) (cells ∷ rows) = told_of p a a.home cells ++ told p all rows

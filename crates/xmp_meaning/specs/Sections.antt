@@ -16,8 +16,8 @@ use Rattle.xmp_meaning.specs.declared.ends.Flow.{Flow}
 use Rattle.xmp_meaning.specs.declared.ends.Flow.TheVariants.{Next}
 use Rattle.xmp_meaning.specs.Runs.{Run, ◌>>=◌, ◌>>◌, pure, trap}
 use Rattle.xmp_meaning.specs.Context.{Context, extents}
-use Rattle.xmp_meaning.specs.Expressions.{expr_of, value_at, each, within, or_subscript, natural}
-use Rattle.xmp_meaning.specs.Assignments.{store}
+use Rattle.xmp_meaning.specs.Expressions.{expr_of, each, within, or_subscript, natural}
+use Rattle.xmp_meaning.specs.Assignments.{value_at, store}
 
 -- a subscript, or the base, the length and the step of a section
 pub data Chosen : Type 0 where
@@ -79,12 +79,17 @@ cells_from so_far (n ∷ ns) (xs ∷ rest) = flat_map (λ x. cells_from (so_far 
 cells_from so_far [] rest = so_far ∷ []
 cells_from so_far (n ∷ ns) [] = so_far ∷ []
 
--- the locations of a side, in row-major order, once its dimensions are checked
-abbrev pub locations : {X : Type 0} → Context → MoveSide → List Chosen → Run X (List Location)
-locations cx (side.Scalar name) cs = pure (location.Scalar name.number ∷ [])
-locations cx (side.Array name parts) cs = do
+-- the cells of a side by their numbers, in row-major order, once its dimensions are checked; a scalar is one cell, whose number is 0
+abbrev pub cells : {X : Type 0} → Context → MoveSide → List Chosen → Run X (List ℕ)
+cells cx (side.Scalar name) cs = pure (0 ∷ [])
+cells cx (side.Array name parts) cs = do
   xs ← all_subscripts name.at (extents cx.program name.number) cs
-  pure (map (location.Cell name.number) (cells_from 0 (extents cx.program name.number) xs))
+  pure (cells_from 0 (extents cx.program name.number) xs)
+
+-- a cell of a side
+abbrev pub cell_at : MoveSide → ℕ → Location
+cell_at (side.Scalar name) n = location.Scalar name.number
+cell_at (side.Array name parts) n = location.Cell name.number n
 
 -- ---- whether the sections fit each other
 
@@ -116,18 +121,18 @@ spread [] count (v ∷ vs) = replicate count v
 spread [] count [] = []
 spread (n ∷ ns) count vs = vs
 
--- the values into the locations, in order
-abbrev pub store_all : {X : Type 0} → Context → List Location → List ℤ → Run X Flow
-store_all cx (l ∷ ls) (v ∷ vs) = do
-  _ ← store cx l v
-  store_all cx ls vs
-store_all cx [] vs = pure Next
-store_all cx (l ∷ ls) [] = pure Next
+-- the values into the cells of a side, in order
+abbrev pub store_all : {X : Type 0} → Context → MoveSide → List ℕ → List ℤ → Run X Flow
+store_all cx target (n ∷ ns) (v ∷ vs) = do
+  _ ← store cx (cell_at target n) v
+  store_all cx target ns vs
+store_all cx target [] vs = pure Next
+store_all cx target (n ∷ ns) [] = pure Next
 
--- what a gmove moves: where from, where to, and a value for each target
+-- what a gmove moves: the target's cells and the source's by their numbers, and a value for each cell of the target
 pub record Move : Type 0 where
-  pub targets : List Location
-  pub sources : List Location
+  pub targets : List ℕ
+  pub sources : List ℕ
   pub values : List ℤ
 
 -- All numbers come first, the target's and then the source's. Then the target's dimensions are checked in order, then the source's, then the
@@ -136,12 +141,12 @@ abbrev pub move : {X : Type 0} → Context → MoveSide → MoveSide → Run X M
 move cx target source = do
   to ← numbers cx target
   from ← numbers cx source
-  targets ← locations cx target to
-  sources ← locations cx source from
+  targets ← cells cx target to
+  sources ← cells cx source from
   _ ← lengths_fit (fit (lengths to) (lengths from)) (name_of target).at
-  vs ← each (map value_at sources) []
+  vs ← each (map (λ n. value_at (cell_at source n)) sources) []
   pure (record { targets = targets; sources = sources; values = spread (lengths from) (length targets) vs })
 
 -- and then its values are written
-abbrev pub written : {X : Type 0} → Context → Move → Run X Flow
-written cx m = store_all cx m.targets m.values
+abbrev pub written : {X : Type 0} → Context → MoveSide → Move → Run X Flow
+written cx target m = store_all cx target m.targets m.values

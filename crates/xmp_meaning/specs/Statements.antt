@@ -11,7 +11,7 @@ use Rattle.xmp_meaning.specs.Runs.{Run, ◌>>=◌, ◌>>◌, pure, set_scalar, w
 use Rattle.xmp_meaning.specs.Context.{Context}
 use Rattle.xmp_meaning.specs.Expressions.{expr_of, each, call}
 use Rattle.xmp_meaning.specs.Formats.{printed}
-use Rattle.xmp_meaning.specs.Assignments.{assign, declare, scan}
+use Rattle.xmp_meaning.specs.Assignments.{at_target, assign, declare, scan}
 use Rattle.xmp_meaning.specs.Loops.{then_run, block, choose, holds, while_loop, counted, nest}
 use Rattle.xmp_meaning.specs.Sections.{move, written}
 use Rattle.xmp_meaning.specs.Directives.{Directives, TaskRun}
@@ -19,7 +19,7 @@ use Rattle.xmp_meaning.specs.Directives.{Directives, TaskRun}
 -- those that hold no statement
 abbrev pub plain_of : {X : Type 0} → Directives X → Context → Plain → Run X Flow
 plain_of d cx (plain.Declare slot value at) = declare cx slot value
-plain_of d cx (plain.Set to compound e) = assign cx to compound e
+plain_of d cx (plain.Set to compound e) = at_target cx to (assign cx compound e)
 plain_of d cx (plain.Return e) = do
   v ← expr_of cx e
   pure (Returned v)
@@ -31,14 +31,14 @@ plain_of d cx (plain.Print format arguments at) = do
   vs ← each (map (expr_of cx) arguments) []
   _ ← write (printed format vs)
   pure Next
-plain_of d cx (plain.Scan to at) = scan cx to
+plain_of d cx (plain.Scan to at) = at_target cx to (scan cx)
 plain_of d cx (plain.Sync status at) = then_run d.sync (do
   _ ← set_scalar status.number (pos 0)
   pure Next)
 plain_of d cx (plain.Reflect arrays at) = d.reflect arrays
 plain_of d cx (plain.Barrier at) = d.barrier
 plain_of d cx (plain.Cast variables from at) = d.bcast variables from
-plain_of d cx (plain.Gmove target source at) = d.gmove target source (move cx target source) (written cx)
+plain_of d cx (plain.Gmove target source at) = d.gmove target source (move cx target source) (written cx target)
 
 abbrev pub task_step : {X : Type 0} → Task-F (Run X Flow) (TaskRun X) → TaskRun X
 task_step t = record { nodes = t.nodes; run = t.body; at = t.at }

@@ -4,11 +4,16 @@
 
 mod expressions;
 mod parts;
+mod program;
 mod statements;
 
 pub use expressions::{Access, Expr};
 pub use parts::{Array, Function, Home, Kind, ProgParts, Start};
+pub use program::Prog;
 pub use statements::{
     Compound, LoopDirective, LoopHead, MoveSide, Name, Number, Part, Plain, Point, Reduction, Stmt,
     Target, Task,
 };
+
+#[cfg(test)]
+mod tests;
