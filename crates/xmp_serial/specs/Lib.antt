@@ -6,4 +6,7 @@ pub mod FirstTree
 pub mod Ends
 pub mod Turns
 pub mod Moves
+pub mod Nests
+pub mod Outcomes
+pub mod Printing
 pub use Rattle.xmp_num.specs.Arithmetic

@@ -7,4 +7,4 @@ use Rattle.xmp_meaning.specs.Sections.{move, written}
 
 -- what is moved is written
 abbrev pub gmove_of : Context → MoveSide → MoveSide → Run (Unit {0}) Flow
-gmove_of cx target source = move cx target source >>= written cx
+gmove_of cx target source = move cx target source >>= written cx target

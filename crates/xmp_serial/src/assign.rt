@@ -3,11 +3,11 @@ ghost use Rattle.std.specs.Prelude.{◌≡◌};
 ghost use Rattle.xmp_num.specs.Decimal.{scan_of};
 ghost use Rattle.xmp_meaning.specs.Runs.{Does, Gave};
 ghost use Rattle.xmp_meaning.specs.Calls.{context_with};
-ghost use Rattle.xmp_meaning.specs.Assignments.{assign, declare, initialise, location_of, location_type, new_value, scan, store, store_read};
+ghost use Rattle.xmp_meaning.specs.Assignments.{assign, at_target, declare, initialise, location_type, new_value, scan, store, store_read, value_at};
 
 use crate::callee::Callee;
 use crate::declared::{array_type, scalar_type};
-use crate::eval::{Frame, value_at};
+use crate::eval::Frame;
 use crate::state::State;
 use xmp_meaning::{End, Flow, Halt, Location};
 use xmp_num::{Ty, binary, convert};
@@ -25,17 +25,6 @@ impl<C: Callee> Frame<'_, C> {
             Location::Cell(array, at) => {
                 state.set_cell(array, at, convert(value, array_type(self.program, array)));
             }
-        }
-    }
-
-    /// The location that a target names.
-    fn location_of(&self, to: &Target, state: &mut State) -> Result<Location, Halt>
-        requires { C.ready self.now.callee.now }
-        ensures { Does (location_of (context_with self.now.program.now self.now.node self.now.input.now (C.calls self.now.callee.now)) to.now state.old) result state.new }
-    {
-        match to {
-            Target::Scalar(slot, _) => Ok(Location::Scalar(*slot)),
-            Target::Cell(access) => self.location(access, state),
         }
     }
 
@@ -60,6 +49,23 @@ impl<C: Callee> Frame<'_, C> {
         }
     }
 
+    /// An assignment to a location: the old value, and then the right side.
+    fn assign_at(
+        &self,
+        location: Location,
+        compound: &Option<Compound>,
+        e: &Expr,
+        state: &mut State,
+    ) -> Result<Flow, Halt>
+        requires { C.ready self.now.callee.now }
+        ensures { Does (assign (context_with self.now.program.now self.now.node self.now.input.now (C.calls self.now.callee.now)) compound.now e.now location state.old) result state.new }
+    {
+        let old = value_at(state, location);
+        let value = self.new_value(old, compound, e, state)?;
+        self.store(location, value, state);
+        Ok(Flow::Next)
+    }
+
     /// An assignment: the target's subscripts, the old value, and then the right side.
     pub fn assign(
         &self,
@@ -69,13 +75,15 @@ impl<C: Callee> Frame<'_, C> {
         state: &mut State,
     ) -> Result<Flow, Halt>
         requires { C.ready self.now.callee.now }
-        ensures { Does (assign (context_with self.now.program.now self.now.node self.now.input.now (C.calls self.now.callee.now)) to.now compound.now e.now state.old) result state.new }
+        ensures { Does (at_target (context_with self.now.program.now self.now.node self.now.input.now (C.calls self.now.callee.now)) to.now (assign (context_with self.now.program.now self.now.node self.now.input.now (C.calls self.now.callee.now)) compound.now e.now) state.old) result state.new }
     {
-        let location = self.location_of(to, state)?;
-        let old = value_at(state, location);
-        let value = self.new_value(old, compound, e, state)?;
-        self.store(location, value, state);
-        Ok(Flow::Next)
+        match to {
+            Target::Scalar(slot, _) => self.assign_at(Location::Scalar(*slot), compound, e, state),
+            Target::Cell(access) => {
+                let at = self.cell_of(access, state)?;
+                self.assign_at(Location::Cell(access.array, at), compound, e, state)
+            }
+        }
     }
 
     fn initialise(&self, slot: u32, value: &Option<Expr>, state: &mut State) -> Result<Flow, Halt>
@@ -118,16 +126,41 @@ impl<C: Callee> Frame<'_, C> {
         }
     }
 
-    /// Reads one number of the input into a target, whose subscripts come first.
-    pub fn scan(&self, to: &Target, state: &mut State) -> Result<Flow, Halt>
-        requires { C.ready self.now.callee.now }
-        ensures { Does (scan (context_with self.now.program.now self.now.node self.now.input.now (C.calls self.now.callee.now)) to.now state.old) result state.new }
+    /// Reads one number of the input into a location.
+    fn scan_into(&self, location: Location, state: &mut State)
+        ensures { scan (context_with self.now.program.now self.now.node self.now.input.now (C.calls self.now.callee.now)) location state.old ≡ Gave Flow.Next state.new }
     {
-        let location = self.location_of(to, state)?;
         let (value, taken) = scan_at(self.input, state.taken(), self.location_type(location));
         state.set_taken(taken);
         self.store_read(location, value, state);
-        Ok(Flow::Next)
+    }
+
+    /// Reads one number of the input into a target, whose subscripts come first.
+    pub fn scan(&self, to: &Target, state: &mut State) -> Result<Flow, Halt>
+        requires { C.ready self.now.callee.now }
+        ensures { Does (at_target (context_with self.now.program.now self.now.node self.now.input.now (C.calls self.now.callee.now)) to.now (scan (context_with self.now.program.now self.now.node self.now.input.now (C.calls self.now.callee.now))) state.old) result state.new }
+    {
+        match to {
+            Target::Scalar(slot, _) => {
+                self.scan_into(Location::Scalar(*slot), state);
+                Ok(Flow::Next)
+            }
+            Target::Cell(access) => {
+                let at = self.cell_of(access, state)?;
+                self.scan_into(Location::Cell(access.array, at), state);
+                Ok(Flow::Next)
+            }
+        }
+    }
+}
+
+/// The value at a location.
+pub fn value_at(state: &State, location: Location) -> i64
+    ensures { value_at location state.now ≡ Gave result state.now }
+{
+    match location {
+        Location::Scalar(slot) => state.scalar(slot),
+        Location::Cell(array, at) => state.cell(array, at),
     }
 }
 

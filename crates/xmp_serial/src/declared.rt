@@ -1,11 +1,13 @@
 // What a program's lists tell of the numbers in it.
 ghost use Rattle.std.specs.Prelude.{◌≡◌, ◌+◌, ◌*◌, IfSome};
 ghost use Rattle.xmp_map.specs.RowMajor.{product};
-ghost use Rattle.xmp_meaning.specs.Context.{array_type, extents, is_coarray, is_image, nodes_of, scalar_type};
+ghost use Rattle.xmp_meaning.specs.Context.{array_type, extents, is_coarray, scalar_type};
+ghost use Rattle.xmp_prog.specs.Fits.{node_count};
+ghost use Rattle.xmp_prog.specs.Tests.{is_image};
 ghost use Rattle.xmp_serial.specs.Ends.{OrNoMemory};
 
 use crate::lists::split;
-use xmp_meaning::{Halt, Location};
+use xmp_meaning::Halt;
 use xmp_num::Ty;
 use xmp_prog::{Home, ProgParts};
 
@@ -49,7 +51,8 @@ pub fn is_coarray(p: &ProgParts, array: u32) -> bool
     }
 }
 
-fn is_image(home: &Home) -> bool
+/// Whether cells lie at each image.
+pub fn is_image(home: &Home) -> bool
     ensures { result ≡ is_image home.now }
 {
     match home {
@@ -60,7 +63,7 @@ fn is_image(home: &Home) -> bool
 
 /// How many nodes there are.
 pub fn node_count(p: &ProgParts) -> u32
-    ensures { result ≡ nodes_of p.now }
+    ensures { result ≡ node_count p.now }
 {
     p.grid.count()
 }
@@ -79,20 +82,15 @@ pub fn cell_count(extents: &[u32]) -> Option<usize>
     }
 }
 
-/// The location of a cell by its number among those of an image, or want of memory where 64 bits don't hold its number.
-pub fn cell_of_image(
-    array: u32,
-    image: u64,
-    extents: &[u32],
-    at: usize,
-) -> Result<Location, Halt>
-    ensures { OrNoMemory (Location.Cell array (image * product extents.now + at)) result }
+/// The number of a cell of an image, or want of memory where 64 bits don't hold it.
+pub fn cell_of_image(image: u64, extents: &[u32], at: usize) -> Result<usize, Halt>
+    ensures { OrNoMemory (image * product extents.now + at) result }
 {
     if image == 0 {
-        return Ok(Location::Cell(array, at));
+        return Ok(at);
     }
     match number_in(image, extents, at) {
-        Some(number) => Ok(Location::Cell(array, number)),
+        Some(number) => Ok(number),
         None => Err(Halt::NoMemory),
     }
 }

@@ -1,9 +1,9 @@
 // The values of expressions.
 ghost use Rattle.std.specs.Prelude.{◌≡◌, ◌+◌, ◌*◌, map, if◌then◌else◌, IfSome};
-ghost use Rattle.xmp_meaning.specs.Runs.{Does, Gave};
+ghost use Rattle.xmp_meaning.specs.Runs.{Does};
 ghost use Rattle.xmp_meaning.specs.Calls.{context_with};
 ghost use Rattle.xmp_meaning.specs.Context.{is_coarray};
-ghost use Rattle.xmp_meaning.specs.Expressions.{access_of, as_truth, call, cell_number, each, expr_of, natural, value_at, within};
+ghost use Rattle.xmp_meaning.specs.Expressions.{as_truth, call, cell_number, cell_of, each, expr_of, natural, within};
 
 use crate::callee::Callee;
 use crate::declared::{cell_of_image, extents, is_coarray, node_count};
@@ -12,7 +12,7 @@ use crate::state::State;
 use sqlite_items::Items;
 use std::alloc::Global;
 use xmp_base::Place;
-use xmp_meaning::{End, Halt, Location};
+use xmp_meaning::{End, Halt};
 use xmp_num::{TrapKind, binary, convert};
 use xmp_prog::{Access, Expr, ProgParts};
 
@@ -37,8 +37,8 @@ impl<C: Callee> Frame<'_, C> {
             Expr::Const(value, _) => Ok(*value),
             Expr::Scalar(slot, _) => Ok(state.scalar(*slot)),
             Expr::Cell(access) => {
-                let location = self.location(access, state)?;
-                Ok(value_at(state, location))
+                let at = self.cell_of(access, state)?;
+                Ok(state.cell(access.array, at))
             }
             Expr::Binary(op, ty, a, b, at) => {
                 let x = self.eval(a.get(), state)?;
@@ -100,22 +100,22 @@ impl<C: Callee> Frame<'_, C> {
         Ok(values)
     }
 
-    /// The location of an element of an array, whose subscripts are evaluated and checked from left to right.
+    /// Which cell of its array an element is. The subscripts are evaluated and checked from left to right.
     #[cycle(eval)]
-    pub fn location(&self, access: &Access, state: &mut State) -> Result<Location, Halt>
+    pub fn cell_of(&self, access: &Access, state: &mut State) -> Result<usize, Halt>
         requires { C.ready self.now.callee.now }
-        ensures { Does (access_of (context_with self.now.program.now self.now.node self.now.input.now (C.calls self.now.callee.now)) access.now state.old) result state.new }
+        ensures { Does (cell_of (context_with self.now.program.now self.now.node self.now.input.now (C.calls self.now.callee.now)) access.now state.old) result state.new }
     {
         let extents = extents(self.program, access.array);
         let at = self.cell_number(access.subscripts.as_slice(), extents, access.at, 0, state)?;
         match &access.image {
             None => {
                 let image = self.own_image(access.array);
-                cell_of_image(access.array, image, extents, at)
+                cell_of_image(image, extents, at)
             }
             Some(e) => {
                 let image = self.eval(e.get(), state)?;
-                cell_of_image(access.array, natural(image), extents, at)
+                cell_of_image(natural(image), extents, at)
             }
         }
     }
@@ -176,16 +176,6 @@ impl<C: Callee> Frame<'_, C> {
             .call(self.alloc, function, arguments, &mut steps);
         state.set_steps(steps);
         result
-    }
-}
-
-/// The value at a location.
-pub fn value_at(state: &State, location: Location) -> i64
-    ensures { value_at location state.now ≡ Gave result state.now }
-{
-    match location {
-        Location::Scalar(slot) => state.scalar(slot),
-        Location::Cell(array, at) => state.cell(array, at),
     }
 }
 

@@ -5,6 +5,7 @@
 
 mod assign;
 mod callee;
+mod calls;
 mod declared;
 mod eval;
 mod exec;
@@ -18,12 +19,16 @@ mod first_tests;
 mod first_value;
 mod gmove;
 mod lists;
+mod outcome;
 mod plain;
 mod print;
+mod program;
 mod rows;
+
 mod state;
 
 pub use first::First;
 pub use first_item::Item;
 pub use first_items::Items;
 pub use first_serial::serial_first;
+pub use program::serial;

@@ -124,4 +124,11 @@ impl State {
         self.steps -= 1;
         Ok(())
     }
+
+    /// The output and the arrays.
+    pub fn into_parts(self) -> (Bytes, Rows)
+        ensures { (result.0 ≡ self.out) × (result.1 ≡ self.arrays) }
+    {
+        (self.out, self.arrays)
+    }
 }
