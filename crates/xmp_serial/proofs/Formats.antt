@@ -1,4 +1,4 @@
-use Rattle.std.proofs.Common.{◌≡◌, ◌==◌, if◌then◌else◌, ◌+◌, ◌*◌, ◌++◌, [], ◌∷◌, ℕ, ℤ, List, Bool, true, false, Some, None, refl, ap, ◌∙◌, sym, nat_eq}
+use Rattle.std.proofs.Common.{append_assoc, Option, ◌≡◌, ◌==◌, if◌then◌else◌, ◌+◌, ◌*◌, ◌++◌, [], ◌∷◌, ℕ, ℤ, List, Bool, true, false, Some, None, refl, ap, ◌∙◌, sym, nat_eq}
 use Rattle.std.specs.Char.{is_ascii_digit, digit_value}
 use Rattle.std.proofs.lemmas.Bool.{ne_eqb}
 use Rattle.xmp_num.specs.declared.types.Ty.{Ty}
@@ -61,3 +61,11 @@ pub letter_d : (w b : ℕ) (bs : List ℕ) (vs : List ℤ) → is_ascii_digit b 
     → text_from (Some w) (b ∷ bs) vs ≡ text_of (Number w Int ∷ pieces_of bs) vs
 unfolding pieces_of behind_percent
 letter_d w b bs vs h l p = rw (h, ne_eqb b 108 l, ne_eqb b 37 p) refl
+
+pub text_end : (w : Option ℕ) (vs : List ℤ) → text_from w [] vs ≡ []
+text_end None vs = nothing_left vs
+text_end (Some w) vs = nothing_inside w vs
+
+-- a byte that is appended stands before the rest
+pub pushed : (out new : List ℕ) (b : ℕ) (rest : List ℕ) → new ≡ out ++ b ∷ [] → out ++ b ∷ rest ≡ new ++ rest
+pushed out new b rest e = sym (append_assoc out (b ∷ []) rest) ∙ ap (λ (t : List ℕ). t ++ rest) (sym e)

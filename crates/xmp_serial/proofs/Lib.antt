@@ -1,6 +1,9 @@
 pub mod FirstTrees
 pub mod FirstSteps
+pub mod Binds
+pub mod Ended
 pub mod Formats
+pub mod Images
 pub mod Inputs
 pub mod Knots
 pub mod Steps

@@ -1,5 +1,5 @@
 // What a run comes to.
-ghost use Rattle.std.specs.Prelude.{◌≡◌, [], ◌∷◌, ◌++◌, IfOk, OnOk};
+ghost use Rattle.std.specs.Prelude.{◌≡◌, [], ◌∷◌, ◌++◌, IfOk, OnOk, drop, take};
 ghost use Rattle.xmp_meaning.specs.Programs.{cut, told, told_of};
 ghost use Rattle.xmp_serial.specs.Outcomes.{IsOutcome};
 
@@ -80,12 +80,26 @@ fn push_rows(
 ) -> Result<(), NoMemory>
     ensures { OnOk result (all.new ≡ all.old ++ cut images many cells.now) }
 {
-    let Some(behind) = images.checked_sub(1) else {
+    if images == 0 {
         return Ok(());
-    };
-    let most = many.min(cells.len());
-    push_row(alloc, &cells[..most], all)?;
-    push_rows(alloc, behind, many, &cells[most..], all)
+    }
+    let (front, behind) = cut_at(cells, many);
+    push_row(alloc, front, all)?;
+    push_rows(alloc, images - 1, many, behind, all)?;
+    Ok(())
+}
+
+/// So many cells from the front, and those behind them.
+#[tactic(auto, using(std::proofs::lemmas::List::take_all, std::proofs::lemmas::List::drop_all))]
+fn cut_at(cells: &[i64], many: usize) -> (&[i64], &[i64])
+    ensures front { result.0.now ≡ take many cells.now }
+    ensures behind { result.1.now ≡ drop many cells.now }
+{
+    if many <= cells.len() {
+        cells.split_at(many)
+    } else {
+        (cells, &[])
+    }
 }
 
 /// Adds a row.
