@@ -6,5 +6,7 @@ pub mod Formats
 pub mod Images
 pub mod Inputs
 pub mod Knots
+pub mod Ranges
+pub mod CellNumbers
 pub mod Steps
 pub mod Whiles

@@ -24,6 +24,7 @@ mod plain;
 mod print;
 mod program;
 mod rows;
+mod sections;
 
 mod state;
 
