@@ -9,4 +9,5 @@ pub mod Knots
 pub mod Ranges
 pub mod CellNumbers
 pub mod Steps
+pub mod Stores
 pub mod Whiles

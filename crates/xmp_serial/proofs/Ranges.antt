@@ -13,10 +13,16 @@ and_true false = refl
 one_less : (m : ℕ) → suc m - 1 ≡ m
 one_less m = omega arith
 
+none_below : (b : ℕ) → nat_le 0 b ≡ true
+none_below zero = refl
+none_below (suc b) = refl
+
 -- the range in whole numbers is that of the numbers that are counted
 pub range_is : (extent : ℕ) (base length step : ℤ) → range_of extent (counted base) (counted length) (counted step) ≡ in_range extent base length step
 range_is extent base (pos zero) (pos s) = and_true (nat_le 1 s)
-range_is extent (pos b) (pos (suc m)) (pos s) = ap (λ (x : ℕ). nat_le 1 s && nat_lt (b + x * s) extent) (one_less m)
+range_is extent (pos b) (pos (suc m)) (pos s) =
+    ap (λ (x : ℕ). nat_le 1 s && nat_lt (b + x * s) extent) (one_less m)
+    ∙ ap (λ (t : Bool). nat_le 1 s && (t && nat_lt (b + m * s) extent)) (sym (none_below b))
 range_is extent (negsuc b) (pos (suc m)) (pos s) = refl
 range_is extent base (pos zero) (negsuc s) = refl
 range_is extent (pos b) (pos (suc m)) (negsuc s) = refl

@@ -1,14 +1,15 @@
 -- Assignments of sections, as the serial meaning has them.
-use Rattle.std.specs.Prelude.{◌≡◌, ◌+◌, ◌-◌, ◌*◌, ◌&&◌, ◌||◌, ◌==◌, nat_lt, nat_le, ℕ, ℤ, pos, negsuc, Bool, false, List, [], ◌∷◌, Option, Some, None, Result, Ok, Err}
+use Rattle.std.specs.Prelude.{◌≡◌, ◌+◌, ◌-◌, ◌*◌, ◌&&◌, ◌||◌, ◌==◌, nat_lt, nat_le, ℕ, ℤ, pos, negsuc, Bool, false, List, [], ◌∷◌, length, map, Option, Some, None, Result, Ok, Err}
 use Rattle.xmp_prog.specs.declared.statements.MoveSide.{MoveSide}
 use Rattle.xmp_prog.specs.declared.statements.Name.{Name}
 use Rattle.xmp_meaning.specs.declared.ends.Flow.{Flow}
 use Rattle.xmp_meaning.specs.declared.ends.Halt.{Halt}
 use Rattle.xmp_meaning.specs.declared.ends.Halt.TheVariants as halt
 use Rattle.xmp_meaning.specs.Runs.{State, Gave, Ended, Run, ◌>>=◌, ◌>>◌, pure}
+use Rattle.xmp_meaning.specs.Assignments.{value_at}
 use Rattle.xmp_meaning.specs.Context.{Context, extents}
-use Rattle.xmp_meaning.specs.Expressions.{natural}
-use Rattle.xmp_meaning.specs.Sections.{Chosen, One, Many, all_subscripts, cells_from, fit, lengths, lengths_fit, move, name_of, progression, written}
+use Rattle.xmp_meaning.specs.Expressions.{each, natural}
+use Rattle.xmp_meaning.specs.Sections.{Chosen, One, Many, all_subscripts, cell_at, cells, cells_from, fit, lengths, lengths_fit, move, name_of, progression, spread, store_all, written}
 use Rattle.xmp_serial.specs.declared.sections.Chosen as code
 use Rattle.xmp_serial.specs.declared.sections.Chosen.TheVariants as variant
 
@@ -59,8 +60,11 @@ array_cells cx name cs = do
   xs ← all_subscripts name.at (extents cx.program name.number) cs
   pure (cells_from 0 (extents cx.program name.number) xs)
 
--- the lengths of the source's sections, where they fit those of the target
-abbrev pub check_lengths : MoveSide → List Chosen → List Chosen → Run (Unit {0}) (List ℤ)
-check_lengths target to from = do
+-- what a gmove does once all numbers are known
+abbrev pub move_cells : Context → MoveSide → MoveSide → List Chosen → List Chosen → Run (Unit {0}) Flow
+move_cells cx target source to from = do
+  targets ← cells cx target to
+  sources ← cells cx source from
   _ ← lengths_fit (fit (lengths to) (lengths from)) (name_of target).at
-  pure (lengths from)
+  vs ← each (map (λ n. value_at (cell_at source n)) sources) []
+  store_all cx target targets (spread (lengths from) (length targets) vs)

@@ -4,9 +4,9 @@ ghost use Rattle.xmp_meaning.specs.Runs.{Does, Gave};
 ghost use Rattle.xmp_meaning.specs.Assignments.{value_at};
 ghost use Rattle.xmp_meaning.specs.Calls.{context_with};
 ghost use Rattle.xmp_meaning.specs.Expressions.{each};
-ghost use Rattle.xmp_meaning.specs.Sections.{cell_at, cells, chosen, name_of, numbers, spread, store_all};
+ghost use Rattle.xmp_meaning.specs.Sections.{cell_at, cells, chosen, fit, lengths, lengths_fit, name_of, numbers, spread, store_all};
 ghost use Rattle.xmp_serial.specs.Ends.{DoesAs, OrNoMemory};
-ghost use Rattle.xmp_serial.specs.Moves.{array_cells, check_lengths, chosen_of, gmove_of};
+ghost use Rattle.xmp_serial.specs.Moves.{array_cells, chosen_of, gmove_of, move_cells};
 
 use crate::assign::value_at;
 use crate::callee::Callee;
@@ -34,9 +34,24 @@ impl<C: Callee> Frame<'_, C> {
     {
         let to = self.numbers(target, state)?;
         let from = self.numbers(source, state)?;
-        let targets = self.cells(target, to.as_slice(), state)?;
-        let sources = self.cells(source, from.as_slice(), state)?;
-        let sections = self.check_lengths(target, to.as_slice(), from.as_slice(), state)?;
+        self.move_cells(target, source, to.as_slice(), from.as_slice(), state)
+    }
+
+    /// The rest of it, once all numbers are known.
+    fn move_cells(
+        &self,
+        target: &MoveSide,
+        source: &MoveSide,
+        to: &[Chosen],
+        from: &[Chosen],
+        state: &mut State,
+    ) -> Result<Flow, Halt>
+        ensures { Does (move_cells (context_with self.now.program.now self.now.node self.now.input.now (C.calls self.now.callee.now)) target.now source.now (map chosen_of to.now) (map chosen_of from.now) state.old) result state.new }
+    {
+        let targets = self.cells(target, to, state)?;
+        let sources = self.cells(source, from, state)?;
+        let sections = self.lengths(from)?;
+        self.check_lengths(target, to, sections.as_slice(), state)?;
         let values = self.read_all(source, sources.as_slice(), state)?;
         self.write(
             target,
@@ -122,24 +137,29 @@ impl<C: Callee> Frame<'_, C> {
         }
     }
 
-    /// The lengths of the source's sections, where those of the target are the same.
+    /// The lengths of a side's sections.
+    fn lengths(&self, cs: &[Chosen]) -> Result<Items<i64>, Halt>
+        ensures { OrNoMemory (lengths (map chosen_of cs.now)) result }
+    {
+        match lengths(self.alloc, cs) {
+            Ok(all) => Ok(all),
+            Err(NoMemory) => Err(Halt::NoMemory),
+        }
+    }
+
+    /// Whether the lengths of the target's sections fit those of the source.
     fn check_lengths(
         &self,
         target: &MoveSide,
         to: &[Chosen],
-        from: &[Chosen],
+        from: &[i64],
         state: &State,
-    ) -> Result<Items<i64>, Halt>
-        ensures { Does (check_lengths target.now (map chosen_of to.now) (map chosen_of from.now) state.now) result state.now }
+    ) -> Result<(), Halt>
+        ensures { Does (lengths_fit (fit (lengths (map chosen_of to.now)) from.now) (name_of target.now).at state.now) result state.now }
     {
-        let Ok(to) = lengths(self.alloc, to) else {
-            return Err(Halt::NoMemory);
-        };
-        let Ok(from) = lengths(self.alloc, from) else {
-            return Err(Halt::NoMemory);
-        };
-        if fit(to.as_slice(), from.as_slice()) {
-            Ok(from)
+        let to = self.lengths(to)?;
+        if fit(to.as_slice(), from) {
+            Ok(())
         } else {
             Err(Halt::End(End::Trapped(TrapKind::Section, name_of(target).at)))
         }

@@ -216,18 +216,23 @@ pub fn lengths(alloc: Global, cs: &[Chosen]) -> Result<Items<i64>, NoMemory>
     ensures { IfOk result (λ all. all ≡ lengths (map chosen_of cs.now)) }
 {
     let mut all = Items::new(alloc);
-    'sections: for c in cs {
-        push_length(*c, &mut all)?;
-    }
+    push_lengths(cs, &mut all)?;
     Ok(all)
 }
 
-fn push_length(c: Chosen, all: &mut Items<i64>) -> Result<(), NoMemory>
-    ensures { OnOk result (all.new ≡ all.old ++ lengths (chosen_of c ∷ [])) }
+#[tactic(auto, using(std::proofs::lemmas::List::append_assoc))]
+fn push_lengths(cs: &[Chosen], all: &mut Items<i64>) -> Result<(), NoMemory>
+    ensures { OnOk result (all.new ≡ all.old ++ lengths (map chosen_of cs.now)) }
 {
-    match c {
-        Chosen::One(_) => Ok(()),
-        Chosen::Many { length, .. } => all.push(length).map_err(|_| NoMemory),
+    match split(cs) {
+        None => Ok(()),
+        Some((c, behind)) => match c {
+            Chosen::One(_) => push_lengths(behind, all),
+            Chosen::Many { length, .. } => match all.push(*length) {
+                Ok(()) => push_lengths(behind, all),
+                Err(_) => Err(NoMemory),
+            },
+        },
     }
 }
 
