@@ -27,6 +27,8 @@ mod rows;
 mod sections;
 
 mod state;
+#[cfg(test)]
+mod tests;
 
 pub use first::First;
 pub use first_item::Item;
