@@ -18,14 +18,17 @@ unfolding pieces_of behind_percent
 any_type w [] vs = refl
 any_type w (b ∷ bs) vs =
     elim (is_ascii_digit b) as (λ t. text_of (if t then behind_percent (w * 10 + digit_value b) Long bs else (if b == 108 then behind_percent w Long bs else (if b == 37 then Percent ∷ pieces_of bs else Number w Long ∷ pieces_of bs))) vs
-        ≡ text_of (if t then behind_percent (w * 10 + digit_value b) Int bs else (if b == 108 then behind_percent w Long bs else (if b == 37 then Percent ∷ pieces_of bs else Number w Int ∷ pieces_of bs))) vs) [
-      true ↦ any_type (w * 10 + digit_value b) bs vs
-    | false ↦ elim (b == 108) as (λ t. text_of (if t then behind_percent w Long bs else (if b == 37 then Percent ∷ pieces_of bs else Number w Long ∷ pieces_of bs)) vs
-        ≡ text_of (if t then behind_percent w Long bs else (if b == 37 then Percent ∷ pieces_of bs else Number w Int ∷ pieces_of bs)) vs) [
-        true ↦ refl
-      | false ↦ elim (b == 37) as (λ t. text_of (if t then Percent ∷ pieces_of bs else Number w Long ∷ pieces_of bs) vs ≡ text_of (if t then Percent ∷ pieces_of bs else Number w Int ∷ pieces_of bs) vs) [
-          true ↦ refl
-        | false ↦ same_number w (pieces_of bs) vs ] ] ]
+    ≡ text_of (if t then behind_percent (w * 10 + digit_value b) Int bs else (if b == 108 then behind_percent w Long bs else (if b == 37 then Percent ∷ pieces_of bs else Number w Int ∷ pieces_of bs))) vs) [
+      | true ↦ any_type (w * 10 + digit_value b) bs vs
+      | false ↦ elim (b == 108) as (λ t. text_of (if t then behind_percent w Long bs else (if b == 37 then Percent ∷ pieces_of bs else Number w Long ∷ pieces_of bs)) vs
+          ≡ text_of (if t then behind_percent w Long bs else (if b == 37 then Percent ∷ pieces_of bs else Number w Int ∷ pieces_of bs)) vs) [
+            | true ↦ refl
+            | false ↦ elim (b == 37) as (λ t. text_of (if t then Percent ∷ pieces_of bs else Number w Long ∷ pieces_of bs) vs ≡ text_of (if t then Percent ∷ pieces_of bs else Number w Int ∷ pieces_of bs) vs) [
+              | true ↦ refl
+              | false ↦ same_number w (pieces_of bs) vs
+            ]
+          ]
+    ]
 
 -- ---- one byte of a format
 

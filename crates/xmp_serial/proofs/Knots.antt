@@ -26,8 +26,9 @@ module _ (p : ProgParts) (node k : ℕ) (vs : List ℤ) (steps : ℕ) where
   unfolding call_of
   call_at zero h = absurd (omega arith)
   call_at (suc n) h = elim (eqb_tells k n) [
-      inl e ↦ rw e.0 (ap (λ (m : ℕ). invoke_some (context_with p node [] (call_of p node m)) (slice_get p.functions m) vs (frame p steps)) (sym e.1))
-    | inr e ↦ (let less : k < n = omega (arith, e.1) in rw e.0 (call_at n less)) ]
+    | inl e ↦ rw e.0 (ap (λ (m : ℕ). invoke_some (context_with p node [] (call_of p node m)) (slice_get p.functions m) vs (frame p steps)) (sym e.1))
+    | inr e ↦ (let less : k < n = omega (arith, e.1) in rw e.0 (call_at n less))
+  ]
 
   module _ (d : ℕ) where
     pub tells_over : d ≤ k → Tells (call_of p node d k vs steps) (Ok (pos 0)) steps

@@ -25,8 +25,7 @@ pub struct ByFunction<'a, F> {
 }
 
 impl<F: Fn(Global, usize, &ProgParts, u32, u32, &[i64], &mut u64) -> Result<i64, Halt>> Callee
-    for ByFunction<'_, F>
-{
+    for ByFunction<'_, F> {
     ghost use Rattle.xmp_meaning.specs.Calls.{call_of};
     ghost use Rattle.xmp_serial.specs.Nests.{Nests};
 
@@ -109,12 +108,7 @@ fn new_frame(alloc: Global, program: &ProgParts, steps: u64) -> Result<State, No
     ensures { IfOk result (λ state. state ≡ frame program.now steps) }
 {
     let scalars = zeros(alloc, program.scalars.len())?;
-    Ok(State::new(
-        scalars,
-        Rows::new(alloc),
-        Bytes::new(alloc),
-        steps,
-    ))
+    Ok(State::new(scalars, Rows::new(alloc), Bytes::new(alloc), steps))
 }
 
 /// A call of a function, one of the first `depth`, at a node.

@@ -161,12 +161,7 @@ impl<C: Callee> Frame<'_, C> {
     }
 
     /// Calls a function, which changes the steps left and nothing else.
-    pub fn call(
-        &self,
-        function: u32,
-        arguments: &[i64],
-        state: &mut State,
-    ) -> Result<i64, Halt>
+    pub fn call(&self, function: u32, arguments: &[i64], state: &mut State) -> Result<i64, Halt>
         requires { C.ready self.now.callee.now }
         ensures { Does (call (context_with self.now.program.now self.now.node self.now.input.now (C.calls self.now.callee.now)) function arguments.now state.old) result state.new }
     {
@@ -193,9 +188,7 @@ pub fn within(value: i64, extent: u32) -> Option<u32>
 fn join(so_far: usize, extent: u32, x: u32) -> Option<usize>
     ensures { IfSome result (λ n. n ≡ so_far * extent + x) }
 {
-    so_far
-        .checked_mul(extent as usize)?
-        .checked_add(x as usize)
+    so_far.checked_mul(extent as usize)?.checked_add(x as usize)
 }
 
 /// The number that is counted; 0 for a negative one.

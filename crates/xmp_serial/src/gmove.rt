@@ -166,7 +166,12 @@ impl<C: Callee> Frame<'_, C> {
     }
 
     /// The values of the cells of a side.
-    fn read_all(&self, source: &MoveSide, cells: &[usize], state: &State) -> Result<Items<i64>, Halt>
+    fn read_all(
+        &self,
+        source: &MoveSide,
+        cells: &[usize],
+        state: &State,
+    ) -> Result<Items<i64>, Halt>
         ensures { Does (each (map (λ n. value_at (cell_at source.now n)) cells.now) [] state.now) result state.now }
     {
         let mut values = Items::new(self.alloc);

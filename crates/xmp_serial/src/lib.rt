@@ -25,7 +25,6 @@ mod print;
 mod program;
 mod rows;
 mod sections;
-
 mod state;
 #[cfg(test)]
 mod tests;

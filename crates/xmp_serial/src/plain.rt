@@ -39,7 +39,9 @@ impl<C: Callee> Frame<'_, C> {
                 Ok(Flow::Next)
             }
             Plain::Print {
-                format, arguments, ..
+                format,
+                arguments,
+                ..
             } => {
                 let values = self.eval_each(arguments.as_slice(), Items::new(self.alloc), state)?;
                 state.print(self.alloc, format.as_slice(), values.as_slice())?;

@@ -20,12 +20,7 @@ struct Printing<'a> {
 
 /// Appends what a format writes for these values. Want of memory, which is answered also for a width above 255, may leave a
 /// part of it written.
-pub fn print(
-    alloc: Global,
-    out: &mut Bytes,
-    format: &[u8],
-    values: &[i64],
-) -> Result<(), NoMemory>
+pub fn print(alloc: Global, out: &mut Bytes, format: &[u8], values: &[i64]) -> Result<(), NoMemory>
     ensures { OnOk result (out.new ≡ out.old ++ printed format.now values.now) }
 {
     let mut width = None;
@@ -60,11 +55,7 @@ fn print_byte<'a>(
     }
 }
 
-fn print_outside<'a>(
-    out: &mut Bytes,
-    b: u8,
-    values: &'a [i64],
-) -> Result<Printing<'a>, NoMemory>
+fn print_outside<'a>(out: &mut Bytes, b: u8, values: &'a [i64]) -> Result<Printing<'a>, NoMemory>
     ensures { IfOk result (λ next. (bs : List ℕ) → out.old ++ text_from None (b ∷ bs) values.now ≡ out.new ++ text_from next.width bs next.values.now) }
 {
     if b == b'%' {

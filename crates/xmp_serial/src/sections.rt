@@ -148,9 +148,7 @@ fn push_chosen(
     ensures { OnOk result (all.new ≡ all.old ++ flat_map (λ x. cells_from (so_far * extent + x) extents.now (all_of extents.now (map chosen_of cs.now))) (subscripts_of (chosen_of c))) }
 {
     match c {
-        Chosen::One(v) => {
-            push_each(so_far, extent, natural(v), 0, 1, extents, cs, all)
-        }
+        Chosen::One(v) => { push_each(so_far, extent, natural(v), 0, 1, extents, cs, all) }
         Chosen::Many { base, length, step } => push_each(
             so_far,
             extent,

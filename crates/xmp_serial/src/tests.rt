@@ -16,14 +16,20 @@ use xmp_prog::{
 // ---- places by their column, and the names of the programs below
 
 const HERE: Place = Place { line: 1, column: 1 };
+
 const OPERATOR: Place = Place { line: 1, column: 2 };
+
 const ARRAY: Place = Place { line: 1, column: 3 };
+
 const TARGET: Place = Place { line: 1, column: 4 };
 
 // the scalars `i`, `s`, `x` of type int, and `l` of type long
 const I: u32 = 0;
+
 const S: u32 = 1;
+
 const X: u32 = 2;
+
 const L: u32 = 3;
 
 // ---- parts of programs
@@ -225,7 +231,10 @@ fn out_of_steps(outcome: Outcome, text: &[u8]) -> bool {
 fn ten_turns(alloc: Global) -> Result<Vec<Stmt>, Fail> {
     let test = int(alloc, BinOp::Less, var(I), num(10))?;
     let body = Boxed::new(alloc, add_to(I, num(1)))?;
-    Ok(vec![in alloc; Stmt::While(test, body, HERE), print(alloc, b"%d\n", var(I))?]?)
+    Ok(vec![in alloc;
+        Stmt::While(test, body, HERE),
+        print(alloc, b"%d\n", var(I))?,
+    ]?)
 }
 
 #[test]
@@ -243,7 +252,12 @@ fn counted_loops_fill_and_sum_an_array(rt: HostRuntime) -> Result<(), Fail> {
     let square = int(alloc, BinOp::Mul, var(I), var(I))?;
     let fill = count(alloc, 8, set_cell(alloc, var(I), square)?)?;
     let sum = count(alloc, 8, add_to(S, Expr::Cell(cell(alloc, var(I))?)))?;
-    let body = vec![in alloc; fill, sum, print(alloc, b"%d ", var(S))?, print(alloc, b"%4d%%", var(I))?]?;
+    let body = vec![in alloc;
+        fill,
+        sum,
+        print(alloc, b"%d ", var(S))?,
+        print(alloc, b"%4d%%", var(I))?,
+    ]?;
     assert!(&rt; ended(run(alloc, body, b"", 0)?, b"140    8%"));
     Ok(())
 }
@@ -287,10 +301,21 @@ fn expressions_have_their_values(rt: HostRuntime) -> Result<(), Fail> {
     let rows = [
         (Expr::Both(none, fault), b"0".as_slice()),
         (Expr::Either(some, other), b"1"),
-        (int(alloc, BinOp::Add, num(2147483647), num(1))?, b"-2147483648"),
+        (
+            int(alloc, BinOp::Add, num(2147483647), num(1))?,
+            b"-2147483648",
+        ),
         (Expr::Convert(Ty::Int, Boxed::new(alloc, wide)?), b"0"),
         (call(alloc, 1, num(20))?, b"41"),
-        (int(alloc, BinOp::Add, call(alloc, 0, num(1))?, call(alloc, 0, num(1))?)?, b"4"),
+        (
+            int(
+                alloc,
+                BinOp::Add,
+                call(alloc, 0, num(1))?,
+                call(alloc, 0, num(1))?,
+            )?,
+            b"4",
+        ),
         (Expr::Nodes, b"1"),
     ];
     for (value, text) in rows {
@@ -325,7 +350,14 @@ fn scanf_reads_numbers(rt: HostRuntime) -> Result<(), Fail> {
         (b"4294967297 12", b"1 12"),
     ];
     for (input, text) in rows {
-        let body = vec![in alloc; set(S, num(3)), set(X, num(3)), scan(X), scan(S), print(alloc, b"%d ", var(X))?, print(alloc, b"%d", var(S))?]?;
+        let body = vec![in alloc;
+            set(S, num(3)),
+            set(X, num(3)),
+            scan(X),
+            scan(S),
+            print(alloc, b"%d ", var(X))?,
+            print(alloc, b"%d", var(S))?,
+        ]?;
         assert!(&rt; ended(run(alloc, body, input, 0)?, text));
     }
     Ok(())
@@ -335,19 +367,78 @@ fn scanf_reads_numbers(rt: HostRuntime) -> Result<(), Fail> {
 fn moved(alloc: Global, target: MoveSide, source: MoveSide) -> Result<Outcome, Fail> {
     let fill = count(alloc, 8, set_cell(alloc, var(I), var(I))?)?;
     let sum = count(alloc, 8, add_to(S, Expr::Cell(cell(alloc, var(I))?)))?;
-    let body = vec![in alloc; fill, gmove(target, source), sum, print(alloc, b"%d", var(S))?]?;
+    let body = vec![in alloc;
+        fill,
+        gmove(target, source),
+        sum,
+        print(alloc, b"%d", var(S))?,
+    ]?;
     run(alloc, body, b"", 0)
 }
 
 #[test]
 fn gmove_reads_before_it_writes(rt: HostRuntime) -> Result<(), Fail> {
     let alloc = rt.alloc();
-    let scalar = MoveSide::Scalar(Name { number: L, at: HERE });
-    assert!(&rt; ended(moved(alloc, section(alloc, TARGET, 1, 7)?, section(alloc, ARRAY, 0, 7)?)?, b"21"));
+    let scalar = MoveSide::Scalar(Name {
+        number: L,
+        at: HERE,
+    });
+    assert!(&rt;
+        ended(
+            moved(
+                alloc,
+                section(alloc, TARGET, 1, 7)?,
+                section(alloc, ARRAY, 0, 7)?
+            )?,
+            b"21"
+        )
+    );
     assert!(&rt; ended(moved(alloc, section(alloc, TARGET, 2, 6)?, scalar)?, b"1"));
-    assert!(&rt; ended(moved(alloc, section(alloc, TARGET, 9, 0)?, section(alloc, ARRAY, -1, 0)?)?, b"28"));
-    assert!(&rt; trapped(moved(alloc, section(alloc, TARGET, 1, 7)?, section(alloc, ARRAY, 0, 6)?)?, TrapKind::Section, TARGET, b""));
-    assert!(&rt; trapped(moved(alloc, section(alloc, TARGET, 1, 8)?, section(alloc, ARRAY, 0, 9)?)?, TrapKind::Section, TARGET, b""));
-    assert!(&rt; trapped(moved(alloc, section(alloc, TARGET, 0, 8)?, section(alloc, ARRAY, -1, 8)?)?, TrapKind::Section, ARRAY, b""));
+    assert!(&rt;
+        ended(
+            moved(
+                alloc,
+                section(alloc, TARGET, 9, 0)?,
+                section(alloc, ARRAY, -1, 0)?
+            )?,
+            b"28"
+        )
+    );
+    assert!(&rt;
+        trapped(
+            moved(
+                alloc,
+                section(alloc, TARGET, 1, 7)?,
+                section(alloc, ARRAY, 0, 6)?
+            )?,
+            TrapKind::Section,
+            TARGET,
+            b""
+        )
+    );
+    assert!(&rt;
+        trapped(
+            moved(
+                alloc,
+                section(alloc, TARGET, 1, 8)?,
+                section(alloc, ARRAY, 0, 9)?
+            )?,
+            TrapKind::Section,
+            TARGET,
+            b""
+        )
+    );
+    assert!(&rt;
+        trapped(
+            moved(
+                alloc,
+                section(alloc, TARGET, 0, 8)?,
+                section(alloc, ARRAY, -1, 8)?
+            )?,
+            TrapKind::Section,
+            ARRAY,
+            b""
+        )
+    );
     Ok(())
 }

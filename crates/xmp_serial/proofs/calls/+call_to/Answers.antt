@@ -14,4 +14,4 @@ pub returns : goal.returns
 returns t c =
     let below : c.args.function < c.args.depth = omega arith in
     tells_at c.args.program.now c.args.node c.args.function c.args.arguments.now c.args.steps.now c.args.depth c.in-Some.f.now c.invoke_anew.result c.invoke_anew.new.steps
-        below c.in-Some.ensures.value c.invoke_anew.ensures
+    below c.in-Some.ensures.value c.invoke_anew.ensures

@@ -8,6 +8,6 @@ pub returns : goal.returns
 returns c =
     let over : length c.args.format.now ≤ c.bytes.b-index = omega arith in
     sym (c.bytes.invariant
-        ∙ ap (λ (bs : List ℕ). c.bytes.out ++ text_from c.bytes.width bs c.bytes.left.now) (drop_all c.bytes.b-index c.args.format.now over)
-        ∙ ap (λ (t : List ℕ). c.bytes.out ++ t) (text_end c.bytes.width c.bytes.left.now)
-        ∙ append-nil c.bytes.out)
+    ∙ ap (λ (bs : List ℕ). c.bytes.out ++ text_from c.bytes.width bs c.bytes.left.now) (drop_all c.bytes.b-index c.args.format.now over)
+    ∙ ap (λ (t : List ℕ). c.bytes.out ++ t) (text_end c.bytes.width c.bytes.left.now)
+    ∙ append-nil c.bytes.out)

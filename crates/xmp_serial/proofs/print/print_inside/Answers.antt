@@ -10,7 +10,7 @@ pub returns-in-Some : goal.returns-in-Some
 returns-in-Some c = λ bs.
     let h : is_ascii_digit c.args.b ≡ true = search rules in
     ap (λ (t : List ℕ). c.args.out.now ++ t)
-        (digit c.args.width c.args.b bs c.args.values.now h ∙ ap (λ (w : ℕ). text_from (Some w) bs c.args.values.now) (sym c.in-Some.ensures))
+    (digit c.args.width c.args.b bs c.args.values.now h ∙ ap (λ (w : ℕ). text_from (Some w) bs c.args.values.now) (sym c.in-Some.ensures))
 
 pub returns-then-b-eq108 : goal.returns-then-b-eq108
 returns-then-b-eq108 c = λ bs. ap (λ (t : List ℕ). c.args.out.now ++ t)
