@@ -6,6 +6,7 @@ pub mod Formats
 pub mod Images
 pub mod Inputs
 pub mod Knots
+pub mod Moved
 pub mod Ranges
 pub mod CellNumbers
 pub mod Steps

@@ -60,6 +60,12 @@ array_cells cx name cs = do
   xs ← all_subscripts name.at (extents cx.program name.number) cs
   pure (cells_from 0 (extents cx.program name.number) xs)
 
+-- the values of the source's cells into the target's
+abbrev pub assign_cells : Context → MoveSide → MoveSide → List ℕ → List ℕ → List ℤ → Run (Unit {0}) Flow
+assign_cells cx target source targets sources sections = do
+  vs ← each (map (λ n. value_at (cell_at source n)) sources) []
+  store_all cx target targets (spread sections (length targets) vs)
+
 -- what a gmove does once all numbers are known
 abbrev pub move_cells : Context → MoveSide → MoveSide → List Chosen → List Chosen → Run (Unit {0}) Flow
 move_cells cx target source to from = do

@@ -6,7 +6,7 @@ ghost use Rattle.xmp_meaning.specs.Calls.{context_with};
 ghost use Rattle.xmp_meaning.specs.Expressions.{each};
 ghost use Rattle.xmp_meaning.specs.Sections.{cell_at, cells, chosen, fit, lengths, lengths_fit, name_of, numbers, spread, store_all};
 ghost use Rattle.xmp_serial.specs.Ends.{DoesAs, OrNoMemory};
-ghost use Rattle.xmp_serial.specs.Moves.{array_cells, chosen_of, gmove_of, move_cells};
+ghost use Rattle.xmp_serial.specs.Moves.{array_cells, assign_cells, chosen_of, gmove_of, move_cells};
 
 use crate::assign::value_at;
 use crate::callee::Callee;
@@ -52,14 +52,30 @@ impl<C: Callee> Frame<'_, C> {
         let sources = self.cells(source, from, state)?;
         let sections = self.lengths(from)?;
         self.check_lengths(target, to, sections.as_slice(), state)?;
-        let values = self.read_all(source, sources.as_slice(), state)?;
-        self.write(
+        self.assign_cells(
             target,
-            sections.as_slice(),
+            source,
             targets.as_slice(),
-            values.as_slice(),
+            sources.as_slice(),
+            sections.as_slice(),
             state,
-        );
+        )
+    }
+
+    /// Reads the source's cells, and then writes the target's.
+    fn assign_cells(
+        &self,
+        target: &MoveSide,
+        source: &MoveSide,
+        targets: &[usize],
+        sources: &[usize],
+        sections: &[i64],
+        state: &mut State,
+    ) -> Result<Flow, Halt>
+        ensures { Does (assign_cells (context_with self.now.program.now self.now.node self.now.input.now (C.calls self.now.callee.now)) target.now source.now targets.now sources.now sections.now state.old) result state.new }
+    {
+        let values = self.read_all(source, sources, state)?;
+        self.write(target, sections, targets, values.as_slice(), state);
         Ok(Flow::Next)
     }
 
