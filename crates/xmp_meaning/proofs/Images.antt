@@ -1,16 +1,14 @@
 -- One image that comes to no `xmp_sync_all`.
-use Rattle.std.proofs.Common.{◌≡◌, ◌≢◌, ◌++◌, ℕ, zero, suc, ℤ, Bool, true, false, List, [], ◌∷◌, map, refl, sym, ap, ◌∙◌, subst, append-nil, if◌then◌else◌}
-use Rattle.std.specs.List.{range_with_len, flat_map}
+use Rattle.std.proofs.Common.{◌≡◌, ◌≢◌, ℕ, zero, suc, ℤ, Bool, true, false, List, [], ◌∷◌, map, refl, sym, ap, ◌∙◌, subst, append-nil, if◌then◌else◌}
+use Rattle.std.specs.List.{range_with_len}
 use Rattle.std.specs.Ordering.{int_eq}
 use Rattle.std.proofs.lemmas.Bool.Decides.{Decides-int_eq}
 use Rattle.xmp_prog.specs.declared.parts.ProgParts.{ProgParts}
-use Rattle.xmp_prog.specs.declared.statements.Stmt.{Stmt}
-use Rattle.xmp_meaning.specs.declared.ends.End.{End}
 use Rattle.xmp_meaning.specs.declared.ends.End.TheVariants.{Trapped, OutOfSteps, PhaseEnd}
 use Rattle.xmp_meaning.specs.declared.ends.Flow.{Flow}
 use Rattle.xmp_meaning.specs.declared.outcome.Outcome.{Outcome}
 use Rattle.xmp_meaning.specs.declared.outcome.Outcome.TheVariants as outcome
-use Rattle.xmp_meaning.specs.declared.ends.Flow.TheVariants.{Next, Returned}
+use Rattle.xmp_meaning.specs.declared.ends.Flow.TheVariants.{Next}
 use Rattle.xmp_meaning.specs.Runs.{State, Step, Gave, Ended, Run, and_then, ◌>>=◌, pure, step_of, take_step}
 use Rattle.xmp_meaning.specs.Context.{Context}
 use Rattle.xmp_prog.specs.Fits.{node_count}
@@ -18,12 +16,11 @@ use Rattle.xmp_meaning.specs.Expressions.{after_call}
 use Rattle.xmp_meaning.specs.Loops.{turn}
 use Rattle.xmp_meaning.specs.Directives.{erased}
 use Rattle.xmp_meaning.specs.Calls.{main_context}
-use Rattle.xmp_meaning.specs.Programs.{no_writes, beginning, program, told, outcome_of, serial_end, serial}
+use Rattle.xmp_meaning.specs.Programs.{no_writes, beginning, told, outcome_of, serial_end, serial}
 use Rattle.xmp_meaning.specs.Phases.{Memory, at_image, next_phase, image_run, image_runs, applied_row, applied, memory_after, stopped, printed_in, goes_on, phase_outcome, phases_from}
-use Rattle.xmp_meaning.specs.Exchanges.{state_of}
-use Rattle.xmp_meaning.specs.Laws.{bare, bare_step, OneImage}
+use Rattle.xmp_meaning.specs.Laws.{bare, OneImage}
 use Rattle.xmp_meaning.proofs.Keeps.{Joins, Keeps, KeepsDirectives, turns_kept, tasks_kept}
-use Rattle.xmp_meaning.proofs.RelatedStatements.{keeps-stmt, keeps-program}
+use Rattle.xmp_meaning.proofs.RelatedStatements.{keeps-program}
 use Rattle.xmp_meaning.proofs.Stays.{Any, all_any}
 
 -- no later phase is known in the state
@@ -79,7 +76,7 @@ alike cx = record {
   calls = λ k vs s none. alike_call s none (cx.call k vs s.steps);
   loops = λ {test} {test'} {body} {body'} h i s none.
       turns_kept alike_joins {test = test} {test' = test'} {body = turn body} {body' = turn body'} (suc s.steps) h
-          (alike_on take_step take_step (λ u. body) (λ u. body') (λ t n. alike_take t.steps t n) (λ u. i)) s none;
+      (alike_on take_step take_step (λ u. body) (λ u. body') (λ t n. alike_take t.steps t n) (λ u. i)) s none;
 }
 
 alike_sync : (p : ProgParts) → Alike Flow (pure Next) (λ s. next_phase p s.extra s)

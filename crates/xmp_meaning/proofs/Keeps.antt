@@ -1,5 +1,5 @@
 -- Relations between runs that every part of the meaning keeps.
-use Rattle.std.proofs.Common.{◌≡◌, ◌++◌, ℕ, zero, suc, ℤ, Bool, true, false, if◌then◌else◌, List, [], ◌∷◌, map, Result, Ok, Err}
+use Rattle.std.proofs.Common.{◌≡◌, ℕ, zero, suc, ℤ, Bool, true, false, if◌then◌else◌, List, [], ◌∷◌, map, Result, Ok, Err}
 use Rattle.xmp_base.specs.declared.place.Place.{Place}
 use Rattle.xmp_num.specs.declared.types.TrapKind.{TrapKind}
 use Rattle.xmp_map.specs.declared.grid.NodeSet.{NodeSet}
@@ -10,7 +10,7 @@ use Rattle.xmp_meaning.specs.declared.ends.Flow.{Flow}
 use Rattle.xmp_meaning.specs.declared.ends.Flow.TheVariants.{Next, Returned}
 use Rattle.xmp_meaning.specs.Runs.{Run, ◌>>=◌, pure, trap, or_trap, scalar, set_scalar, cell, set_cell, write, taken, set_taken}
 use Rattle.xmp_meaning.specs.Context.{Context}
-use Rattle.xmp_meaning.specs.Expressions.{call, each}
+use Rattle.xmp_meaning.specs.Expressions.{call}
 use Rattle.xmp_meaning.specs.Loops.{after, then_run, block, choose, turns, while_loop}
 use Rattle.xmp_meaning.specs.Sections.{Move}
 use Rattle.xmp_meaning.specs.Directives.{Directives, TaskRun, task_run}

@@ -12,3 +12,6 @@ pub mod Forms
 pub mod TenTurns
 pub mod Unrolled
 pub mod Talks
+pub mod FormatLaws
+pub mod Counting
+pub mod CountedTurns

@@ -1,22 +1,20 @@
 -- With more steps the same comes, where it wasn't for want of steps that a run ended.
-use Rattle.std.proofs.Common.{◌≡◌, ◌+◌, ◌≤◌, ◌<◌, ◌==◌, ℕ, zero, suc, ℤ, pos, Bool, true, false, if◌then◌else◌, List, [], ◌∷◌, length, refl, sym, ap, ◌∙◌, subst, arith}
+use Rattle.std.proofs.Common.{◌≡◌, ◌+◌, ◌≤◌, ◌<◌, ◌==◌, ℕ, zero, suc, ℤ, pos, Bool, true, false, if◌then◌else◌, List, [], ◌∷◌, length, refl, sym, ap, subst, arith}
 use Rattle.std.specs.Prelude.{Option, Some, None, slice_get}
 use Rattle.xmp_num.specs.Arithmetic.{wrap}
 use Rattle.xmp_prog.specs.declared.parts.ProgParts.{ProgParts}
 use Rattle.xmp_prog.specs.declared.parts.Function.{Function}
-use Rattle.xmp_meaning.specs.declared.ends.End.{End}
 use Rattle.xmp_meaning.specs.declared.ends.End.TheVariants.{Trapped, OutOfSteps, PhaseEnd}
 use Rattle.xmp_meaning.specs.declared.ends.Flow.{Flow}
 use Rattle.xmp_meaning.specs.declared.ends.Flow.TheVariants.{Next, Returned}
-use Rattle.xmp_meaning.specs.Runs.{State, Step, Gave, Ended, Run, and_then, ◌>>=◌, pure, step_of, take_step}
+use Rattle.xmp_meaning.specs.Runs.{State, Step, Gave, Ended, Run, and_then, ◌>>=◌, pure, step_of, state_of}
 use Rattle.xmp_meaning.specs.Context.{Context}
-use Rattle.xmp_meaning.specs.Expressions.{call, after_call}
-use Rattle.xmp_meaning.specs.Loops.{after, then_run, choose, turns, turn, while_loop}
+use Rattle.xmp_meaning.specs.Expressions.{after_call}
+use Rattle.xmp_meaning.specs.Loops.{after, then_run, choose, turns, turn}
 use Rattle.xmp_meaning.specs.Directives.{erased}
 use Rattle.xmp_meaning.specs.Statements.{stmt_of}
-use Rattle.xmp_meaning.specs.Calls.{frame, bind, returned, invoke, invoke_some, context, call_of, main_context}
+use Rattle.xmp_meaning.specs.Calls.{frame, bind, returned, invoke_some, context, call_of, main_context}
 use Rattle.xmp_meaning.specs.Programs.{beginning, outcome_of, serial, serial_end}
-use Rattle.xmp_meaning.specs.Exchanges.{state_of}
 use Rattle.xmp_meaning.specs.Laws.{richer, SameWithMore, SameOutcome}
 use Rattle.xmp_meaning.proofs.Keeps.{Joins, Keeps, KeepsDirectives, tasks_kept}
 use Rattle.xmp_meaning.proofs.RelatedStatements.{keeps-stmt, keeps-program}
@@ -64,16 +62,17 @@ module _ (more : ℕ) where
 
       turn_richly : (n m : ℕ) → Turns n m → (s : State X) (left : ℕ) → s.steps ≡ left → s.steps ≤ n
           → Rich X Flow s.steps (and_then (and_then (step_of left s) (λ u. body)) (λ flow. after flow (turns n test (turn body))))
-              (and_then (and_then (step_of (left + more) (richer more s)) (λ u. body')) (λ flow. after flow (turns m test' (turn body'))))
+          (and_then (and_then (step_of (left + more) (richer more s)) (λ u. body')) (λ flow. after flow (turns m test' (turn body'))))
       turn_richly n m rest s zero e le = record { same = tt; less = omega arith }
       turn_richly n m rest s (suc left) e le =
           subst (λ k. Rich X Flow s.steps (and_then (body s') (λ flow. after flow (turns n test (turn body))))
-              (and_then (and_then (step_of k (richer more s)) (λ u. body')) (λ flow. after flow (turns m test' (turn body')))))
-              (let q : suc (left + more) ≡ suc left + more = omega arith in q)
-              (rich_less left s.steps _ _ (omega (arith, e)) (rich_on left _ _ (body s') (body' (richer more s')) (i s') at_flow))
+          (and_then (and_then (step_of k (richer more s)) (λ u. body')) (λ flow. after flow (turns m test' (turn body')))))
+          (let q : suc (left + more) ≡ suc left + more = omega arith in q)
+          (rich_less left s.steps _ _ (omega (arith, e)) (rich_on left _ _ (body s') (body' (richer more s')) (i s') at_flow))
         where
           s' : State X
           s' = record s { steps = left }
+
           at_flow : (flow : Flow) (t : State X) → t.steps ≤ left
               → Rich X Flow t.steps (after flow (turns n test (turn body)) t) (after flow (turns m test' (turn body')) (richer more t))
           at_flow Next t fewer = rest t (omega (arith, e, le, fewer))
@@ -86,7 +85,7 @@ module _ (more : ℕ) where
         where
           at_more : Turns n m → (b : Bool) (t : State X) → t.steps ≤ s.steps
               → Rich X Flow t.steps (choose b (then_run (turn body) (turns n test (turn body))) (pure Next) t)
-                  (choose b (then_run (turn body') (turns m test' (turn body'))) (pure Next) (richer more t))
+              (choose b (then_run (turn body') (turns m test' (turn body'))) (pure Next) (richer more t))
           at_more rest true t fewer = turn_richly n m rest t t.steps refl (omega (arith, fewer, lt))
           at_more rest false t fewer = record { same = refl; less = omega arith }
 
@@ -134,13 +133,15 @@ module _ (more : ℕ) where
   invoke_richly cx calls None vs = gives_richly (pos 0)
   invoke_richly cx calls (Some f) vs =
       goes_on_richly (bind cx.program f.parameters vs) (bind cx.program f.parameters vs) (λ u. value) (λ u. value) (bind_richly cx.program f.parameters vs)
-          (λ u. goes_on_richly statement statement convert convert (keeps-stmt cx (richly cx calls) richly_erased f.body (all_any _) (all_any _))
-              (λ flow. gives_richly (wrap f.result (returned flow))))
+      (λ u. goes_on_richly statement statement convert convert (keeps-stmt cx (richly cx calls) richly_erased f.body (all_any _) (all_any _))
+      (λ flow. gives_richly (wrap f.result (returned flow))))
     where
       statement : Run (Unit {0}) Flow
       statement = stmt_of erased cx f.body
+
       convert : Flow → Run (Unit {0}) ℤ
       convert flow = pure (wrap f.result (returned flow))
+
       value : Run (Unit {0}) ℤ
       value = statement >>= convert
 
@@ -149,7 +150,7 @@ module _ (more : ℕ) where
   calls_richly p node input zero k vs steps = record { same = refl; less = omega arith }
   calls_richly p node input (suc n) k vs steps =
       at_test (k == n) (invoke_richly (context p node [] n) (calls_richly p node [] n) (slice_get p.functions n) vs (frame p steps))
-          (calls_richly p node input n k vs steps)
+      (calls_richly p node input n k vs steps)
     where
       at_test : {q q' r r' : Step (Unit {0}) ℤ} (b : Bool) → Rich (Unit {0}) ℤ steps q q' → Rich (Unit {0}) ℤ steps r r'
           → Rich (Unit {0}) ℤ steps (if b then q else r) (if b then q' else r')

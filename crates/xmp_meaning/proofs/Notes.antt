@@ -1,17 +1,16 @@
 -- The run that notes each exchange is the serial run, the notes apart.
-use Rattle.std.proofs.Common.{◌≡◌, ◌++◌, ℕ, zero, suc, ℤ, Bool, true, false, List, [], ◌∷◌, map, refl, sym, ap, ◌∙◌}
+use Rattle.std.proofs.Common.{◌≡◌, ℕ, zero, suc, ℤ, List, [], ◌∷◌, refl, sym, ap, ◌∙◌}
 use Rattle.xmp_prog.specs.declared.parts.ProgParts.{ProgParts}
 use Rattle.xmp_prog.specs.declared.statements.Name.{Name}
 use Rattle.xmp_prog.specs.declared.statements.Stmt.{Stmt}
 use Rattle.xmp_meaning.specs.declared.ends.End.TheVariants.{Trapped, OutOfSteps, PhaseEnd}
 use Rattle.xmp_meaning.specs.declared.ends.Flow.{Flow}
-use Rattle.xmp_meaning.specs.declared.ends.Flow.TheVariants.{Next, Returned}
-use Rattle.xmp_meaning.specs.Runs.{State, Step, Gave, Ended, Run, and_then, ◌>>=◌, pure, step_of, take_step}
+use Rattle.xmp_meaning.specs.declared.ends.Flow.TheVariants.{Next}
+use Rattle.xmp_meaning.specs.Runs.{State, Step, Gave, Ended, Run, and_then, ◌>>=◌, step_of, take_step}
 use Rattle.xmp_meaning.specs.Context.{Context}
 use Rattle.xmp_meaning.specs.Expressions.{after_call}
 use Rattle.xmp_meaning.specs.Loops.{then_run, turn}
 use Rattle.xmp_meaning.specs.Directives.{erased}
-use Rattle.xmp_meaning.specs.Statements.{stmt_of}
 use Rattle.xmp_meaning.specs.Calls.{main_context}
 use Rattle.xmp_meaning.specs.Programs.{beginning, program, outcome_of}
 use Rattle.xmp_meaning.specs.Exchanges.{Exchange, Moved, note, note_arrays, traced}
@@ -60,7 +59,7 @@ module _ {X : Type 0} where
     calls = λ k vs s. forgets_call s (cx.call k vs s.steps);
     loops = λ {test} {test'} {body} {body'} h i s.
         turns_kept forgets_joins {test = test} {test' = test'} {body = turn body} {body' = turn body'} (suc s.steps) h
-            (forgets_on take_step take_step (λ u. body) (λ u. body') (λ t. forgets_step t.steps t) (λ u. i)) s;
+        (forgets_on take_step take_step (λ u. body) (λ u. body') (λ t. forgets_step t.steps t) (λ u. i)) s;
   }
 
 notes_of_arrays : (arrays : List Name) (s : State (List Exchange)) → Gave Next (bare s) ≡ bare_step (note_arrays arrays s)
@@ -91,4 +90,4 @@ pub traced_is_serial : (p : ProgParts) (input : List ℕ) (steps : ℕ) → Trac
 traced_is_serial p input steps =
     sym (outcome_bare p (program (traced p) (main_context p 0 input) (beginning p steps [])))
     ∙ ap (outcome_of p) (sym (keeps-program (main_context p 0 input) (forgets (main_context p 0 input)) (forgets_traced p)
-        (all_any _) (all_any _) (all_any _) (beginning p steps [])))
+    (all_any _) (all_any _) (all_any _) (beginning p steps [])))

@@ -1,20 +1,14 @@
 -- What every part of a run respects, where its primitives do: a reflexive and transitive relation between the state before and the state after.
 use Rattle.std.proofs.Common.{◌≡◌, ◌++◌, ℕ, zero, suc, ℤ, Bool, true, false, List, [], ◌∷◌, map, refl}
 use Rattle.std.specs.Prelude.{slice_set}
-use Rattle.std.specs.List.{AllByRecursion}
-use Rattle.xmp_prog.specs.declared.statements.LoopDirective.{LoopDirective}
-use Rattle.xmp_prog.specs.declared.statements.Name.{Name}
-use Rattle.xmp_prog.specs.declared.statements.MoveSide.{MoveSide}
 use Rattle.xmp_meaning.specs.declared.ends.Flow.{Flow}
 use Rattle.xmp_meaning.specs.declared.ends.Flow.TheVariants.{Next, Returned}
 use Rattle.xmp_meaning.specs.Cells.{with_cell}
-use Rattle.xmp_meaning.specs.Runs.{State, Step, Gave, Ended, Run, and_then, ◌>>=◌, pure, step_of, take_step}
+use Rattle.xmp_meaning.specs.Runs.{State, Step, Gave, Ended, Run, and_then, pure, step_of, state_of}
 use Rattle.xmp_meaning.specs.Context.{Context}
 use Rattle.xmp_meaning.specs.Expressions.{call}
-use Rattle.xmp_meaning.specs.Loops.{after, then_run, block, choose, turns, turn, while_loop}
-use Rattle.xmp_meaning.specs.Sections.{Move}
-use Rattle.xmp_meaning.specs.Directives.{Directives, TaskRun, task_run, erased}
-use Rattle.xmp_meaning.specs.Exchanges.{state_of}
+use Rattle.xmp_meaning.specs.Loops.{after, then_run, block, choose, turns, turn}
+use Rattle.xmp_meaning.specs.Directives.{TaskRun, task_run, erased}
 use Rattle.xmp_meaning.proofs.Keeps.{Keeps, KeepsDirectives, AllAlike}
 
 -- The relation, and that the primitives respect it: writes of scalars in S and of cells of arrays in T.
@@ -52,9 +46,9 @@ module _ {X : Type 0} {cx : Context} {S T : ℕ → Type 0} {K : State X → Sta
   respects_turns zero test body h i s = r.same s
   respects_turns (suc n) test body h i s =
       respects_then s (λ more. choose more (then_run body (turns n test body)) (pure Next)) (test s) (h s)
-          (λ more. respects_choose more (then_run body (turns n test body)) (pure Next)
-              (λ t. respects_then t (λ flow. after flow (turns n test body)) (body t) (i t) (λ flow. respects_after flow (turns n test body) (respects_turns n test body h i)))
-              r.same)
+      (λ more. respects_choose more (then_run body (turns n test body)) (pure Next)
+      (λ t. respects_then t (λ flow. after flow (turns n test body)) (body t) (i t) (λ flow. respects_after flow (turns n test body) (respects_turns n test body h i)))
+      r.same)
 
   respects_step : (s : State X) (n : ℕ) → s.steps ≡ n → K s (state_of (step_of n s))
   respects_step s zero e = r.same s
@@ -82,7 +76,7 @@ module _ {X : Type 0} {cx : Context} {S T : ℕ → Type 0} {K : State X → Sta
   respects_block (t ∷ ts) [] alike s = absurd alike
   respects_block (t ∷ ts) (u ∷ us) alike s =
       respects_then s (λ flow. after flow (block (map task_run ts))) (t.run s) (alike.0.runs s)
-          (λ flow. respects_after flow (block (map task_run ts)) (respects_block ts us alike.1))
+      (λ flow. respects_after flow (block (map task_run ts)) (respects_block ts us alike.1))
 
   pub keeps_erased : KeepsDirectives X X Respects erased erased
   keeps_erased = record {

@@ -1,17 +1,16 @@
 -- Expressions keep every such relation.
-use Rattle.std.proofs.Common.{◌≡◌, ◌++◌, ◌+◌, ◌*◌, ℕ, ℤ, pos, Bool, true, false, List, [], ◌∷◌, map, Option, Some, None, refl, sym, subst, if◌then◌else◌}
+use Rattle.std.proofs.Common.{◌≡◌, ◌++◌, ◌+◌, ◌*◌, ℕ, ℤ, pos, List, [], ◌∷◌, map, Option, Some, None, refl, sym, subst, if◌then◌else◌}
 use Rattle.xmp_base.specs.declared.place.Place.{Place}
 use Rattle.xmp_num.specs.declared.types.TrapKind.TheVariants.{Subscript}
 use Rattle.xmp_num.specs.Arithmetic.{binary_of, wrap}
-use Rattle.xmp_map.specs.RowMajor.{product}
 use Rattle.xmp_prog.specs.declared.expressions.Expr.{Expr, map-Expr}
 use Rattle.xmp_prog.specs.declared.expressions.Access.{Access, map-Access}
 use Rattle.xmp_prog.specs.declared.expressions.Expr.TheOpen.{Expr-F, Access-F}
 use Rattle.xmp_prog.specs.declared.expressions.Expr.TheFolds.{fold-Access, ind-Expr, ind-Access, fold-roll-Expr, fold-roll-Access}
 use Rattle.xmp_prog.specs.declared.expressions.Expr.TheViews.{roll-Expr, roll-Access}
-use Rattle.xmp_meaning.specs.Runs.{Run, ◌>>=◌, pure, cell}
+use Rattle.xmp_meaning.specs.Runs.{Run, ◌>>=◌, cell}
 use Rattle.xmp_meaning.specs.Context.{Context, extents, is_coarray}
-use Rattle.xmp_meaning.specs.Expressions.{Element, in_image, expr_of, cell_of, expr_step, access_step, cell_number, within, or_subscript, image_of, each, is_zero, as_truth, natural}
+use Rattle.xmp_meaning.specs.Expressions.{Element, in_image, expr_of, cell_of, expr_step, access_step, cell_number, within, or_subscript, each, is_zero, as_truth, natural}
 use Rattle.xmp_meaning.proofs.Keeps.{Keeps, keeps-or_trap, keeps-if}
 
 -- the same array, and related runs that give the cell
@@ -87,11 +86,17 @@ module _ {X Y : Type 0} {S T : ℕ → Type 0} {R : (A : Type 0) → Run X A →
 
     keeps-access_parts : (array : ℕ) (cs : List C) (image : Option C) (at : Place)
         → ElementsAlike X Y R (of_access (record { array = array; subscripts = cs; image = image; at = at }))
-            (of_access (record { array = array; subscripts = cs; image = image; at = at }))
-    keeps-access_parts array cs None at = record { array = refl; number = k.goes_on (keeps-subscripts cs (extents cx.program array) at 0)
-        (λ x. k.goes_on (k.gives (if is_coarray cx.program array then cx.node else 0)) (λ image. k.gives (in_image cx array x image))) }
-    keeps-access_parts array cs (Some c) at = record { array = refl; number = k.goes_on (keeps-subscripts cs (extents cx.program array) at 0)
-        (λ x. k.goes_on (k.goes_on (h c) (λ v. k.gives (natural v))) (λ image. k.gives (in_image cx array x image))) }
+        (of_access (record { array = array; subscripts = cs; image = image; at = at }))
+    keeps-access_parts array cs None at = record {
+      array = refl;
+      number = k.goes_on (keeps-subscripts cs (extents cx.program array) at 0)
+          (λ x. k.goes_on (k.gives (if is_coarray cx.program array then cx.node else 0)) (λ image. k.gives (in_image cx array x image)));
+    }
+    keeps-access_parts array cs (Some c) at = record {
+      array = refl;
+      number = k.goes_on (keeps-subscripts cs (extents cx.program array) at 0)
+          (λ x. k.goes_on (k.goes_on (h c) (λ v. k.gives (natural v))) (λ image. k.gives (in_image cx array x image)));
+    }
 
     keeps-access_step : (y : Access-F C D) → ElementsAlike X Y R (of_access y) (of_access y)
     keeps-access_step y = keeps-access_parts y.array y.subscripts y.image y.at

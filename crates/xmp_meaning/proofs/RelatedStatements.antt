@@ -1,5 +1,5 @@
 -- Statements keep every such relation.
-use Rattle.std.proofs.Common.{◌≡◌, ◌++◌, ◌+◌, ◌*◌, ◌+ℤ◌, ℕ, zero, suc, ℤ, pos, Bool, true, false, not, List, [], ◌∷◌, map, length, Option, Some, None, refl, sym, subst, if◌then◌else◌}
+use Rattle.std.proofs.Common.{◌≡◌, ◌++◌, ◌+ℤ◌, ℕ, ℤ, pos, Bool, true, false, not, List, [], ◌∷◌, map, length, Option, Some, None, refl, sym, subst}
 use Rattle.std.specs.List.{AllByRecursion, concat}
 use Rattle.xmp_base.specs.declared.place.Place.{Place}
 use Rattle.xmp_num.specs.declared.types.TrapKind.TheVariants.{Section}
@@ -29,10 +29,10 @@ use Rattle.xmp_meaning.specs.declared.ends.Flow.{Flow}
 use Rattle.xmp_meaning.specs.declared.ends.Flow.TheVariants.{Next, Returned}
 use Rattle.xmp_meaning.specs.Runs.{Run, ◌>>=◌, pure}
 use Rattle.xmp_meaning.specs.Context.{Context, extents, scalar_type, array_type}
-use Rattle.xmp_meaning.specs.Expressions.{expr_of, cell_of, each, call, is_zero, natural, within, or_subscript}
+use Rattle.xmp_meaning.specs.Expressions.{expr_of, is_zero, natural, within}
 use Rattle.xmp_meaning.specs.Formats.{printed}
-use Rattle.xmp_meaning.specs.Assignments.{location_type, value_at, store, at_target, new_value, assign, initialise, declare, store_read, scan}
-use Rattle.xmp_meaning.specs.Loops.{after, then_run, block, choose, turns, holds, inside, is_inside, step_up, turn_count, counted, nest}
+use Rattle.xmp_meaning.specs.Assignments.{location_type, value_at, store, at_target, new_value, assign, initialise, store_read, scan}
+use Rattle.xmp_meaning.specs.Loops.{then_run, block, holds, inside, is_inside, step_up, turn_count, counted, nest}
 use Rattle.xmp_meaning.specs.Sections.{Chosen, One, Many, chosen, numbers, in_range, progression, section, subscripts, all_subscripts, cells_from, cells, cell_at, lengths, fit, name_of, lengths_fit, spread, store_all, Move, move, written}
 use Rattle.xmp_meaning.specs.Directives.{Directives, TaskRun}
 use Rattle.xmp_meaning.specs.Statements.{plain_of, stmt_step, task_step, stmt_of}
@@ -97,7 +97,7 @@ module _ {X Y : Type 0} {S T : ℕ → Type 0} {R : (A : Type 0) → Run X A →
   keeps-scan : (l : Location) → MayWrite S T l → R Flow (scan cx l) (scan cx l)
   keeps-scan l may = k.goes_on k.inputs (λ at.
       k.goes_on (k.sets_taken (scan_of (location_type cx.program l) cx.input at).1)
-          (λ u. keeps-store_read l may (scan_of (location_type cx.program l) cx.input at).0))
+      (λ u. keeps-store_read l may (scan_of (location_type cx.program l) cx.input at).0))
 
   -- ---- loops
   keeps-holds : (e : Expr) → R Bool (holds (expr_of cx e)) (holds (expr_of cx e))
@@ -115,7 +115,7 @@ module _ {X Y : Type 0} {S T : ℕ → Type 0} {R : (A : Type 0) → Run X A →
       → R Flow (counted cx head body) (counted cx head body')
   keeps-counted head may r = k.goes_on (keeps-expr cx k head.from) (λ from. k.goes_on (k.sets_scalar head.index.number may (wrap Int from))
       (λ u. k.goes_on (keeps-expr cx k head.to)
-          (λ to. turns_kept (joins k) (turn_count (wrap Int from) (wrap Int to) head.inclusive head.step) (keeps-inside head) (keeps-then r (keeps-step_up head may)))))
+      (λ to. turns_kept (joins k) (turn_count (wrap Int from) (wrap Int to) head.inclusive head.step) (keeps-inside head) (keeps-then r (keeps-step_up head may)))))
 
   pub keeps-nest : {body : Run X Flow} {body' : Run Y Flow} (heads : List LoopHead) → AllByRecursion S (indices_of heads) → R Flow body body'
       → R Flow (nest cx heads body) (nest cx heads body')
@@ -241,7 +241,7 @@ module _ {X Y : Type 0} {S T : ℕ → Type 0} {R : (A : Type 0) → Run X A →
       keeps-stmt_step (Stmt-F.Loop directive body) may rows =
           let m : _ = all_of_both S (indices_of directive.nest) (scalars_written (p body)) may in
           kd.loop directive (nest cx directive.nest) (nest cx directive.nest)
-              (stmt_of d cx (p body)) (stmt_of e cx (p body)) (λ b b' r. keeps-nest directive.nest m.0 r) (h body m.1 rows)
+          (stmt_of d cx (p body)) (stmt_of e cx (p body)) (λ b b' r. keeps-nest directive.nest m.0 r) (h body m.1 rows)
       keeps-stmt_step (Stmt-F.Tasks all at) may rows =
           kd.tasks (map (task_of d) (map q all)) (map (task_of e) (map q all)) (all_alike all may rows)
 
@@ -277,11 +277,11 @@ module _ {X Y : Type 0} {S T : ℕ → Type 0} {R : (A : Type 0) → Run X A →
     pub keeps-stmt : (s : Stmt) → StmtKept s
     keeps-stmt = ind-Stmt StmtKept TaskKept
         (λ x y is. subst (λ z. StmtKept (roll-Stmt z)) is (λ may rows.
-            both_rolled (stmt_rolled d _) (stmt_rolled e _) (keeps-stmt_step (λ c. c.0) (λ c. c.0) (λ c. c.1) (λ c. c.1) y
-                (written_rolled S scalars_step _ may) (written_rolled T arrays_step _ rows))))
+        both_rolled (stmt_rolled d _) (stmt_rolled e _) (keeps-stmt_step (λ c. c.0) (λ c. c.0) (λ c. c.1) (λ c. c.1) y
+        (written_rolled S scalars_step _ may) (written_rolled T arrays_step _ rows))))
         (λ x y is. subst (λ z. TaskKept (roll-Task z)) is (λ may rows.
-            both_rolled_tasks (task_rolled d _) (task_rolled e _) (keeps-task_step (λ c. c.0) (λ c. c.0) (λ c. c.1) (λ c. c.1) y
-                (task_written_rolled S scalars_step _ may) (task_written_rolled T arrays_step _ rows))))
+        both_rolled_tasks (task_rolled d _) (task_rolled e _) (keeps-task_step (λ c. c.0) (λ c. c.0) (λ c. c.1) (λ c. c.1) y
+        (task_written_rolled S scalars_step _ may) (task_written_rolled T arrays_step _ rows))))
 
     pub keeps-program : AllByRecursion S (map (λ s. s.slot) cx.program.start) → AllByRecursion S (scalars_written cx.program.body)
         → AllByRecursion T (arrays_written cx.program.body) → R Flow (program d cx) (program e cx)

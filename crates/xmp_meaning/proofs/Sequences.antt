@@ -1,11 +1,10 @@
 -- Parts of a run one after the other.
-use Rattle.std.proofs.Common.{◌≡◌, ◌+◌, ◌++◌, ℕ, zero, suc, Bool, true, false, List, [], ◌∷◌, refl, sym, ap, ◌∙◌, arith}
-use Rattle.xmp_meaning.specs.declared.ends.End.{End}
+use Rattle.std.proofs.Common.{◌≡◌, ◌+◌, ◌++◌, ℕ, zero, suc, Bool, true, false, [], ◌∷◌, refl, sym, ap, ◌∙◌, arith}
 use Rattle.xmp_meaning.specs.declared.ends.Flow.{Flow}
 use Rattle.xmp_meaning.specs.declared.ends.Flow.TheVariants.{Next, Returned}
-use Rattle.xmp_meaning.specs.Runs.{State, Step, Gave, Ended, Run, and_then, ◌>>=◌, pure}
+use Rattle.xmp_meaning.specs.Runs.{State, Step, Gave, Ended, Run, and_then, pure}
 use Rattle.xmp_meaning.specs.Loops.{after, then_run, block, choose, turns}
-use Rattle.xmp_meaning.specs.Laws.{IsAssociative, StatementsAssociate, BlocksJoin, StaysFalse, TurnsAdd, EndsAreFinal}
+use Rattle.xmp_meaning.specs.Laws.{IsAssociative, StatementsAssociate, BlocksJoin, TurnsAdd, EndsAreFinal}
 
 steps_associate : {X A B C : Type 0} (r : Step X A) (f : A → Run X B) (g : B → Run X C)
     → and_then (and_then r f) g ≡ and_then r (λ a s. and_then (f a s) g)
@@ -16,7 +15,7 @@ pub associative : (X A B C : Type 0) → IsAssociative X A B C
 associative X A B C p f g s = steps_associate (p s) f g
 
 -- what follows both, by what the first statement gave
-flows_associate : {X : Type 0} (r : Step X Flow) (q t : Run X Flow)
+pub flows_associate : {X : Type 0} (r : Step X Flow) (q t : Run X Flow)
     → and_then (and_then r (λ flow. after flow q)) (λ flow. after flow t) ≡ and_then r (λ flow. after flow (then_run q t))
 flows_associate (Gave Next s) q t = refl
 flows_associate (Gave (Returned v) s) q t = refl
@@ -49,7 +48,7 @@ turns_add X (suc n) m test body stays s =
   where
     at_test : ((t : State X) → turns (n + m) test body t ≡ then_run (turns n test body) (turns m test body) t) → (r : Step X Bool) → test s ≡ r
         → and_then r (λ more. choose more (then_run body (turns (n + m) test body)) (pure Next))
-            ≡ and_then (and_then r (λ more. choose more (then_run body (turns n test body)) (pure Next))) (λ flow. after flow (turns m test body))
+        ≡ and_then (and_then r (λ more. choose more (then_run body (turns n test body)) (pure Next))) (λ flow. after flow (turns m test body))
     at_test rest (Gave true t) e =
         same_after (body t) (turns (n + m) test body) (then_run (turns n test body) (turns m test body)) rest
         ∙ sym (flows_associate (body t) (turns n test body) (turns m test body))

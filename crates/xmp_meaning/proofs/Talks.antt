@@ -1,5 +1,5 @@
 -- A node takes from its feed as many exchanges as it says.
-use Rattle.std.proofs.Common.{◌≡◌, ◌++◌, ◌+◌, ℕ, zero, suc, ℤ, Bool, true, false, if◌then◌else◌, List, [], ◌∷◌, map, length, drop, refl, sym, ap, ◌∙◌, append-nil, append_assoc, Option, Some, None}
+use Rattle.std.proofs.Common.{◌≡◌, ◌++◌, ℕ, zero, suc, ℤ, Bool, true, false, if◌then◌else◌, List, [], ◌∷◌, map, length, drop, refl, sym, ap, ◌∙◌, append-nil, append_assoc, Option, Some, None}
 use Rattle.std.specs.Prelude.{slice_set, ◌==◌}
 use Rattle.xmp_prog.specs.declared.parts.ProgParts.{ProgParts}
 use Rattle.xmp_prog.specs.declared.statements.Name.{Name}
@@ -11,15 +11,15 @@ use Rattle.xmp_meaning.specs.declared.ends.Flow.{Flow}
 use Rattle.xmp_meaning.specs.declared.ends.Flow.TheVariants.{Next, Returned}
 use Rattle.xmp_num.specs.Reduction.{unit_of}
 use Rattle.xmp_meaning.specs.Cells.{row_in, with_cell}
-use Rattle.xmp_meaning.specs.Runs.{State, Step, Gave, Ended, Run, and_then, ◌>>=◌, pure, set_scalar}
+use Rattle.xmp_meaning.specs.Runs.{State, Step, Gave, Ended, Run, and_then, pure, set_scalar, state_of}
 use Rattle.xmp_meaning.specs.Context.{Context, scalar_type}
 use Rattle.xmp_meaning.specs.Expressions.{after_call}
-use Rattle.xmp_meaning.specs.Loops.{after, then_run, block, choose}
+use Rattle.xmp_meaning.specs.Loops.{after, then_run, choose}
 use Rattle.xmp_meaning.specs.Directives.{TaskRun}
 use Rattle.xmp_meaning.specs.Statements.{stmt_of}
 use Rattle.xmp_meaning.specs.Parts.{begin, only, owns_iteration, part_of}
-use Rattle.xmp_meaning.specs.Exchanges.{PartEnd, Whole, Stopped, TaskEnd, Exchange, AtBarrier, Broadcast, Reflected, Moved, LoopEnd, TasksEnd, values_of, part_end, state_of, unprinted}
-use Rattle.xmp_meaning.specs.AtNode.{Talk, is_copy, home_of, with_copies, values_said, later_said, talked, exchange, first_said, is_member, set_all, bcast_at, reflect_at, gmove_at, closed, all_joined, units, parts_said, loop_heard, loop_at, own_end, known_ends, tasks_said, texts, first_end, ending, tasks_heard, own_tasks, tasks_at, move_kept, gmove_heard, at_node}
+use Rattle.xmp_meaning.specs.Exchanges.{PartEnd, Whole, Stopped, TaskEnd, Exchange, AtBarrier, Broadcast, Reflected, Moved, LoopEnd, TasksEnd, values_of, part_end, unprinted}
+use Rattle.xmp_meaning.specs.AtNode.{Talk, is_copy, home_of, with_copies, values_said, later_said, talked, exchange, first_said, is_member, set_all, reflect_at, closed, all_joined, units, parts_said, loop_heard, loop_at, own_end, known_ends, tasks_said, texts, first_end, ending, tasks_heard, own_tasks, tasks_at, move_kept, gmove_heard, at_node}
 use Rattle.xmp_meaning.specs.Writes.{scalars_written, arrays_written}
 use Rattle.xmp_meaning.specs.Laws.{TakesAsItSays}
 use Rattle.xmp_meaning.proofs.Keeps.{KeepsDirectives, AllAlike}
@@ -40,9 +40,11 @@ nothing_said : (s t : State Talk) → t.extra ≡ s.extra → TakesAsItSays s t
 nothing_said s t e = ([], ap (λ x. x.said) e ∙ sym (append-nil s.extra.said), ap (λ x. x.feed) e)
 
 said_then : (s t u : State Talk) → TakesAsItSays s t → TakesAsItSays t u → TakesAsItSays s u
-said_then s t u a b = (a.0 ++ b.0,
-    b.1 ∙ ap (λ said. said ++ b.0) a.1 ∙ append_assoc s.extra.said a.0 b.0,
-    b.2 ∙ ap (drop (length b.0)) a.2 ∙ sym (drop_both a.0 b.0 s.extra.feed))
+said_then s t u a b = (
+  a.0 ++ b.0,
+  b.1 ∙ ap (λ said. said ++ b.0) a.1 ∙ append_assoc s.extra.said a.0 b.0,
+  b.2 ∙ ap (drop (length b.0)) a.2 ∙ sym (drop_both a.0 b.0 s.extra.feed),
+)
 
 first_taken : (feed : List Exchange) → later_said feed ≡ drop 1 feed
 first_taken [] = refl
@@ -105,8 +107,10 @@ module _ (cx : Context) where
     bcast_talks false ns vs s = set_all_talks ns vs s
 
     copied : Name → Exchange → Run Talk Flow
-    copied a x t = Gave Next (record t { arrays = slice_set t.arrays a.number
-        (with_copies (is_copy (home_of p a.number) node) 0 (row_in t.arrays a.number) (values_said x)) })
+    copied a x t = Gave Next (record t {
+      arrays = slice_set t.arrays a.number
+          (with_copies (is_copy (home_of p a.number) node) 0 (row_in t.arrays a.number) (values_said x));
+    })
 
     abbrev reflected : Name → Run Talk Flow
     reflected a = λ s. exchange (Reflected a.number (row_in s.arrays a.number)) (copied a) s
@@ -145,13 +149,13 @@ module _ (cx : Context) where
         let step : Step Talk Flow = part_of p directive node around body s in
         let own : PartEnd = part_end directive step in
         said_then s (state_of step) (state_of (exchange (LoopEnd (own ∷ [])) (loop_heard p node directive own) (state_of step)))
-            (after_step s (λ u. around (only (owns_iteration p directive node) body)) (begin p node directive.reductions s)
-                (begins_silent directive.reductions s)
-                (λ u. h (only (owns_iteration p directive node) body) (λ t. choice_talks (owns_iteration p directive node t) body i t)))
-            (exchange_talks (LoopEnd (own ∷ [])) (loop_heard p node directive own)
-                (λ x. closes_silent directive.reductions
-                    (all_joined p directive.reductions (Whole (units p directive.reductions)) (slice_set (parts_said x) node own)))
-                (state_of step))
+        (after_step s (λ u. around (only (owns_iteration p directive node) body)) (begin p node directive.reductions s)
+        (begins_silent directive.reductions s)
+        (λ u. h (only (owns_iteration p directive node) body) (λ t. choice_talks (owns_iteration p directive node t) body i t)))
+        (exchange_talks (LoopEnd (own ∷ [])) (loop_heard p node directive own)
+        (λ x. closes_silent directive.reductions
+        (all_joined p directive.reductions (Whole (units p directive.reductions)) (slice_set (parts_said x) node own)))
+        (state_of step))
 
     tasks_silent : (ts us : List (TaskRun Talk)) → AllAlike Talk Talk (Respects talks) ts us
         → Talks (own_tasks p node ts)
@@ -171,8 +175,8 @@ module _ (cx : Context) where
         let step : Step Talk Flow = own_tasks p node ts (unprinted s) in
         let own : List TaskEnd = map (own_end p node step) ts in
         said_then s (state_of step) (state_of (exchange (TasksEnd own) (tasks_heard p node own s.out) (state_of step)))
-            (said_then s (unprinted s) (state_of step) (nothing_said s (unprinted s) refl) (tasks_silent ts us all (unprinted s)))
-            (exchange_talks (TasksEnd own) (tasks_heard p node own s.out) (heard_silent own s.out) (state_of step))
+        (said_then s (unprinted s) (state_of step) (nothing_said s (unprinted s) refl) (tasks_silent ts us all (unprinted s)))
+        (exchange_talks (TasksEnd own) (tasks_heard p node own s.out) (heard_silent own s.out) (state_of step))
 
     node_talks : KeepsDirectives Talk Talk (Respects talks) (at_node p node) (at_node p node)
     node_talks = record {
@@ -181,11 +185,11 @@ module _ (cx : Context) where
       barrier = exchange_talks AtBarrier (λ x. pure Next) (λ x s. nothing_said s s refl);
       bcast = λ variables nodes s.
           exchange_talks (Broadcast nodes (values_of s (map (λ v. v.number) variables)))
-              (λ x. if is_member p node nodes then pure Next else set_all variables (values_said x))
-              (λ x. bcast_talks (is_member p node nodes) variables (values_said x)) s;
+          (λ x. if is_member p node nodes then pure Next else set_all variables (values_said x))
+          (λ x. bcast_talks (is_member p node nodes) variables (values_said x)) s;
       gmove = λ target source m m' w w' h i s.
           after_step s (λ v. exchange (Moved v) (gmove_heard p node target source w v)) (m s) (h s)
-              (λ v. exchange_talks (Moved v) (gmove_heard p node target source w v) (λ x. i (move_kept p node target source v x)));
+          (λ v. exchange_talks (Moved v) (gmove_heard p node target source w v) (λ x. i (move_kept p node target source v x)));
       tasks = tasks_talk;
       sync = λ s. nothing_said s s refl;
     }

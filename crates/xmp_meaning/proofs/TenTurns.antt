@@ -1,32 +1,28 @@
 -- Ten turns of an uncounted loop.
-use Rattle.std.proofs.Common.{◌≡◌, ℕ, ℤ, pos, List, [], ◌∷◌, refl, Option, Some, None, map, ap, ◌∙◌}
+use Rattle.std.proofs.Common.{◌≡◌, ℕ, ℤ, pos, [], ◌∷◌, refl, Some, ap, ◌∙◌}
 use Rattle.xmp_base.specs.declared.place.Place.{Place}
 use Rattle.xmp_map.specs.declared.grid.Grid.{Grid}
 use Rattle.std.specs.Int.{int_wrap}
 use Rattle.std.specs.Fmt.{digits}
-use Rattle.xmp_num.specs.Arithmetic.{binary_of, wrap}
+use Rattle.xmp_num.specs.Arithmetic.{binary_of}
 use Rattle.xmp_num.specs.declared.types.Ty.TheVariants.{Int}
-use Rattle.xmp_num.specs.declared.types.BinOp.{BinOp}
 use Rattle.xmp_num.specs.declared.types.BinOp.TheVariants as op
-use Rattle.xmp_prog.specs.declared.expressions.Expr.{Expr}
 use Rattle.xmp_prog.specs.declared.expressions.Expr.TheVariants as expr
-use Rattle.xmp_prog.specs.declared.statements.Stmt.{Stmt}
 use Rattle.xmp_prog.specs.declared.statements.Stmt.TheVariants as stmt
-use Rattle.xmp_prog.specs.declared.statements.Plain.{Plain}
 use Rattle.xmp_meaning.proofs.Forms.{expr_const, expr_scalar, expr_binary, stmt_plain, stmt_block, stmt_while}
 use Rattle.xmp_meaning.specs.declared.outcome.Outcome.{Outcome}
 use Rattle.xmp_meaning.specs.declared.outcome.Outcome.TheVariants as outcome
 use Rattle.xmp_meaning.specs.declared.ends.Flow.{Flow}
 use Rattle.xmp_meaning.specs.declared.ends.Flow.TheVariants.{Next}
-use Rattle.xmp_meaning.specs.Runs.{State, Step, Gave, Run, ◌>>=◌, pure, or_trap, scalar, write}
+use Rattle.xmp_meaning.specs.Runs.{Run, ◌>>=◌, pure, or_trap, scalar, write}
 use Rattle.xmp_meaning.specs.Context.{Context}
-use Rattle.xmp_meaning.specs.Calls.{call_of, main_context, frame}
-use Rattle.xmp_meaning.specs.Expressions.{Element, each, expr_of, expr_step, access_step}
+use Rattle.xmp_meaning.specs.Calls.{main_context}
+use Rattle.xmp_meaning.specs.Expressions.{each, expr_of}
 use Rattle.xmp_meaning.specs.Formats.{pieces_of, printed}
 use Rattle.xmp_meaning.specs.Loops.{then_run, block, while_loop, holds}
-use Rattle.xmp_meaning.specs.Directives.{TaskRun, erased}
-use Rattle.xmp_meaning.specs.Statements.{stmt_of, plain_of, stmt_step, task_step}
-use Rattle.xmp_meaning.specs.Programs.{serial, program, beginning, outcome_of}
+use Rattle.xmp_meaning.specs.Directives.{erased}
+use Rattle.xmp_meaning.specs.Statements.{stmt_of}
+use Rattle.xmp_meaning.specs.Programs.{serial, beginning, outcome_of}
 use Rattle.xmp_meaning.specs.Assignments.{store}
 use Rattle.xmp_meaning.specs.declared.location.Location.TheVariants as location
 use Rattle.xmp_prog.specs.declared.statements.Plain.TheVariants as plain

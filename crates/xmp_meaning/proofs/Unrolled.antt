@@ -1,29 +1,26 @@
 -- An uncounted loop is a test, a turn and the loop again.
-use Rattle.std.proofs.Common.{◌≡◌, ◌≤◌, ◌<◌, ℕ, zero, suc, ℤ, not, Bool, true, false, List, [], ◌∷◌, refl, sym, ap, ◌∙◌, arith}
+use Rattle.std.proofs.Common.{◌≡◌, ◌≤◌, ◌<◌, ℕ, zero, suc, ℤ, not, Bool, true, false, List, refl, arith}
 use Rattle.xmp_prog.specs.declared.parts.ProgParts.{ProgParts}
 use Rattle.xmp_prog.specs.declared.expressions.Expr.{Expr}
 use Rattle.xmp_prog.specs.declared.statements.Stmt.{Stmt}
-use Rattle.xmp_meaning.specs.declared.ends.End.{End}
 use Rattle.xmp_meaning.specs.declared.ends.Flow.{Flow}
 use Rattle.xmp_meaning.specs.declared.ends.Flow.TheVariants.{Next, Returned}
-use Rattle.xmp_meaning.specs.Runs.{State, Step, Gave, Ended, Run, and_then, ◌>>=◌, pure, step_of, take_step}
+use Rattle.xmp_meaning.specs.Runs.{State, Step, Gave, Ended, Run, and_then, ◌>>=◌, pure, step_of, state_of}
 use Rattle.xmp_meaning.specs.Context.{Context}
 use Rattle.xmp_meaning.specs.Expressions.{expr_of, is_zero}
 use Rattle.xmp_meaning.specs.Loops.{after, then_run, choose, turns, turn, while_loop, holds}
 use Rattle.xmp_meaning.specs.Directives.{erased}
 use Rattle.xmp_meaning.specs.Statements.{stmt_of}
 use Rattle.xmp_meaning.specs.Calls.{context}
-use Rattle.xmp_meaning.specs.Exchanges.{state_of}
 use Rattle.xmp_meaning.specs.Writes.{scalars_written, arrays_written}
 use Rattle.xmp_meaning.specs.Laws.{LoopUnrolls}
 use Rattle.xmp_meaning.proofs.RelatedExpressions.{keeps-expr}
 use Rattle.xmp_meaning.proofs.RelatedStatements.{keeps-stmt}
 use Rattle.xmp_meaning.proofs.Stays.{all_any}
-use Rattle.xmp_meaning.proofs.MoreSteps.{Rich, CallsRichly, richly, richly_erased, calls_richly}
+use Rattle.xmp_meaning.proofs.MoreSteps.{CallsRichly, richly, richly_erased, calls_richly}
 
 module _ {X : Type 0} (test : Run X Bool) (body : Run X Flow)
     (h : (s : State X) → (state_of (test s)).steps ≤ s.steps) (i : (s : State X) → (state_of (body s)).steps ≤ s.steps) where
-
   -- the bound is of no account where it is above the steps that are left
   abbrev Alike : ℕ → ℕ → Type 0
   Alike n m = (s : State X) → s.steps < n → s.steps < m → turns n test (turn body) s ≡ turns m test (turn body) s
@@ -36,14 +33,14 @@ module _ {X : Type 0} (test : Run X Bool) (body : Run X Flow)
 
   after_test : (n m left : ℕ) → Alike n m → (s : State X) → left ≤ n → left ≤ m
       → and_then (and_then (step_of left s) (λ u. body)) (λ flow. after flow (turns n test (turn body)))
-          ≡ and_then (and_then (step_of left s) (λ u. body)) (λ flow. after flow (turns m test (turn body)))
+      ≡ and_then (and_then (step_of left s) (λ u. body)) (λ flow. after flow (turns m test (turn body)))
   after_test n m zero rest s ln lm = refl
   after_test n m (suc left) rest s ln lm =
       after_body n m left rest ln lm (body (record s { steps = left })) (i (record s { steps = left }))
 
   at_test : (n m most : ℕ) → Alike n m → most ≤ n → most ≤ m → (r : Step X Bool) → (state_of r).steps ≤ most
       → and_then r (λ more. choose more (then_run (turn body) (turns n test (turn body))) (pure Next))
-          ≡ and_then r (λ more. choose more (then_run (turn body) (turns m test (turn body))) (pure Next))
+      ≡ and_then r (λ more. choose more (then_run (turn body) (turns m test (turn body))) (pure Next))
   at_test n m most rest ln lm (Gave true t) le = after_test n m t.steps rest t (omega (arith, ln, le)) (omega (arith, lm, le))
   at_test n m most rest ln lm (Gave false t) le = refl
   at_test n m most rest ln lm (Ended e t) le = refl
@@ -61,13 +58,13 @@ module _ {X : Type 0} (test : Run X Bool) (body : Run X Flow)
 
   loop_step : (n left : ℕ) (s : State X) → left ≤ n
       → and_then (and_then (step_of left s) (λ u. body)) (λ flow. after flow (turns n test (turn body)))
-          ≡ and_then (and_then (step_of left s) (λ u. body)) (λ flow. after flow (while_loop test body))
+      ≡ and_then (and_then (step_of left s) (λ u. body)) (λ flow. after flow (while_loop test body))
   loop_step n zero s ln = refl
   loop_step n (suc left) s ln = loop_after n left ln (body (record s { steps = left })) (i (record s { steps = left }))
 
   loop_test : (n : ℕ) (r : Step X Bool) → (state_of r).steps ≤ n
       → and_then r (λ more. choose more (then_run (turn body) (turns n test (turn body))) (pure Next))
-          ≡ and_then r (λ more. choose more (then_run (turn body) (while_loop test body)) (pure Next))
+      ≡ and_then r (λ more. choose more (then_run (turn body) (while_loop test body)) (pure Next))
   loop_test n (Gave true t) le = loop_step n t.steps t le
   loop_test n (Gave false t) le = refl
   loop_test n (Ended e t) le = refl
@@ -83,8 +80,10 @@ loop_unrolls X p node input n e body = unrolled (holds (expr_of cx e)) (stmt_of 
   where
     cx : Context
     cx = context p node input n
+
     calls : CallsRichly 0 cx
     calls = calls_richly 0 p node input n
+
     condition : (s : State X) (r : Step X ℤ) → (state_of r).steps ≤ s.steps → (state_of (and_then r (λ v. pure (not (is_zero v))))).steps ≤ s.steps
     condition s (Gave v t) le = le
     condition s (Ended e t) le = le

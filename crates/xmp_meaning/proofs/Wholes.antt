@@ -1,5 +1,5 @@
 -- The part of a node that owns every iteration is the whole loop.
-use Rattle.std.proofs.Common.{◌≡◌, ℕ, zero, suc, ℤ, Bool, true, false, List, [], ◌∷◌, refl, sym, ap, ◌∙◌}
+use Rattle.std.proofs.Common.{◌≡◌, suc, Bool, true, List, [], ◌∷◌, refl, ap, ◌∙◌}
 use Rattle.xmp_prog.specs.declared.parts.ProgParts.{ProgParts}
 use Rattle.xmp_prog.specs.declared.statements.LoopDirective.{LoopDirective}
 use Rattle.xmp_prog.specs.declared.statements.Reduction.{Reduction}
@@ -8,9 +8,9 @@ use Rattle.xmp_meaning.specs.declared.ends.Flow.TheVariants.{Next}
 use Rattle.xmp_meaning.specs.Runs.{State, Step, Gave, Ended, Run, and_then, ◌>>=◌, pure, take_step}
 use Rattle.xmp_meaning.specs.Context.{Context}
 use Rattle.xmp_meaning.specs.Loops.{choose, turn, nest}
-use Rattle.xmp_meaning.specs.Parts.{begin, only, owns_iteration, part_of}
+use Rattle.xmp_meaning.specs.Parts.{begin, only, owns_iteration}
 use Rattle.xmp_prog.specs.Statements.{indices_of}
-use Rattle.xmp_meaning.specs.Laws.{PartIsWhole, OwnsAll}
+use Rattle.xmp_meaning.specs.Laws.{PartIsWhole}
 use Rattle.xmp_meaning.proofs.Keeps.{Joins, Keeps, turns_kept}
 use Rattle.xmp_meaning.proofs.RelatedStatements.{keeps-nest}
 use Rattle.xmp_meaning.proofs.Stays.{Any, all_any}
@@ -45,7 +45,7 @@ module _ {X : Type 0} where
     calls = λ k vs s. refl;
     loops = λ {test} {test'} {body} {body'} h i s.
         turns_kept same_joins {test = test} {test' = test'} {body = turn body} {body' = turn body'} (suc s.steps) h
-            (same_on take_step take_step (λ u. body) (λ u. body') (λ t. refl) (λ u. i)) s;
+        (same_on take_step take_step (λ u. body) (λ u. body') (λ t. refl) (λ u. i)) s;
   }
 
   only_all : (test : State X → Bool) (body : Run X Flow) → ((s : State X) → test s ≡ true) → Same Flow (only test body) body

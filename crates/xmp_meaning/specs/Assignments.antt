@@ -1,6 +1,5 @@
 -- Assignments, declarations and inputs (ISO C11 6.5.16 and 7.21.6.2; that all variables start at 0 is this project's).
-use Rattle.std.specs.Prelude.{ℕ, List, [], ◌∷◌, ℤ, pos, Option, Some, None}
-use Rattle.xmp_base.specs.declared.place.Place.{Place}
+use Rattle.std.specs.Prelude.{ℕ, ℤ, pos, Option, Some, None}
 use Rattle.xmp_num.specs.declared.types.Ty.{Ty}
 use Rattle.xmp_num.specs.Arithmetic.{binary_of, wrap}
 use Rattle.xmp_num.specs.Decimal.{scan_of}
@@ -12,8 +11,8 @@ use Rattle.xmp_prog.specs.declared.statements.Target.TheVariants as target
 use Rattle.xmp_meaning.specs.declared.location.Location.{Location}
 use Rattle.xmp_meaning.specs.declared.location.Location.TheVariants as location
 use Rattle.xmp_meaning.specs.declared.ends.Flow.{Flow}
-use Rattle.xmp_meaning.specs.declared.ends.Flow.TheVariants.{Next, Returned}
-use Rattle.xmp_meaning.specs.Runs.{Run, ◌>>=◌, ◌>>◌, pure, or_trap, scalar, set_scalar, cell, set_cell, taken, set_taken}
+use Rattle.xmp_meaning.specs.declared.ends.Flow.TheVariants.{Next}
+use Rattle.xmp_meaning.specs.Runs.{Run, ◌>>=◌, pure, or_trap, scalar, set_scalar, cell, set_cell, taken, set_taken}
 use Rattle.xmp_meaning.specs.Context.{Context, scalar_type, array_type}
 use Rattle.xmp_meaning.specs.Expressions.{expr_of, cell_of}
 
@@ -54,6 +53,7 @@ assign cx compound e l = do
   _ ← store cx l v
   pure Next
 
+-- the initialiser where there is one, converted to its variable's type
 abbrev pub initialise : {X : Type 0} → Context → ℕ → Option Expr → Run X Flow
 initialise cx slot None = pure Next
 initialise cx slot (Some e) = do

@@ -1,7 +1,6 @@
 -- A node by itself: it goes through the program on its own store. At an exchange it says what it has to say, and takes what the others say
 -- from a list that it is fed with (this project).
-use Rattle.std.specs.Prelude.{ℕ, zero, suc, ◌==◌, ◌&&◌, not, if◌then◌else◌, Bool, true, false, List, [], ◌∷◌, ◌++◌, map, length, ℤ, pos, Option, Some, None, unwrap_or, slice_get, slice_set, int_lt}
-use Rattle.std.specs.List.{range_with_len}
+use Rattle.std.specs.Prelude.{ℕ, suc, ◌==◌, ◌&&◌, not, if◌then◌else◌, Bool, true, false, List, [], ◌∷◌, ◌++◌, map, ℤ, Option, Some, None, slice_get, slice_set, int_lt}
 use Rattle.std.specs.Ordering.{int_eq}
 use Rattle.xmp_num.specs.Reduction.{combine_of, unit_of}
 use Rattle.xmp_map.specs.declared.grid.NodeSet.{NodeSet}
@@ -20,20 +19,21 @@ use Rattle.xmp_prog.specs.declared.statements.MoveSide.TheVariants as side
 use Rattle.xmp_meaning.specs.declared.ends.End.{End}
 use Rattle.xmp_meaning.specs.declared.ends.Flow.{Flow}
 use Rattle.xmp_meaning.specs.declared.ends.Flow.TheVariants.{Next}
-use Rattle.xmp_meaning.specs.Runs.{State, Step, Gave, Ended, Run, ◌>>=◌, ◌>>◌, pure, set_scalar}
+use Rattle.xmp_meaning.specs.Runs.{Step, Gave, Ended, Run, ◌>>=◌, pure, set_scalar, end_of, state_of}
 use Rattle.xmp_meaning.specs.Cells.{row_in}
 use Rattle.xmp_meaning.specs.Context.{scalar_type}
 use Rattle.xmp_meaning.specs.Loops.{then_run, block}
 use Rattle.xmp_meaning.specs.Sections.{Move, name_of}
 use Rattle.xmp_meaning.specs.Directives.{Directives, TaskRun}
 use Rattle.xmp_meaning.specs.Parts.{part_of, only}
-use Rattle.xmp_meaning.specs.Exchanges.{PartEnd, Whole, Stopped, TaskEnd, Exchange, AtBarrier, Broadcast, Reflected, Moved, LoopEnd, TasksEnd, values_of, part_end, end_of, state_of, unprinted}
+use Rattle.xmp_meaning.specs.Exchanges.{PartEnd, Whole, Stopped, TaskEnd, Exchange, AtBarrier, Broadcast, Reflected, Moved, LoopEnd, TasksEnd, values_of, part_end, unprinted}
 
 -- what is said at the exchanges still to come, and what this node said so far, each from its own store
 pub record Talk : Type 0 where
   pub feed : List Exchange
   pub said : List Exchange
 
+-- what is said at the next exchange, and what is said later
 abbrev pub first_said : List Exchange → Exchange
 first_said [] = AtBarrier
 first_said (x ∷ xs) = x
@@ -42,6 +42,7 @@ abbrev pub later_said : List Exchange → List Exchange
 later_said [] = []
 later_said (x ∷ xs) = xs
 
+-- the node says this, and what is said here is taken
 abbrev pub talked : Exchange → Talk → Talk
 talked own t = record { feed = later_said t.feed; said = t.said ++ own ∷ [] }
 
@@ -61,11 +62,13 @@ abbrev pub home_of_array : Option Array → Home
 home_of_array None = home.Copy
 home_of_array (Some a) = a.home
 
+-- where an array lies
 abbrev pub home_of : ProgParts → ℕ → Home
 home_of p array = home_of_array (slice_get p.arrays array)
 
 -- ---- bcast and reflect
 
+-- the values that an exchange carries
 abbrev pub values_said : Exchange → List ℤ
 values_said (Broadcast from vs) = vs
 values_said (Reflected array cells) = cells
@@ -80,10 +83,11 @@ set_all (n ∷ ns) (v ∷ vs) = do
 set_all [] vs = pure Next
 set_all (n ∷ ns) [] = pure Next
 
+-- the source keeps its values, the others take what is said
 abbrev pub bcast_at : ProgParts → ℕ → List Name → NodeSet → Run Talk Flow
 bcast_at p node variables from = λ s.
     exchange (Broadcast from (values_of s (map (λ v. v.number) variables)))
-        (λ x. if is_member p node from then pure Next else set_all variables (values_said x)) s
+    (λ x. if is_member p node from then pure Next else set_all variables (values_said x)) s
 
 -- whether a node holds a copy of another node's cell
 abbrev pub is_copy : Home → ℕ → ℕ → Bool
@@ -96,12 +100,15 @@ with_copies copies at [] said = []
 with_copies copies at (v ∷ vs) [] = v ∷ vs
 with_copies copies at (v ∷ vs) (c ∷ cs) = (if copies at then c else v) ∷ with_copies copies (suc at) vs cs
 
+-- one exchange for each array, in order: the copies of other nodes' cells take what is said
 abbrev pub reflect_at : ProgParts → ℕ → List Name → Run Talk Flow
 reflect_at p node [] = pure Next
 reflect_at p node (a ∷ all) = then_run
     (λ s. exchange (Reflected a.number (row_in s.arrays a.number))
-        (λ x t. Gave Next (record t { arrays = slice_set t.arrays a.number
-            (with_copies (is_copy (home_of p a.number) node) 0 (row_in t.arrays a.number) (values_said x)) })) s)
+    (λ x t. Gave Next (record t {
+      arrays = slice_set t.arrays a.number
+          (with_copies (is_copy (home_of p a.number) node) 0 (row_in t.arrays a.number) (values_said x));
+    })) s)
     (reflect_at p node all)
 
 -- ---- gmove
@@ -111,6 +118,7 @@ abbrev pub stores_cell : Home → ℕ → ℕ → Bool
 stores_cell (home.Spread t m) node at = held.owns m node (unravel (held.extents m) at)
 stores_cell _ node at = true
 
+-- the same for a side of a gmove
 abbrev pub stores : ProgParts → ℕ → MoveSide → ℕ → Bool
 stores p node (side.Scalar name) at = true
 stores p node (side.Array name parts) at = stores_cell (home_of p name.number) node at
@@ -132,14 +140,17 @@ abbrev pub move_kept : ProgParts → ℕ → MoveSide → MoveSide → Move → 
 move_kept p node target source own x =
     kept (stores p node target) own.targets (if is_spread (home_of p (name_of source).number) then values_said x else own.values)
 
+-- what it does when the values are said
 abbrev pub gmove_heard : ProgParts → ℕ → MoveSide → MoveSide → (Move → Run Talk Flow) → Move → Exchange → Run Talk Flow
 gmove_heard p node target source written own x = written (move_kept p node target source own x)
 
+-- a node finds what is moved by itself, and says it
 abbrev pub gmove_at : ProgParts → ℕ → MoveSide → MoveSide → Run Talk Move → (Move → Run Talk Flow) → Run Talk Flow
 gmove_at p node target source move written = move >>= (λ own. exchange (Moved own) (gmove_heard p node target source written own))
 
 -- ---- the end of a loop directive
 
+-- the ends of the parts, by node
 abbrev pub parts_said : Exchange → List PartEnd
 parts_said (LoopEnd ends) = ends
 parts_said x = []
@@ -157,16 +168,19 @@ combined p [] vs bs = []
 combined p (r ∷ rs) [] bs = []
 combined p (r ∷ rs) (a ∷ vs) [] = []
 
+-- two ends joined: the values combined; or else the end of the iteration that comes first
 abbrev pub joined : ProgParts → List Reduction → PartEnd → PartEnd → PartEnd
 joined p rs (Whole vs) (Whole bs) = Whole (combined p rs vs bs)
 joined p rs (Whole vs) (Stopped e at) = Stopped e at
 joined p rs (Stopped e at) (Whole bs) = Stopped e at
 joined p rs (Stopped e at) (Stopped f to) = if comes_before to at then Stopped f to else Stopped e at
 
+-- the same of all, in the order of the nodes
 abbrev pub all_joined : ProgParts → List Reduction → PartEnd → List PartEnd → PartEnd
 all_joined p rs so_far [] = so_far
 all_joined p rs so_far (e ∷ es) = all_joined p rs (joined p rs so_far e) es
 
+-- the values that no part has changed
 abbrev pub units : ProgParts → List Reduction → List ℤ
 units p rs = map (λ r. unit_of r.op (scalar_type p r.variable.number)) rs
 
@@ -180,6 +194,7 @@ abbrev pub loop_heard : ProgParts → ℕ → LoopDirective → PartEnd → Exch
 loop_heard p node directive own x =
     closed directive.reductions (all_joined p directive.reductions (Whole (units p directive.reductions)) (slice_set (parts_said x) node own))
 
+-- a node runs its own part, says how it ended, and goes on from its own state
 abbrev pub loop_at : ProgParts → ℕ → LoopDirective → (Run Talk Flow → Run Talk Flow) → Run Talk Flow → Run Talk Flow
 loop_at p node directive around body = λ s.
     let step = part_of p directive node around body s in
@@ -188,6 +203,7 @@ loop_at p node directive around body = λ s.
 
 -- ---- the end of tasks
 
+-- the ends of the tasks, in the order of the text
 abbrev pub tasks_said : Exchange → List TaskEnd
 tasks_said (TasksEnd ends) = ends
 tasks_said x = []
@@ -209,6 +225,7 @@ abbrev pub or_later : Option End → Option End → Option End
 or_later None later = later
 or_later (Some e) later = Some e
 
+-- the end of the first task that ended early
 abbrev pub first_end : List TaskEnd → Option End
 first_end [] = None
 first_end (x ∷ xs) = or_later x.ended (first_end xs)
@@ -217,10 +234,12 @@ abbrev pub up_to_end : Option End → List ℕ → List ℕ → List ℕ
 up_to_end None text later = text ++ later
 up_to_end (Some e) text later = text
 
+-- the texts of the tasks up to that one
 abbrev pub texts : List TaskEnd → List ℕ
 texts [] = []
 texts (x ∷ xs) = up_to_end x.ended x.text (texts xs)
 
+-- the run ends so, or goes on
 abbrev pub ending : Option End → Run Talk Flow
 ending None = pure Next
 ending (Some e) = λ s. Ended e s
@@ -235,12 +254,14 @@ tasks_heard p node own before x = λ s.
 abbrev pub own_tasks : ProgParts → ℕ → List (TaskRun Talk) → Run Talk Flow
 own_tasks p node all = block (map (λ t. only (λ s. is_member p node t.nodes) t.run) all)
 
+-- a node runs its own task with nothing printed, says how it ended, and goes on as the leaders say
 abbrev pub tasks_at : ProgParts → ℕ → List (TaskRun Talk) → Run Talk Flow
 tasks_at p node all = λ s.
     let step = own_tasks p node all (unprinted s) in
     let own = map (own_end p node step) all in
     exchange (TasksEnd own) (tasks_heard p node own s.out) (state_of step)
 
+-- the handlers of a node
 abbrev pub at_node : ProgParts → ℕ → Directives Talk
 at_node p node = record {
   loop = loop_at p node;

@@ -1,11 +1,11 @@
 -- Calls of functions (ISO C11 6.5.2.2; that a function's scalars begin at 0 and that one which reaches its end returns 0 is this project's).
-use Rattle.std.specs.Prelude.{ℕ, zero, suc, ◌==◌, if◌then◌else◌, List, [], ◌∷◌, length, map, replicate, ℤ, pos, Option, Some, None, slice_get}
+use Rattle.std.specs.Prelude.{ℕ, zero, suc, ◌==◌, if◌then◌else◌, List, [], ◌∷◌, length, replicate, ℤ, pos, Option, Some, None, slice_get}
 use Rattle.xmp_num.specs.Arithmetic.{wrap}
 use Rattle.xmp_prog.specs.declared.parts.ProgParts.{ProgParts}
 use Rattle.xmp_prog.specs.declared.parts.Function.{Function}
 use Rattle.xmp_meaning.specs.declared.ends.Flow.{Flow}
 use Rattle.xmp_meaning.specs.declared.ends.Flow.TheVariants.{Next, Returned}
-use Rattle.xmp_meaning.specs.Runs.{State, Step, Gave, Ended, Run, ◌>>=◌, ◌>>◌, pure, set_scalar}
+use Rattle.xmp_meaning.specs.Runs.{State, Step, Gave, Run, ◌>>=◌, pure, set_scalar}
 use Rattle.xmp_meaning.specs.Context.{Context, scalar_type}
 use Rattle.xmp_meaning.specs.Directives.{erased}
 use Rattle.xmp_meaning.specs.Statements.{stmt_of}
@@ -34,6 +34,7 @@ invoke cx f vs = do
   flow ← stmt_of erased cx f.body
   pure (wrap f.result (returned flow))
 
+-- the same of a function by its number; a number that names none gives 0
 abbrev pub invoke_some : Context → Option Function → List ℤ → Run (Unit {0}) ℤ
 invoke_some cx None vs = pure (pos 0)
 invoke_some cx (Some f) vs = invoke cx f vs

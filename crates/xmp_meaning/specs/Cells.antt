@@ -1,5 +1,5 @@
 -- Cells of arrays, each array a row of cells.
-use Rattle.std.specs.Prelude.{ℕ, List, [], ◌∷◌, ℤ, pos, Option, Some, None, unwrap_or, slice_get, slice_set}
+use Rattle.std.specs.Prelude.{ℕ, List, [], ℤ, pos, unwrap_or, slice_get, slice_set}
 
 -- a row by its number; there is none outside
 abbrev pub row_in : List (List ℤ) → ℕ → List ℤ

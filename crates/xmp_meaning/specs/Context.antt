@@ -1,5 +1,5 @@
 -- What a run is read against.
-use Rattle.std.specs.Prelude.{ℕ, List, [], ℤ, Option, Some, None, slice_get, unwrap_or, Bool, true, false, map}
+use Rattle.std.specs.Prelude.{ℕ, List, [], ℤ, Option, Some, None, slice_get, unwrap_or, Bool, false}
 use Rattle.xmp_num.specs.declared.types.Ty.{Ty}
 use Rattle.xmp_num.specs.declared.types.Ty.TheVariants.{Long}
 use Rattle.xmp_prog.specs.declared.parts.ProgParts.{ProgParts}

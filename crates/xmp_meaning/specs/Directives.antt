@@ -1,5 +1,5 @@
 -- What directives do: an argument of the meaning of statements. A handler for each says what it does at a run of some kind.
-use Rattle.std.specs.Prelude.{ℕ, List, [], ◌∷◌, map}
+use Rattle.std.specs.Prelude.{List, map}
 use Rattle.xmp_base.specs.declared.place.Place.{Place}
 use Rattle.xmp_map.specs.declared.grid.NodeSet.{NodeSet}
 use Rattle.xmp_prog.specs.declared.statements.Name.{Name}
@@ -7,7 +7,7 @@ use Rattle.xmp_prog.specs.declared.statements.LoopDirective.{LoopDirective}
 use Rattle.xmp_prog.specs.declared.statements.MoveSide.{MoveSide}
 use Rattle.xmp_meaning.specs.declared.ends.Flow.{Flow}
 use Rattle.xmp_meaning.specs.declared.ends.Flow.TheVariants.{Next}
-use Rattle.xmp_meaning.specs.Runs.{Run, ◌>>=◌, ◌>>◌, pure}
+use Rattle.xmp_meaning.specs.Runs.{Run, ◌>>=◌, pure}
 use Rattle.xmp_meaning.specs.Loops.{block}
 use Rattle.xmp_meaning.specs.Sections.{Move}
 

@@ -1,5 +1,5 @@
 -- Small programs, and what they come to.
-use Rattle.std.specs.Prelude.{ℕ, false, List, [], ◌∷◌, ℤ, pos, Option, Some, None}
+use Rattle.std.specs.Prelude.{ℕ, List, [], ◌∷◌, pos, Some}
 use Rattle.xmp_base.specs.declared.place.Place.{Place}
 use Rattle.xmp_num.specs.declared.types.Ty.TheVariants.{Int}
 use Rattle.xmp_num.specs.declared.types.BinOp.TheVariants as op
@@ -16,8 +16,17 @@ use Rattle.xmp_prog.specs.declared.parts.ProgParts.{ProgParts}
 -- a program over scalars alone
 abbrev pub over_scalars : Grid → List Stmt → ProgParts
 over_scalars grid body = record {
-    grid = grid; kind = Global; scalars = Int ∷ []; arrays = []; templates = []; functions = []; start = []; body = stmt.Block body }
+  grid = grid;
+  kind = Global;
+  scalars = Int ∷ [];
+  arrays = [];
+  templates = [];
+  functions = [];
+  start = [];
+  body = stmt.Block body;
+}
 
+-- a constant
 abbrev pub number : ℕ → Expr
 number n = expr.Const (pos n) Int
 

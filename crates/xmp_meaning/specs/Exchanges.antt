@@ -1,16 +1,14 @@
 -- The exchanges of a run: what the nodes say to each other at its directives (this project).
-use Rattle.std.specs.Prelude.{ℕ, ◌+◌, List, [], ◌∷◌, ◌++◌, map, ℤ, pos, Option, Some, None, unwrap_or, slice_get}
+use Rattle.std.specs.Prelude.{ℕ, List, [], ◌∷◌, ◌++◌, map, ℤ, pos, Option, unwrap_or, slice_get}
 use Rattle.std.specs.List.{range_with_len}
 use Rattle.xmp_map.specs.declared.grid.NodeSet.{NodeSet}
 use Rattle.xmp_prog.specs.declared.parts.ProgParts.{ProgParts}
 use Rattle.xmp_prog.specs.declared.statements.Name.{Name}
-use Rattle.xmp_prog.specs.declared.statements.LoopHead.{LoopHead}
 use Rattle.xmp_prog.specs.declared.statements.LoopDirective.{LoopDirective}
-use Rattle.xmp_prog.specs.declared.statements.Reduction.{Reduction}
 use Rattle.xmp_meaning.specs.declared.ends.End.{End}
 use Rattle.xmp_meaning.specs.declared.ends.Flow.{Flow}
 use Rattle.xmp_meaning.specs.declared.ends.Flow.TheVariants.{Next}
-use Rattle.xmp_meaning.specs.Runs.{State, Step, Gave, Ended, Run, ◌>>=◌, ◌>>◌, pure}
+use Rattle.xmp_meaning.specs.Runs.{State, Step, Gave, Ended, Run, ◌>>=◌, pure, end_of, state_of}
 use Rattle.xmp_meaning.specs.Cells.{row_in}
 use Rattle.xmp_prog.specs.Fits.{node_count}
 use Rattle.xmp_meaning.specs.Loops.{then_run, block}
@@ -45,22 +43,16 @@ values_of s slots = map (λ slot. unwrap_or (slice_get s.scalars slot) (pos 0)) 
 
 -- ---- ends of parts and tasks
 
+-- how a part ended
 abbrev pub part_end : {X : Type 0} → LoopDirective → Step X Flow → PartEnd
 part_end directive (Gave flow s) = Whole (values_of s (map (λ r. r.variable.number) directive.reductions))
 part_end directive (Ended e s) = Stopped e (values_of s (map (λ head. head.index.number) directive.nest))
-
-abbrev pub end_of : {X A : Type 0} → Step X A → Option End
-end_of (Gave a s) = None
-end_of (Ended e s) = Some e
-
-abbrev pub state_of : {X A : Type 0} → Step X A → State X
-state_of (Gave a s) = s
-state_of (Ended e s) = s
 
 -- with nothing printed so far
 abbrev pub unprinted : {X : Type 0} → State X → State X
 unprinted s = record s { out = [] }
 
+-- how a task ends from this state with nothing printed
 abbrev pub task_end : {X : Type 0} → State X → TaskRun X → TaskEnd
 task_end s t =
     let step = t.run (unprinted s) in record { nodes = t.nodes; ended = end_of step; text = (state_of step).out }
@@ -71,13 +63,16 @@ part_ends p directive around body s = map (λ node. part_end directive (part_of 
 
 -- ---- the run that notes each exchange: the serial run, with the values that are said, in the order in which it comes to them
 
+-- one exchange more
 abbrev pub note : Exchange → Run (List Exchange) Flow
 note x = λ s. Gave Next (record s { extra = s.extra ++ x ∷ [] })
 
+-- one exchange for each array, in order
 abbrev pub note_arrays : List Name → Run (List Exchange) Flow
 note_arrays [] = pure Next
 note_arrays (a ∷ all) = then_run (λ s. note (Reflected a.number (row_in s.arrays a.number)) s) (note_arrays all)
 
+-- the handlers that note what is said, and then do what the serial run does
 abbrev pub traced : ProgParts → Directives (List Exchange)
 traced p = record {
   loop = λ directive around body. then_run (λ s. note (LoopEnd (part_ends p directive around body s)) s) (around body);

@@ -4,15 +4,15 @@ use Rattle.xmp_base.specs.declared.place.Place.{Place}
 use Rattle.xmp_num.specs.declared.types.TrapKind.TheVariants.{Subscript}
 use Rattle.xmp_num.specs.Arithmetic.{binary_of, wrap}
 use Rattle.xmp_map.specs.RowMajor.{product}
-use Rattle.xmp_prog.specs.declared.parts.ProgParts.{ProgParts}
 use Rattle.xmp_prog.specs.declared.expressions.Expr.{Expr}
 use Rattle.xmp_prog.specs.declared.expressions.Expr.TheOpen.{Expr-F, Access-F}
 use Rattle.xmp_prog.specs.declared.expressions.Expr.TheFolds.{fold-Expr, fold-Access}
 use Rattle.xmp_prog.specs.declared.expressions.Access.{Access}
-use Rattle.xmp_meaning.specs.Runs.{State, Step, Gave, Ended, Run, ◌>>=◌, ◌>>◌, pure, trap, or_trap, scalar, cell}
+use Rattle.xmp_meaning.specs.Runs.{State, Step, Gave, Ended, Run, ◌>>=◌, pure, trap, or_trap, scalar, cell}
 use Rattle.xmp_meaning.specs.Context.{Context, extents, is_coarray}
 use Rattle.xmp_prog.specs.Fits.{node_count}
 
+-- a value that is 0
 abbrev pub is_zero : ℤ → Bool
 is_zero (pos zero) = true
 is_zero (pos (suc n)) = false
@@ -34,6 +34,7 @@ abbrev pub within : ℤ → ℕ → Option ℕ
 within (pos x) extent = if nat_lt x extent then Some x else None
 within (negsuc x) extent = None
 
+-- a subscript, or the trap at the array's name
 abbrev pub or_subscript : {X : Type 0} → Option ℕ → Place → Run X ℕ
 or_subscript (Some x) at = pure x
 or_subscript None at = trap Subscript at
@@ -63,11 +64,15 @@ pub record Element (X : Type 0) : Type 0 where
 abbrev pub in_image : Context → ℕ → ℕ → ℕ → ℕ
 in_image cx array x image = image * product (extents cx.program array) + x
 
+-- the subscripts from left to right, and then the image
 abbrev pub access_step : {X : Type 0} → Context → Access-F (Run X ℤ) (Element X) → Element X
-access_step cx a = record { array = a.array; number = do
-  x ← cell_number a.subscripts (extents cx.program a.array) a.at 0
-  image ← image_of cx a.array a.image
-  pure (in_image cx a.array x image) }
+access_step cx a = record {
+  array = a.array;
+  number = do
+    x ← cell_number a.subscripts (extents cx.program a.array) a.at 0
+    image ← image_of cx a.array a.image
+    pure (in_image cx a.array x image);
+}
 
 -- ---- expressions
 
@@ -83,6 +88,7 @@ abbrev pub after_call : {X : Type 0} → State X → Step (Unit {0}) ℤ → Ste
 after_call s (Gave v t) = Gave v (record s { steps = t.steps })
 after_call s (Ended e t) = Ended e (record s { steps = t.steps })
 
+-- a call of a function by its number
 abbrev pub call : {X : Type 0} → Context → ℕ → List ℤ → Run X ℤ
 call cx function vs = λ s. after_call s (cx.call function vs s.steps)
 

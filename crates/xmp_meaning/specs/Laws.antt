@@ -1,7 +1,10 @@
 -- Laws of runs and of statements.
-use Rattle.std.specs.Prelude.{◌≡◌, ◌≢◌, ◌≤◌, ◌+◌, ◌++◌, ℕ, ℤ, Bool, true, false, List, [], ◌∷◌, length, drop, slice_get, Option, Some, None}
-use Rattle.std.specs.List.{AllByRecursion}
+use Rattle.std.specs.Prelude.{◌≡◌, ◌≢◌, ◌≤◌, ◌<◌, ◌↔◌, ◌+◌, ◌*◌, ◌++◌, ◌+ℤ◌, pos, zero, suc, ℕ, ℤ, Some, Bool, true, false, List, [], length, drop, IsTrue, slice_get, slice_set}
+use Rattle.std.specs.List.{list_all, flat_map}
 use Rattle.xmp_prog.specs.declared.parts.ProgParts.{ProgParts}
+use Rattle.xmp_num.specs.declared.types.Ty.TheVariants.{Int}
+use Rattle.xmp_num.specs.Arithmetic.{wrap}
+use Rattle.xmp_prog.specs.declared.statements.LoopHead.{LoopHead}
 use Rattle.xmp_prog.specs.declared.statements.LoopDirective.{LoopDirective}
 use Rattle.xmp_prog.specs.declared.statements.Stmt.{Stmt}
 use Rattle.xmp_meaning.specs.declared.ends.End.{End}
@@ -10,20 +13,21 @@ use Rattle.xmp_meaning.specs.declared.ends.Flow.{Flow}
 use Rattle.xmp_meaning.specs.declared.ends.Flow.TheVariants.{Next}
 use Rattle.xmp_meaning.specs.declared.outcome.Outcome.{Outcome}
 use Rattle.xmp_meaning.specs.declared.outcome.Outcome.TheVariants as outcome
-use Rattle.xmp_meaning.specs.Runs.{State, Step, Gave, Ended, Run, ◌>>=◌, pure}
+use Rattle.xmp_meaning.specs.Runs.{State, Step, Gave, Ended, Run, ◌>>=◌, pure, set_scalar, state_of}
 use Rattle.xmp_meaning.specs.Context.{Context}
 use Rattle.xmp_prog.specs.Fits.{node_count}
-use Rattle.xmp_meaning.specs.Expressions.{call}
-use Rattle.xmp_meaning.specs.Loops.{then_run, block, choose, turns, turn, while_loop, nest}
-use Rattle.xmp_meaning.specs.Directives.{Directives, erased}
+use Rattle.xmp_meaning.specs.Expressions.{call, expr_of}
+use Rattle.xmp_prog.specs.Formats.{Piece, spelling, is_piece}
+use Rattle.xmp_meaning.specs.Formats.{pieces_of}
+use Rattle.xmp_meaning.specs.Loops.{is_inside, inside, step_up, turn_count, then_run, block, choose, turns, turn, while_loop, nest}
+use Rattle.xmp_meaning.specs.Directives.{erased}
 use Rattle.xmp_meaning.specs.Statements.{stmt_of}
 use Rattle.xmp_meaning.specs.Calls.{main_context}
 use Rattle.xmp_meaning.specs.Programs.{beginning, program, outcome_of, serial}
-use Rattle.xmp_meaning.specs.Exchanges.{Exchange, state_of, traced}
+use Rattle.xmp_meaning.specs.Exchanges.{Exchange, traced}
 use Rattle.xmp_meaning.specs.Parts.{owns_iteration, part_of}
 use Rattle.xmp_meaning.specs.AtNode.{Talk}
 use Rattle.xmp_meaning.specs.Phases.{Memory, image_run, phases}
-use Rattle.xmp_meaning.specs.Writes.{scalars_written, arrays_written}
 
 -- one part, then two more, is two parts and then one more
 abbrev pub IsAssociative : (X A B C : Type 0) → Type 0
@@ -133,3 +137,43 @@ LoopUnrolls X test body = (s : State X)
 -- it takes from its feed as many exchanges as it says
 abbrev pub TakesAsItSays : State Talk → State Talk → Type 0
 TakesAsItSays s t = (new : List Exchange) × (t.extra.said ≡ s.extra.said ++ new) × (t.extra.feed ≡ drop (length new) s.extra.feed)
+
+-- ---- formats
+
+-- the pieces of a format are those that it is spelled of
+abbrev pub FormatsRead : Type 0
+FormatsRead = (pieces : List Piece) → IsTrue (list_all is_piece pieces) → pieces_of (flat_map spelling pieces) ≡ pieces
+
+-- ---- counted loops
+
+-- the turns of a counted loop are those whose index, in whole numbers, is inside the bound
+abbrev pub TurnsAreCounted : Type 0
+TurnsAreCounted = (from to : ℤ) (inclusive : Bool) (step k : ℕ) → 1 ≤ step
+    → (is_inside inclusive (from +ℤ pos (k * step)) to ≡ true) ↔ (k < turn_count from to inclusive step)
+
+-- so many turns with no test: each has the index's next value
+abbrev pub repeated : {X : Type 0} → LoopHead → ℕ → ℕ → ℤ → Run X Flow → Run X Flow
+repeated head zero k from body = pure Next
+repeated head (suc n) k from body = then_run body (do
+  _ ← set_scalar head.index.number (from +ℤ pos (suc k * head.step))
+  repeated head n (suc k) from body)
+
+-- What makes a loop counted, of its runs from the states that fit: its bound is read off a state and is `to` there; a turn keeps to states that
+-- fit, and leaves the index; so does another value of the index; and a step up from an index inside stays in the type.
+pub record IsCounted (X : Type 0) (cx : Context) (head : LoopHead) (body : Run X Flow) (fits : State X → Bool) (from to : ℤ) : Type 0 where
+  pub steps_up : 1 ≤ head.step
+  pub bound_is : (s : State X) → fits s ≡ true → expr_of cx head.to s ≡ Gave to s
+  pub turn_fits : (s t : State X) → fits s ≡ true → body s ≡ Gave Next t
+      → (fits t ≡ true) × (slice_get t.scalars head.index.number ≡ slice_get s.scalars head.index.number)
+  pub index_fits : (s : State X) (v : ℤ) → fits s ≡ true
+      → (fits (record s { scalars = slice_set s.scalars head.index.number v }) ≡ true)
+      × (slice_get (slice_set s.scalars head.index.number v) head.index.number ≡ Some v)
+  pub step_fits : (k : ℕ) → k < turn_count from (wrap Int to) head.inclusive head.step
+      → wrap Int ((from +ℤ pos (k * head.step)) +ℤ pos head.step) ≡ from +ℤ pos (suc k * head.step)
+
+-- the turns of a counted loop are those that are counted when it begins: no test fails before, and the index goes up by the step each time
+abbrev pub CountedTurns : (X : Type 0) → Type 0
+CountedTurns X = (cx : Context) (head : LoopHead) (body : Run X Flow) (fits : State X → Bool) (from to : ℤ) → IsCounted X cx head body fits from to
+    → (s : State X) → fits s ≡ true → slice_get s.scalars head.index.number ≡ Some from
+    → let n = turn_count from (wrap Int to) head.inclusive head.step in
+    turns n (inside cx head) (then_run body (step_up head)) s ≡ repeated head n 0 from body s

@@ -5,7 +5,7 @@ use Rattle.xmp_num.specs.Arithmetic.{wrap}
 use Rattle.xmp_prog.specs.declared.statements.LoopHead.{LoopHead}
 use Rattle.xmp_meaning.specs.declared.ends.Flow.{Flow}
 use Rattle.xmp_meaning.specs.declared.ends.Flow.TheVariants.{Next, Returned}
-use Rattle.xmp_meaning.specs.Runs.{Run, ◌>>=◌, ◌>>◌, pure, scalar, set_scalar, take_step}
+use Rattle.xmp_meaning.specs.Runs.{Run, ◌>>=◌, pure, scalar, set_scalar, take_step}
 use Rattle.xmp_meaning.specs.Context.{Context}
 use Rattle.xmp_meaning.specs.Expressions.{expr_of, is_zero, natural}
 
@@ -62,6 +62,7 @@ abbrev pub is_inside : Bool → ℤ → ℤ → Bool
 is_inside true i to = int_le i to
 is_inside false i to = int_lt i to
 
+-- the test of a counted loop, from the state as it is
 abbrev pub inside : {X : Type 0} → Context → LoopHead → Run X Bool
 inside cx head = do
   i ← scalar head.index.number

@@ -1,5 +1,5 @@
 -- The part of a node in a loop directive (XcalableMP 1.4, loop construct): the iterations whose point it owns.
-use Rattle.std.specs.Prelude.{ℕ, ◌==◌, if◌then◌else◌, Bool, true, false, List, [], ◌∷◌, map, ℤ, pos, ◌+ℤ◌, Option, Some, None, unwrap_or, slice_get}
+use Rattle.std.specs.Prelude.{ℕ, ◌==◌, if◌then◌else◌, Bool, false, List, [], ◌∷◌, map, ℤ, pos, ◌+ℤ◌, Option, Some, None, unwrap_or, slice_get}
 use Rattle.xmp_num.specs.Reduction.{unit_of}
 use Rattle.xmp_map.specs.declared.template.Template.{Template}
 use Rattle.xmp_map.specs.RowMajor.{unravel}
@@ -11,7 +11,7 @@ use Rattle.xmp_prog.specs.declared.statements.Point.TheVariants as point
 use Rattle.xmp_prog.specs.declared.statements.Reduction.{Reduction}
 use Rattle.xmp_meaning.specs.declared.ends.Flow.{Flow}
 use Rattle.xmp_meaning.specs.declared.ends.Flow.TheVariants.{Next}
-use Rattle.xmp_meaning.specs.Runs.{State, Run, ◌>>=◌, ◌>>◌, pure, set_scalar}
+use Rattle.xmp_meaning.specs.Runs.{State, Run, ◌>>=◌, pure, set_scalar}
 use Rattle.xmp_meaning.specs.Context.{scalar_type}
 use Rattle.xmp_meaning.specs.Loops.{choose}
 
@@ -20,6 +20,7 @@ abbrev pub coordinate : List ℤ → Point → ℤ
 coordinate scalars point.Any = pos 0
 coordinate scalars (point.Index slot offset) = unwrap_or (slice_get scalars slot) (pos 0) +ℤ offset
 
+-- whether a node owns a point of a template
 abbrev pub owns_coordinates : ProgParts → ℕ → Option Template → List ℤ → Bool
 owns_coordinates p node None at = false
 owns_coordinates p node (Some t) at = owns_point (unravel p.grid.sizes node) t.spread at

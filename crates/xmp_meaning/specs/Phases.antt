@@ -10,11 +10,10 @@ use Rattle.xmp_meaning.specs.declared.ends.Flow.{Flow}
 use Rattle.xmp_meaning.specs.declared.ends.Flow.TheVariants.{Next}
 use Rattle.xmp_meaning.specs.declared.outcome.Outcome.{Outcome}
 use Rattle.xmp_meaning.specs.declared.outcome.Outcome.TheVariants as outcome
-use Rattle.xmp_meaning.specs.Runs.{State, Step, Gave, Ended, Run, pure, stop}
+use Rattle.xmp_meaning.specs.Runs.{Step, Gave, Ended, Run, stop, state_of}
 use Rattle.xmp_prog.specs.Fits.{node_count}
 use Rattle.xmp_prog.specs.Tests.{is_image}
 use Rattle.xmp_meaning.specs.Directives.{Directives, erased}
-use Rattle.xmp_meaning.specs.Exchanges.{state_of}
 use Rattle.xmp_meaning.specs.Calls.{main_context}
 use Rattle.xmp_meaning.specs.Programs.{no_writes, beginning, program, told}
 
@@ -37,6 +36,7 @@ abbrev pub next_phase : ProgParts → List Memory → Run (List Memory) Flow
 next_phase p [] = stop PhaseEnd
 next_phase p (m ∷ ms) = λ s. Gave Next (record s { arrays = with_coarrays p.arrays m s.arrays; out = []; extra = ms })
 
+-- the handlers of an image: `xmp_sync_all` alone does something
 abbrev pub at_image : ProgParts → Directives (List Memory)
 at_image p = record erased { sync = λ s. next_phase p s.extra s }
 
@@ -44,6 +44,7 @@ at_image p = record erased { sync = λ s. next_phase p s.extra s }
 abbrev pub image_run : ProgParts → ℕ → List Memory → Step (List Memory) Flow
 image_run p image starts = program (at_image p) (main_context p image []) (beginning p 0 starts)
 
+-- those of all images, in order
 abbrev pub image_runs : ProgParts → List Memory → List (Step (List Memory) Flow)
 image_runs p starts = map (λ image. image_run p image starts) (range_with_len 0 (node_count p))
 
@@ -56,6 +57,7 @@ applied_row bs [] cs = []
 applied_row [] (v ∷ vs) cs = v ∷ vs
 applied_row (b ∷ bs) (v ∷ vs) [] = v ∷ vs
 
+-- the same for each array
 abbrev pub applied : (before mine so_far : Memory) → Memory
 applied (b ∷ bs) (v ∷ vs) (c ∷ cs) = applied_row b v c ∷ applied bs vs cs
 applied bs [] cs = []
@@ -75,6 +77,7 @@ last_of first (m ∷ ms) = last_of m ms
 abbrev pub phase_start : ProgParts → List Memory → Memory
 phase_start p starts = last_of (no_writes p) starts
 
+-- the memory at the end of a phase, from that at its start and the images' runs
 abbrev pub memory_after : Memory → List (Step (List Memory) Flow) → Memory
 memory_after before runs = all_applied before (map (λ r. (state_of r).arrays) runs) before
 

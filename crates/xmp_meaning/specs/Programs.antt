@@ -1,5 +1,5 @@
 -- A whole program.
-use Rattle.std.specs.Prelude.{ℕ, ◌*◌, if◌then◌else◌, Bool, true, false, List, [], ◌∷◌, ◌++◌, length, map, replicate, ℤ, pos, take, drop, zero, suc}
+use Rattle.std.specs.Prelude.{ℕ, ◌*◌, if◌then◌else◌, List, [], ◌∷◌, ◌++◌, length, map, replicate, ℤ, pos, take, drop, zero, suc}
 use Rattle.xmp_map.specs.RowMajor.{product}
 use Rattle.xmp_prog.specs.declared.parts.ProgParts.{ProgParts}
 use Rattle.xmp_prog.specs.declared.parts.Array.{Array}
@@ -12,7 +12,7 @@ use Rattle.xmp_meaning.specs.declared.ends.Flow.{Flow}
 use Rattle.xmp_meaning.specs.declared.ends.Flow.TheVariants.{Next}
 use Rattle.xmp_meaning.specs.declared.outcome.Outcome.{Outcome}
 use Rattle.xmp_meaning.specs.declared.outcome.Outcome.TheVariants as outcome
-use Rattle.xmp_meaning.specs.Runs.{State, Step, Gave, Ended, Run, ◌>>=◌, ◌>>◌, pure}
+use Rattle.xmp_meaning.specs.Runs.{State, Step, Gave, Ended, Run, ◌>>=◌, pure}
 use Rattle.xmp_meaning.specs.Context.{Context}
 use Rattle.xmp_prog.specs.Fits.{node_count}
 use Rattle.xmp_prog.specs.Tests.{is_image}
@@ -36,7 +36,10 @@ abbrev pub beginning : {X : Type 0} → ProgParts → ℕ → X → State X
 beginning p steps extra = record {
   scalars = replicate (length p.scalars) (pos 0);
   arrays = no_writes p;
-  out = []; taken = 0; steps = steps; extra = extra;
+  out = [];
+  taken = 0;
+  steps = steps;
+  extra = extra;
 }
 
 -- the initialisers at file scope, in order
@@ -64,6 +67,7 @@ told_of p a home.Copy cells = []
 told_of p a (home.Spread t m) cells = cells ∷ []
 told_of p a home.Image cells = cut (node_count p) (product a.extents) cells
 
+-- the same for all arrays in the order of their declarations
 abbrev pub told : ProgParts → List Array → List (List ℤ) → List (List ℤ)
 told p (a ∷ all) (cells ∷ rows) = told_of p a a.home cells ++ told p all rows
 told p [] rows = []
@@ -81,5 +85,6 @@ outcome_of p (Ended end.PhaseEnd s) = outcome.Ended s.out (told p p.arrays s.arr
 abbrev pub serial_end : ProgParts → List ℕ → ℕ → Step (Unit {0}) Flow
 serial_end p input steps = program erased (main_context p 0 input) (beginning p steps tt)
 
+-- what the program comes to
 abbrev pub serial : ProgParts → List ℕ → ℕ → Outcome
 serial p input steps = outcome_of p (serial_end p input steps)

@@ -1,5 +1,5 @@
 -- Parts of a run (this project): each goes from a state to a value and a state, or to an end.
-use Rattle.std.specs.Prelude.{◌≡◌, ◌++◌, ◌∷◌, [], ℕ, zero, suc, List, ℤ, pos, Option, Some, None, Result, Ok, Err, unwrap_or, slice_get, slice_set}
+use Rattle.std.specs.Prelude.{◌≡◌, ◌++◌, Option, Some, None, ℕ, zero, suc, List, ℤ, pos, Result, Ok, Err, unwrap_or, slice_get, slice_set}
 use Rattle.xmp_base.specs.declared.place.Place.{Place}
 use Rattle.xmp_num.specs.declared.types.TrapKind.{TrapKind}
 use Rattle.xmp_meaning.specs.declared.ends.End.{End}
@@ -23,6 +23,15 @@ pub data Step (X : Type 0) (A : Type 0) : Type 0 where
   Gave : A → State X → Step X A
   Ended : End → State X → Step X A
 
+-- why a step ended the run, where it did, and the state then
+abbrev pub end_of : {X A : Type 0} → Step X A → Option End
+end_of (Gave a s) = None
+end_of (Ended e s) = Some e
+
+abbrev pub state_of : {X A : Type 0} → Step X A → State X
+state_of (Gave a s) = s
+state_of (Ended e s) = s
+
 -- A part of a run that gives a value, or ends the run.
 abbrev pub Run : Type 0 → Type 0 → Type 0
 Run X A = State X → Step X A
@@ -34,13 +43,10 @@ abbrev pub and_then : {X A B : Type 0} → Step X A → (A → Run X B) → Step
 and_then (Gave a s) f = f a s
 and_then (Ended e s) f = Ended e s
 
+-- a part, and then what follows its value
 infixl 10 ◌>>=◌
 abbrev pub ◌>>=◌ : {X A B : Type 0} → Run X A → (A → Run X B) → Run X B
 p >>= f = λ s. and_then (p s) f
-
-infixl 10 ◌>>◌
-abbrev pub ◌>>◌ : {X A B : Type 0} → Run X A → Run X B → Run X B
-p >> q = p >>= (λ _. q)
 
 -- a value, and nothing is done
 abbrev pub pure : {X A : Type 0} → A → Run X A
@@ -50,6 +56,7 @@ pure a = λ s. Gave a s
 abbrev pub stop : {X A : Type 0} → End → Run X A
 stop e = λ s. Ended e s
 
+-- the end of the run by a trap
 abbrev pub trap : {X A : Type 0} → TrapKind → Place → Run X A
 trap kind at = stop (Trapped kind at)
 
@@ -64,12 +71,15 @@ or_trap (Err kind) at = trap kind at
 abbrev pub scalar : {X : Type 0} → ℕ → Run X ℤ
 scalar slot = λ s. Gave (unwrap_or (slice_get s.scalars slot) (pos 0)) s
 
+-- another value in a scalar, where there is one
 abbrev pub set_scalar : {X : Type 0} → ℕ → ℤ → Run X (Unit {0})
 set_scalar slot v = λ s. Gave tt (record s { scalars = slice_set s.scalars slot v })
 
+-- a cell of an array by its number; 0 where there is none
 abbrev pub cell : {X : Type 0} → ℕ → ℕ → Run X ℤ
 cell row at = λ s. Gave (cell_in s.arrays row at) s
 
+-- another value in a cell, where there is one
 abbrev pub set_cell : {X : Type 0} → ℕ → ℕ → ℤ → Run X (Unit {0})
 set_cell row at v = λ s. Gave tt (record s { arrays = with_cell s.arrays row at v })
 
@@ -81,6 +91,7 @@ write text = λ s. Gave tt (record s { out = s.out ++ text })
 abbrev pub taken : {X : Type 0} → Run X ℕ
 taken = λ s. Gave s.taken s
 
+-- the input is read so far
 abbrev pub set_taken : {X : Type 0} → ℕ → Run X (Unit {0})
 set_taken n = λ s. Gave tt (record s { taken = n })
 

@@ -1,11 +1,10 @@
 -- Assignments of sections under `gmove` (XcalableMP 1.4, gmove construct; the order of evaluation and the traps are this project's).
-use Rattle.std.specs.Prelude.{ℕ, ◌+◌, ◌*◌, ◌-◌, ◌&&◌, zero, suc, Bool, true, false, if◌then◌else◌, nat_lt, List, [], ◌∷◌, ◌++◌, map, length, replicate, ℤ, pos, ◌+ℤ◌, ◌*ℤ◌, int_lt, int_le, Option, Some, None}
+use Rattle.std.specs.Prelude.{ℕ, ◌+◌, ◌*◌, ◌&&◌, zero, suc, Bool, true, false, List, [], ◌∷◌, map, length, replicate, ℤ, pos, ◌+ℤ◌, ◌*ℤ◌, int_lt, int_le}
 use Rattle.std.specs.List.{range_with_len, flat_map}
 use Rattle.std.specs.Ordering.{int_eq}
 use Rattle.xmp_base.specs.declared.place.Place.{Place}
 use Rattle.xmp_num.specs.declared.types.TrapKind.TheVariants.{Section}
 use Rattle.xmp_prog.specs.declared.statements.Name.{Name}
-use Rattle.xmp_prog.specs.declared.statements.Number.{Number}
 use Rattle.xmp_prog.specs.declared.statements.Part.{Part}
 use Rattle.xmp_prog.specs.declared.statements.Part.TheVariants as part
 use Rattle.xmp_prog.specs.declared.statements.MoveSide.{MoveSide}
@@ -14,7 +13,7 @@ use Rattle.xmp_meaning.specs.declared.location.Location.{Location}
 use Rattle.xmp_meaning.specs.declared.location.Location.TheVariants as location
 use Rattle.xmp_meaning.specs.declared.ends.Flow.{Flow}
 use Rattle.xmp_meaning.specs.declared.ends.Flow.TheVariants.{Next}
-use Rattle.xmp_meaning.specs.Runs.{Run, ◌>>=◌, ◌>>◌, pure, trap}
+use Rattle.xmp_meaning.specs.Runs.{Run, ◌>>=◌, pure, trap}
 use Rattle.xmp_meaning.specs.Context.{Context, extents}
 use Rattle.xmp_meaning.specs.Expressions.{expr_of, each, within, or_subscript, natural}
 use Rattle.xmp_meaning.specs.Assignments.{value_at, store}
@@ -52,6 +51,7 @@ in_range extent base length step = false
 abbrev pub progression : ℕ → ℕ → ℕ → List ℕ
 progression base step length = map (λ k. base + k * step) (range_with_len 0 length)
 
+-- the subscripts of a section that is in range, or the trap at the array's name
 abbrev pub section : {X : Type 0} → Bool → Place → List ℕ → Run X (List ℕ)
 section true at xs = pure xs
 section false at xs = trap Section at
@@ -62,7 +62,7 @@ subscripts at extent (One v) = do
   x ← or_subscript (within v extent) at
   pure (x ∷ [])
 subscripts at extent (Many base length step) =
-  section (in_range extent base length step) at (progression (natural base) (natural step) (natural length))
+    section (in_range extent base length step) at (progression (natural base) (natural step) (natural length))
 
 -- the same of each dimension in order
 abbrev pub all_subscripts : {X : Type 0} → Place → List ℕ → List Chosen → Run X (List (List ℕ))
@@ -105,10 +105,12 @@ fit target [] = true
 fit [] (n ∷ ns) = true
 fit (m ∷ ms) (n ∷ ns) = int_eq m n && fit ms ns
 
+-- the name of a side
 abbrev pub name_of : MoveSide → Name
 name_of (side.Scalar name) = name
 name_of (side.Array name parts) = name
 
+-- goes on where the lengths fit, or the trap at the target's name
 abbrev pub lengths_fit : {X : Type 0} → Bool → Place → Run X (Unit {0})
 lengths_fit true at = pure tt
 lengths_fit false at = trap Section at

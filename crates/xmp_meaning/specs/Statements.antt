@@ -1,5 +1,5 @@
 -- What a statement does (ISO C11 6.8).
-use Rattle.std.specs.Prelude.{ℕ, List, [], ◌∷◌, map, not, pos}
+use Rattle.std.specs.Prelude.{[], map, pos}
 use Rattle.xmp_prog.specs.declared.statements.Plain.{Plain}
 use Rattle.xmp_prog.specs.declared.statements.Plain.TheVariants as plain
 use Rattle.xmp_prog.specs.declared.statements.Stmt.{Stmt}
@@ -7,7 +7,7 @@ use Rattle.xmp_prog.specs.declared.statements.Stmt.TheOpen.{Stmt-F, Task-F}
 use Rattle.xmp_prog.specs.declared.statements.Stmt.TheFolds.{fold-Stmt}
 use Rattle.xmp_meaning.specs.declared.ends.Flow.{Flow}
 use Rattle.xmp_meaning.specs.declared.ends.Flow.TheVariants.{Next, Returned}
-use Rattle.xmp_meaning.specs.Runs.{Run, ◌>>=◌, ◌>>◌, pure, set_scalar, write}
+use Rattle.xmp_meaning.specs.Runs.{Run, ◌>>=◌, pure, set_scalar, write}
 use Rattle.xmp_meaning.specs.Context.{Context}
 use Rattle.xmp_meaning.specs.Expressions.{expr_of, each, call}
 use Rattle.xmp_meaning.specs.Formats.{printed}
@@ -40,9 +40,11 @@ plain_of d cx (plain.Barrier at) = d.barrier
 plain_of d cx (plain.Cast variables from at) = d.bcast variables from
 plain_of d cx (plain.Gmove target source at) = d.gmove target source (move cx target source) (written cx target)
 
+-- a task with what its statement does
 abbrev pub task_step : {X : Type 0} → Task-F (Run X Flow) (TaskRun X) → TaskRun X
 task_step t = record { nodes = t.nodes; run = t.body; at = t.at }
 
+-- a statement, by what the statements in it do
 abbrev pub stmt_step : {X : Type 0} → Directives X → Context → Stmt-F (Run X Flow) (TaskRun X) → Run X Flow
 stmt_step d cx (Stmt-F.Plain p) = plain_of d cx p
 stmt_step d cx (Stmt-F.Block all) = block all

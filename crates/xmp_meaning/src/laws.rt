@@ -6,7 +6,7 @@ ghost use Rattle.xmp_prog.specs.declared.expressions.Expr.{Expr};
 ghost use Rattle.xmp_prog.specs.declared.statements.LoopDirective.{LoopDirective};
 ghost use Rattle.xmp_prog.specs.declared.statements.Stmt.{Stmt};
 ghost use Rattle.xmp_meaning.specs.declared.ends.Flow.{Flow};
-ghost use Rattle.xmp_meaning.specs.Runs.{State, Run};
+ghost use Rattle.xmp_meaning.specs.Runs.{State, Run, state_of};
 ghost use Rattle.xmp_meaning.specs.Context.{Context};
 ghost use Rattle.xmp_meaning.specs.Expressions.{expr_of};
 ghost use Rattle.xmp_meaning.specs.Loops.{holds};
@@ -14,10 +14,9 @@ ghost use Rattle.xmp_meaning.specs.Directives.{erased};
 ghost use Rattle.xmp_meaning.specs.Calls.{context};
 ghost use Rattle.xmp_meaning.specs.Statements.{stmt_of};
 ghost use Rattle.xmp_meaning.specs.Programs.{serial};
-ghost use Rattle.xmp_meaning.specs.Exchanges.{state_of};
 ghost use Rattle.xmp_meaning.specs.AtNode.{Talk, at_node};
 ghost use Rattle.xmp_meaning.specs.Writes.{scalars_written, arrays_written};
-ghost use Rattle.xmp_meaning.specs.Laws.{IsAssociative, StatementsAssociate, BlocksJoin, TurnsAdd, EndsAreFinal, OutputGrows, KeepsScalar, KeepsArray, CallTakesSteps, SameOutcome, NotesApart, TracedIsSerial, PartIsWhole, OneImage, LoopUnrolls, TakesAsItSays};
+ghost use Rattle.xmp_meaning.specs.Laws.{IsAssociative, StatementsAssociate, BlocksJoin, TurnsAdd, EndsAreFinal, OutputGrows, KeepsScalar, KeepsArray, CallTakesSteps, SameOutcome, NotesApart, TracedIsSerial, PartIsWhole, OneImage, LoopUnrolls, TakesAsItSays, FormatsRead, TurnsAreCounted, CountedTurns};
 
 /// Parts of a run follow each other in one way, however they are grouped.
 pub fn sequences_associate<X, A, B, C>()
@@ -89,4 +88,19 @@ pub fn loops_unroll<X>()
 pub fn nodes_take_as_they_say()
     ensures { (p : ProgParts) (node : ℕ) (cx : Context) (body : Stmt) (s : State Talk)
         → TakesAsItSays s (state_of (stmt_of (at_node p node) cx body s)) }
+{}
+
+/// The pieces of a format of `printf` are those that it is spelled of.
+pub fn formats_are_read()
+    ensures { FormatsRead }
+{}
+
+/// A counted loop makes as many turns as there are values of its index inside its bound.
+pub fn turns_are_counted()
+    ensures { TurnsAreCounted }
+{}
+
+/// The turns of a counted loop are those that are counted when it begins: no test fails before, and the index goes up by the step each time.
+pub fn counted_turns<X>()
+    ensures { CountedTurns X }
 {}

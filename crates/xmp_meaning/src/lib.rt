@@ -8,12 +8,15 @@ mod location;
 mod outcome;
 mod rows;
 mod state;
+#[cfg(test)]
+mod tests;
 
 pub use arrays::Arrays;
 pub use ends::{End, Flow, Halt};
 pub use laws::{
-    blocks_join, calls_take_steps, ends_are_final, loops_unroll, more_steps, nodes_take_as_they_say, notes_apart,
-    only_what_is_named, output_grows, parts_of_one_node, phases_of_one_image, sequences_associate, turns_add,
+    blocks_join, calls_take_steps, counted_turns, ends_are_final, formats_are_read, loops_unroll,
+    more_steps, nodes_take_as_they_say, notes_apart, only_what_is_named, output_grows,
+    parts_of_one_node, phases_of_one_image, sequences_associate, turns_add, turns_are_counted,
 };
 pub use location::Location;
 pub use outcome::Outcome;

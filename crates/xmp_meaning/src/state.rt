@@ -31,12 +31,7 @@ impl Model for SerialState {
 
 impl SerialState {
     /// A state with so many scalars, which are 0, and these arrays, and nothing printed or read.
-    pub fn new(
-        alloc: Global,
-        scalars: usize,
-        arrays: Arrays,
-        steps: u64,
-    ) -> Result<Self, NoMemory>
+    pub fn new(alloc: Global, scalars: usize, arrays: Arrays, steps: u64) -> Result<Self, NoMemory>
         ensures { IfOk result (λ s. s ≡ record { scalars = replicate scalars (pos 0); arrays = arrays; out = []; taken = 0; steps = steps; extra = tt }) }
     {
         let scalars = zeros(alloc, scalars)?;

@@ -1,5 +1,5 @@
 -- The parts of the examples fit.
-use Rattle.std.proofs.Common.{◌≡◌, refl, ℕ, List, [], ◌∷◌, ◌++◌, map, ◌∙◌, ap, sym, subst, arith}
+use Rattle.std.proofs.Common.{◌≡◌, refl, ℕ, List, [], ◌∷◌, ◌++◌, ◌∙◌, ap, sym, subst, arith}
 use Rattle.std.proofs.Math.Dec.{leb-zero}
 use Rattle.std.specs.List.{flat_map, concat, list_all, AllByRecursion}
 use Rattle.std.specs.Prelude.{◌+◌, ◌*◌, ◌≤◌, nat_lt, Bool, true, false, ◌&&◌, IsTrue, Some, None, pos}
@@ -7,16 +7,15 @@ use Rattle.xmp_base.specs.declared.place.Place.{Place}
 use Rattle.xmp_map.specs.declared.grid.Grid.{Grid}
 use Rattle.xmp_num.specs.declared.types.Ty.TheVariants.{Int}
 use Rattle.xmp_num.specs.declared.types.BinOp.TheVariants as op
-use Rattle.xmp_prog.specs.declared.expressions.Expr.{Expr}
 use Rattle.xmp_prog.specs.declared.expressions.Expr.TheVariants as expr
 use Rattle.xmp_prog.specs.declared.expressions.Access.{fold-roll-Access}
 use Rattle.xmp_prog.specs.declared.expressions.Expr.TheFolds.{fold-Access}
-use Rattle.xmp_prog.specs.declared.expressions.Expr.TheOpen.{Expr-F, Access-F}
-use Rattle.xmp_prog.specs.declared.statements.Stmt.{Stmt, out-Stmt}
+use Rattle.xmp_prog.specs.declared.expressions.Expr.TheOpen.{Expr-F}
+use Rattle.xmp_prog.specs.declared.statements.Stmt.{out-Stmt}
 use Rattle.xmp_prog.specs.declared.statements.Stmt.TheVariants as stmt
 use Rattle.xmp_prog.specs.declared.statements.Plain.TheVariants as plain
 use Rattle.xmp_prog.specs.declared.statements.Target.TheVariants as target
-use Rattle.xmp_prog.specs.declared.statements.Stmt.TheOpen.{Stmt-F, Task-F}
+use Rattle.xmp_prog.specs.declared.statements.Stmt.TheOpen.{Stmt-F}
 use Rattle.xmp_prog.specs.declared.parts.ProgParts.{ProgParts}
 use Rattle.xmp_prog.specs.Terms.{Typed, Term, typed, typed_step, access_step, slots_of_terms}
 use Rattle.xmp_prog.specs.Statements.{statements_of, slots_in, terms_of_stmt, terms_in, walked, Walked, WalkedTask, walk_step, walk_task, Statement}
@@ -29,7 +28,7 @@ use Rattle.xmp_map.specs.declared.grid.NodeSet.{NodeSet}
 use Rattle.xmp_prog.specs.declared.statements.Plain.{Plain}
 use Rattle.xmp_prog.specs.Tests.{constant_fits, operands_fit, choice_fits, element_fits, calls_below, arguments_fit, image_fits, counted_fits, assignment_fits, returns_last, last_returns}
 use Rattle.xmp_prog.specs.Formats.{Byte, Number}
-use Rattle.xmp_prog.specs.Examples.{number, exchange, exchange_body, first_cell, next_image}
+use Rattle.xmp_prog.specs.Examples.{empty, number, exchange, exchange_body, first_cell, next_image}
 use Rattle.xmp_prog.proofs.Rolls.{at_const, at_scalar, at_cell, at_binary, at_node, at_nodes, at_plain, at_block}
 
 typed_number : (p : ProgParts) (n : ℕ) → typed p (number n) ≡ typed_step p (Expr-F.Const (pos n) Int)
@@ -40,6 +39,29 @@ typed_scalar p slot at = at_scalar Typed Typed (typed_step p) (access_step p) sl
 
 walked_plain : (s : _) → walked (stmt.Plain s) ≡ walk_step (Stmt-F.Plain s)
 walked_plain s = at_plain Walked WalkedTask walk_step walk_task s
+
+-- ---- the empty program
+
+abbrev empty_block : List Statement
+empty_block = (walk_step (Stmt-F.Block [])).statements
+
+walked_empty : statements_of (stmt.Block []) ≡ empty_block
+walked_empty = ap (λ (w : Walked). w.statements) (at_block Walked WalkedTask walk_step walk_task [])
+
+pub empty_fits : (grid : Grid) → PartsFit (empty grid)
+empty_fits grid =
+    let e : _ = walked_empty in
+    record {
+      mappings = record { templates = tt; maps = tt; extents = refl; cells = omega arith };
+      kinds = record { coarrays = refl; spread = refl; node_numbers = rw e refl; syncs = rw e refl; images = rw e refl };
+      expressions = record { constants = rw e refl; operands = rw e refl; choices = rw e refl; elements = rw e refl; calls = rw e refl; arguments = rw e refl };
+      statements = record { assignments = rw e refl; counted = rw e refl; returns = rw e (leb-zero (last_returns (out-Stmt (stmt.Block [])))); formats = subst (λ ss. AllByRecursion (PrintFits (empty grid)) ss) (sym e) (tt, tt) };
+      directives = record { loop_templates = rw e refl; points = rw e refl; constants = rw e refl; distributed = rw e refl; indices = rw e refl; nest_indices = rw e refl; nests = rw e refl; arrays = rw e refl; sides = rw e refl; sections = rw e refl; casts = rw e refl; tasks = rw e refl; tasks_apart = rw e refl };
+      scalars = record { numbers = rw e refl; declared_once = rw e refl; declared_elsewhere = refl; main_scopes = ap (λ (w : Scoped). w.fits []) (at_block Scoped Scoped (scope_step (empty grid) (in_main (declared (empty grid)))) (λ t. t.body) []); function_scopes = refl; start_values = refl };
+      functions = record { earlier = refl; own_scalars = refl; no_arrays = refl; no_directives = refl };
+    }
+
+-- ---- the program with a coarray
 
 walked_exchange : (at : Place) → walked (exchange_body at) ≡ walk_step (Stmt-F.Block (
     walk_step (Stmt-F.Plain (plain.Declare 1 (Some expr.Node) at))
@@ -55,18 +77,25 @@ walked_exchange at = at_block Walked WalkedTask walk_step walk_task (
     ∷ stmt.Plain (plain.Sync (record { number = 0; at = at }) at)
     ∷ stmt.Plain (plain.Print (37 ∷ 100 ∷ 10 ∷ []) (expr.Cell (first_cell at None) ∷ []) at)
     ∷ [])
-    ∙ rw (walked_plain (plain.Declare 1 (Some expr.Node) at), walked_plain (plain.Declare 2 (Some expr.Nodes) at),
-        walked_plain (plain.Set (target.Cell (first_cell at (Some (next_image at)))) None (expr.Scalar 1 at)),
-        walked_plain (plain.Sync (record { number = 0; at = at }) at),
-        walked_plain (plain.Print (37 ∷ 100 ∷ 10 ∷ []) (expr.Cell (first_cell at None) ∷ []) at)) refl
+    ∙ rw (
+      walked_plain (plain.Declare 1 (Some expr.Node) at),
+      walked_plain (plain.Declare 2 (Some expr.Nodes) at),
+      walked_plain (plain.Set (target.Cell (first_cell at (Some (next_image at)))) None (expr.Scalar 1 at)),
+      walked_plain (plain.Sync (record { number = 0; at = at }) at),
+      walked_plain (plain.Print (37 ∷ 100 ∷ 10 ∷ []) (expr.Cell (first_cell at None) ∷ []) at),
+    ) refl
 
 typed_image : (p : ProgParts) (at : Place) → typed p (next_image at) ≡ typed_step p (Expr-F.Binary op.Rem Int
     (typed_step p (Expr-F.Binary op.Add Int (typed_step p (Expr-F.Scalar 1 at)) (typed_step p (Expr-F.Const (pos 1) Int)) at))
     (typed_step p (Expr-F.Scalar 2 at)) at)
 typed_image p at =
     at_binary Typed Typed (typed_step p) (access_step p) op.Rem Int (expr.Binary op.Add Int (expr.Scalar 1 at) (number 1) at) (expr.Scalar 2 at) at
-    ∙ rw (at_binary Typed Typed (typed_step p) (access_step p) op.Add Int (expr.Scalar 1 at) (number 1) at,
-        typed_scalar p 1 at, typed_number p 1, typed_scalar p 2 at) refl
+    ∙ rw (
+      at_binary Typed Typed (typed_step p) (access_step p) op.Add Int (expr.Scalar 1 at) (number 1) at,
+      typed_scalar p 1 at,
+      typed_number p 1,
+      typed_scalar p 2 at,
+    ) refl
 
 -- the element without an image, and with the next one
 access_none : (p : ProgParts) (at : Place) → fold-Access Typed Typed (typed_step p) (access_step p) (first_cell at None)
@@ -76,9 +105,14 @@ access_none p at =
     ∙ rw (typed_number p 0) refl
 
 access_some : (p : ProgParts) (at : Place) → fold-Access Typed Typed (typed_step p) (access_step p) (first_cell at (Some (next_image at)))
-    ≡ access_step p (record { array = 0; subscripts = typed_step p (Expr-F.Const (pos 0) Int) ∷ []; image = Some (typed_step p (Expr-F.Binary op.Rem Int
-    (typed_step p (Expr-F.Binary op.Add Int (typed_step p (Expr-F.Scalar 1 at)) (typed_step p (Expr-F.Const (pos 1) Int)) at))
-    (typed_step p (Expr-F.Scalar 2 at)) at)); at = at })
+    ≡ access_step p (record {
+      array = 0;
+      subscripts = typed_step p (Expr-F.Const (pos 0) Int) ∷ [];
+      image = Some (typed_step p (Expr-F.Binary op.Rem Int
+          (typed_step p (Expr-F.Binary op.Add Int (typed_step p (Expr-F.Scalar 1 at)) (typed_step p (Expr-F.Const (pos 1) Int)) at))
+          (typed_step p (Expr-F.Scalar 2 at)) at));
+      at = at;
+    })
 access_some p at =
     fold-roll-Access Typed Typed (typed_step p) (access_step p) (record { array = 0; subscripts = number 0 ∷ []; image = Some (next_image at); at = at })
     ∙ rw (typed_number p 0, typed_image p at) refl
@@ -105,9 +139,14 @@ terms_with a b c d e = a.terms ++ (b.terms ++ ((c.terms ++ d.terms) ++ ([] ++ ((
 
 abbrev main_terms : ProgParts → Place → List Term
 main_terms p at = terms_with (typed_step p Expr-F.Node) (typed_step p Expr-F.Nodes)
-    (access_step p (record { array = 0; subscripts = typed_step p (Expr-F.Const (pos 0) Int) ∷ []; image = Some (typed_step p (Expr-F.Binary op.Rem Int
-    (typed_step p (Expr-F.Binary op.Add Int (typed_step p (Expr-F.Scalar 1 at)) (typed_step p (Expr-F.Const (pos 1) Int)) at))
-    (typed_step p (Expr-F.Scalar 2 at)) at)); at = at }))
+    (access_step p (record {
+      array = 0;
+      subscripts = typed_step p (Expr-F.Const (pos 0) Int) ∷ [];
+      image = Some (typed_step p (Expr-F.Binary op.Rem Int
+          (typed_step p (Expr-F.Binary op.Add Int (typed_step p (Expr-F.Scalar 1 at)) (typed_step p (Expr-F.Const (pos 1) Int)) at))
+          (typed_step p (Expr-F.Scalar 2 at)) at));
+      at = at;
+    }))
     (typed_step p (Expr-F.Scalar 1 at))
     (typed_step p (Expr-F.Cell (access_step p (record { array = 0; subscripts = typed_step p (Expr-F.Const (pos 0) Int) ∷ []; image = None; at = at }))))
 
@@ -174,18 +213,18 @@ scoped_plain p may s = at_plain Scoped Scoped (scope_step p may) (λ t. t.body) 
 scopes_is : (p : ProgParts) (may : List ℕ → ℕ → Bool) (at : Place) → scalars_fit p may (exchange_body at) [] ≡ scoped_with may (slots_with Scoped Scoped p at)
 scopes_is p may at =
     ap (λ (w : Scoped). w.fits []) (at_block Scoped Scoped (scope_step p may) (λ t. t.body) (
-        stmt.Plain (plain.Declare 1 (Some expr.Node) at)
-        ∷ stmt.Plain (plain.Declare 2 (Some expr.Nodes) at)
-        ∷ stmt.Plain (plain.Set (target.Cell (first_cell at (Some (next_image at)))) None (expr.Scalar 1 at))
-        ∷ stmt.Plain (plain.Sync (record { number = 0; at = at }) at)
-        ∷ stmt.Plain (plain.Print (37 ∷ 100 ∷ 10 ∷ []) (expr.Cell (first_cell at None) ∷ []) at)
-        ∷ []))
+    stmt.Plain (plain.Declare 1 (Some expr.Node) at)
+    ∷ stmt.Plain (plain.Declare 2 (Some expr.Nodes) at)
+    ∷ stmt.Plain (plain.Set (target.Cell (first_cell at (Some (next_image at)))) None (expr.Scalar 1 at))
+    ∷ stmt.Plain (plain.Sync (record { number = 0; at = at }) at)
+    ∷ stmt.Plain (plain.Print (37 ∷ 100 ∷ 10 ∷ []) (expr.Cell (first_cell at None) ∷ []) at)
+    ∷ []))
     ∙ five (λ (a b c d e : Scoped). fits_in_order (a ∷ b ∷ c ∷ d ∷ e ∷ []) [])
-        (scoped_plain p may (plain.Declare 1 (Some expr.Node) at))
-        (scoped_plain p may (plain.Declare 2 (Some expr.Nodes) at))
-        (scoped_plain p may (plain.Set (target.Cell (first_cell at (Some (next_image at)))) None (expr.Scalar 1 at)))
-        (scoped_plain p may (plain.Sync (record { number = 0; at = at }) at))
-        (scoped_plain p may (plain.Print (37 ∷ 100 ∷ 10 ∷ []) (expr.Cell (first_cell at None) ∷ []) at))
+    (scoped_plain p may (plain.Declare 1 (Some expr.Node) at))
+    (scoped_plain p may (plain.Declare 2 (Some expr.Nodes) at))
+    (scoped_plain p may (plain.Set (target.Cell (first_cell at (Some (next_image at)))) None (expr.Scalar 1 at)))
+    (scoped_plain p may (plain.Sync (record { number = 0; at = at }) at))
+    (scoped_plain p may (plain.Print (37 ∷ 100 ∷ 10 ∷ []) (expr.Cell (first_cell at None) ∷ []) at))
 
 main_scopes : (grid : Grid) (at : Place) → IsTrue (scalars_fit (exchange grid at) (in_main (declared (exchange grid at))) (exchange_body at) [])
 main_scopes grid at =
@@ -199,11 +238,30 @@ unfolding product
 cells_are_few ns e = rw e (omega arith)
 
 formats_fit : (grid : Grid) (at : Place) → AllByRecursion (PrintFits (exchange grid at)) (main_statements at)
-formats_fit grid at = (tt, (tt, (tt, (tt, (tt, (record {
-    pieces = Number 0 Int ∷ Byte 10 ∷ [];
-    pieces_fit = refl;
-    spelled = refl;
-    types_asked = ap (λ (t : Typed). t.ty ∷ []) (sym (typed_cell (exchange grid at) at)) }, tt))))))
+formats_fit grid at = (
+  tt,
+  (
+    tt,
+    (
+      tt,
+      (
+        tt,
+        (
+          tt,
+          (
+            record {
+              pieces = Number 0 Int ∷ Byte 10 ∷ [];
+              pieces_fit = refl;
+              spelled = refl;
+              types_asked = ap (λ (t : Typed). t.ty ∷ []) (sym (typed_cell (exchange grid at) at));
+            },
+            tt,
+          ),
+        ),
+      ),
+    ),
+  ),
+)
 
 returns_fit : (at : Place) → IsTrue (returns_last (exchange_body at))
 returns_fit at = rw (statements_is at) (leb-zero (last_returns (out-Stmt (exchange_body at))))
@@ -220,10 +278,11 @@ exchange_fits grid at e =
     let terms : _ = terms_pass grid at in
     let statements : _ = statements_pass grid at in
     record {
-    mappings = record { templates = tt; maps = (tt, tt); extents = refl; cells = cells_are_few grid.sizes e };
-    kinds = record { coarrays = refl; spread = refl; node_numbers = refl; syncs = refl; images = terms (image_fits p) refl };
-    expressions = record { constants = terms constant_fits refl; operands = terms operands_fit refl; choices = terms choice_fits refl; elements = terms (element_fits p) refl; calls = terms (calls_below 0) refl; arguments = terms (arguments_fit p) refl };
-    statements = record { assignments = statements (assignment_fits p) refl; counted = statements (counted_fits p) refl; returns = returns_fit at; formats = subst (λ ss. AllByRecursion (PrintFits p) ss) (sym (statements_is at)) (formats_fit grid at) };
-    directives = record { loop_templates = statements (at_loops (names_template p)) refl; points = statements (at_loops (has_points p)) refl; constants = statements (at_loops (λ d. list_all is_small_point d.points)) refl; distributed = statements (at_loops (has_indices p)) refl; indices = statements (at_loops indices_once) refl; nest_indices = statements (at_loops indices_of_nest) refl; nests = statements (nest_counted p) refl; arrays = statements (λ s. list_all (λ a. nat_lt a 1) (arrays_beside s)) refl; sides = statements (at_gmoves (λ target source. side_fits p target && side_fits p source)) refl; sections = statements (at_gmoves sections_agree) refl; casts = statements (cast_fits p) refl; tasks = statements (tasks_inside p) refl; tasks_apart = statements (tasks_apart p) refl };
-    scalars = record { numbers = rw (slots_of_main_is grid at) refl; declared_once = rw (declared_is grid at) refl; declared_elsewhere = refl; main_scopes = main_scopes grid at; function_scopes = refl; start_values = refl };
-    functions = record { earlier = refl; own_scalars = refl; no_arrays = refl; no_directives = refl } }
+      mappings = record { templates = tt; maps = (tt, tt); extents = refl; cells = cells_are_few grid.sizes e };
+      kinds = record { coarrays = refl; spread = refl; node_numbers = refl; syncs = refl; images = terms (image_fits p) refl };
+      expressions = record { constants = terms constant_fits refl; operands = terms operands_fit refl; choices = terms choice_fits refl; elements = terms (element_fits p) refl; calls = terms (calls_below 0) refl; arguments = terms (arguments_fit p) refl };
+      statements = record { assignments = statements (assignment_fits p) refl; counted = statements (counted_fits p) refl; returns = returns_fit at; formats = subst (λ ss. AllByRecursion (PrintFits p) ss) (sym (statements_is at)) (formats_fit grid at) };
+      directives = record { loop_templates = statements (at_loops (names_template p)) refl; points = statements (at_loops (has_points p)) refl; constants = statements (at_loops (λ d. list_all is_small_point d.points)) refl; distributed = statements (at_loops (has_indices p)) refl; indices = statements (at_loops indices_once) refl; nest_indices = statements (at_loops indices_of_nest) refl; nests = statements (nest_counted p) refl; arrays = statements (λ s. list_all (λ a. nat_lt a 1) (arrays_beside s)) refl; sides = statements (at_gmoves (λ target source. side_fits p target && side_fits p source)) refl; sections = statements (at_gmoves sections_agree) refl; casts = statements (cast_fits p) refl; tasks = statements (tasks_inside p) refl; tasks_apart = statements (tasks_apart p) refl };
+      scalars = record { numbers = rw (slots_of_main_is grid at) refl; declared_once = rw (declared_is grid at) refl; declared_elsewhere = refl; main_scopes = main_scopes grid at; function_scopes = refl; start_values = refl };
+      functions = record { earlier = refl; own_scalars = refl; no_arrays = refl; no_directives = refl };
+    }

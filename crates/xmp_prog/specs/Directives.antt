@@ -1,7 +1,6 @@
 -- Loop directives, gmoves, bcasts and tasks: how their parts go together (XcalableMP 1.4, 4.4.2, 4.5.3, 4.5.6, 4.4.1).
-use Rattle.std.specs.Prelude.{ℕ, Bool, true, false, ◌==◌, ◌&&◌, ◌||◌, nat_lt, List, [], ◌∷◌, length, slice_get, ℤ, pos, int_le, neg_ℤ, Option, Some, None}
-use Rattle.std.specs.List.{list_all, list_any, flat_map, count_by}
-use Rattle.xmp_map.specs.declared.grid.NodeSet.{NodeSet}
+use Rattle.std.specs.Prelude.{ℕ, Bool, true, false, ◌==◌, ◌&&◌, ◌||◌, nat_lt, List, [], ◌∷◌, length, slice_get, pos, int_le, neg_ℤ, Option, Some, None}
+use Rattle.std.specs.List.{list_all, flat_map, count_by}
 use Rattle.xmp_map.specs.declared.spread_dim.SpreadDim.{SpreadDim}
 use Rattle.xmp_map.specs.declared.template.Template.{Template}
 use Rattle.xmp_map.specs.Spread.{is_whole}
@@ -12,7 +11,6 @@ use Rattle.xmp_prog.specs.declared.statements.Part.{Part}
 use Rattle.xmp_prog.specs.declared.statements.Part.TheVariants as part
 use Rattle.xmp_prog.specs.declared.statements.MoveSide.{MoveSide}
 use Rattle.xmp_prog.specs.declared.statements.MoveSide.TheVariants as side
-use Rattle.xmp_prog.specs.declared.statements.Plain.{Plain}
 use Rattle.xmp_prog.specs.declared.statements.Plain.TheVariants as plain
 use Rattle.xmp_prog.specs.declared.statements.Stmt.TheOpen.{Stmt-F}
 use Rattle.xmp_prog.specs.declared.parts.Array.{Array}

@@ -191,8 +191,8 @@ pub record ScalarsFit (p : ProgParts) : Type 0 where
 pub record FunctionsFit (p : ProgParts) : Type 0 where
   -- a call in a function names an earlier function
   pub earlier : IsTrue (list_all (λ f. list_all (calls_below f.0) (terms_of_stmt p f.1.body)) (enumerate_from 0 p.functions))
-  -- a function shares no scalar with another, nor with main
-  pub own_scalars : IsTrue (pairwise apart (slots_of_main p ∷ map (slots_of_function p) p.functions))
+  -- a function shares no scalar with another, nor with the body of main
+  pub own_scalars : IsTrue (pairwise apart (slots_of_stmt p p.body ∷ map (slots_of_function p) p.functions))
   -- a function has no element of an array
   pub no_arrays : IsTrue (list_all (λ f. list_all is_no_element (terms_of_stmt p f.body)) p.functions)
   -- and no directive, `printf`, `scanf` or `xmp_sync_all`

@@ -1,11 +1,11 @@
 -- Tests of single terms and statements, each a part of 'the parts fit'.
-use Rattle.std.specs.Prelude.{ℕ, Bool, true, false, not, ◌==◌, ◌&&◌, ◌||◌, nat_lt, nat_le, List, [], ◌∷◌, length, slice_get, is_none, Option, Some, None}
-use Rattle.std.specs.List.{list_all, count_by, last_or}
+use Rattle.std.specs.Prelude.{ℕ, Bool, true, false, ◌==◌, ◌&&◌, ◌||◌, nat_lt, nat_le, List, [], ◌∷◌, length, slice_get, is_none, Option, Some, None}
+use Rattle.std.specs.List.{count_by, last_or}
 use Rattle.xmp_num.specs.declared.types.Ty.{Ty}
 use Rattle.xmp_num.specs.declared.types.BinOp.{BinOp}
 use Rattle.xmp_num.specs.declared.types.BinOp.TheVariants as op
 use Rattle.xmp_prog.specs.declared.expressions.Expr.{Expr}
-use Rattle.xmp_prog.specs.declared.expressions.Expr.TheOpen.{Expr-F, Access-F}
+use Rattle.xmp_prog.specs.declared.expressions.Expr.TheOpen.{Expr-F}
 use Rattle.xmp_prog.specs.declared.expressions.Expr.TheFolds.{fold-Expr}
 use Rattle.xmp_prog.specs.declared.statements.Compound.{Compound}
 use Rattle.xmp_prog.specs.declared.statements.Plain.{Plain}

@@ -1,91 +1,48 @@
-// Small programs by hand, and that their parts fit.
+// Programs whose parts fit.
 
-ghost use Rattle.std.specs.Prelude.{◌≡◌, IfOk, Some, None, pos, List, ℕ, [], ◌∷◌};
-ghost use Rattle.xmp_num.specs.declared.types.Ty.TheVariants.{Int};
-ghost use Rattle.xmp_num.specs.declared.types.BinOp.TheVariants.{Add, Rem};
-ghost use Rattle.xmp_prog.specs.declared.expressions.Expr.TheVariants as expr;
-ghost use Rattle.xmp_prog.specs.declared.expressions.Access.{roll-Access};
-ghost use Rattle.xmp_prog.specs.declared.statements.Stmt.TheVariants as stmt;
-ghost use Rattle.xmp_prog.specs.declared.statements.Plain.TheVariants as plain;
-ghost use Rattle.xmp_prog.specs.declared.statements.Target.TheVariants as target;
+ghost use Rattle.std.specs.Prelude.{◌≡◌, [], ◌∷◌};
+ghost use Rattle.xmp_base.specs.declared.place.Place.{Place};
+ghost use Rattle.xmp_map.specs.declared.grid.Grid.{Grid};
+ghost use Rattle.xmp_prog.specs.Fits.{PartsFit};
+ghost use Rattle.xmp_prog.specs.Examples.{empty, exchange};
 
-use crate::*;
-use sqlite_items::{Boxed, Items};
-use std::alloc::{AllocError, Global};
-use std::test::Fail;
-use xmp_base::{Bytes, NoMemory, Place};
-use xmp_map::{Grid, NodeSet};
-use xmp_num::{BinOp, Ty};
+use crate::{Kind, Prog, ProgParts, Stmt};
+use sqlite_items::Items;
+use std::alloc::Global;
+use xmp_map::Grid;
 
-// `(me + 1) % n`, where `me` and `n` have the slots 1 and 2.
-fn next_image(alloc: Global, at: Place) -> Result<Boxed<Expr>, AllocError>
-    ensures { IfOk result (λ e. e
-        ≡ expr.Binary Rem Int (expr.Binary Add Int (expr.Scalar 1 at) (expr.Const (pos 1) Int) at) (expr.Scalar 2 at) at) }
+// The parts of a program with a coarray fit.
+fn coarray_program_fits()
+    ensures { (grid : Grid) (at : Place) → grid.sizes ≡ 3 ∷ 1 ∷ 1 ∷ [] → PartsFit (exchange grid at) }
+{}
+
+// `int main() {}`
+#[tactic(auto, using(crate::proofs::ExampleLaws::empty_fits))]
+fn empty(alloc: Global, grid: Grid) -> Prog
+    ensures { result ≡ empty grid }
 {
-    let me = Boxed::new(alloc, Expr::Scalar(1, at))?;
-    let one = Boxed::new(alloc, Expr::Const(1, Ty::Int))?;
-    let sum = Boxed::new(alloc, Expr::Binary(BinOp::Add, Ty::Int, me, one, at))?;
-    let n = Boxed::new(alloc, Expr::Scalar(2, at))?;
-    Boxed::new(alloc, Expr::Binary(BinOp::Rem, Ty::Int, sum, n, at))
-}
-
-// `x[0]:[..]`
-fn first_of(alloc: Global, image: Option<Boxed<Expr>>, at: Place) -> Result<Access, AllocError>
-    ensures { IfOk result (λ a. a ≡ roll-Access (record { array = 0; subscripts = expr.Const (pos 0) Int ∷ []; image = image; at = at })) }
-{
-    let subscripts = Items::from_vec(vec![in alloc; Expr::Const(0, Ty::Int)]?);
-    Ok(Access {
-        array: 0,
-        subscripts,
-        image,
-        at,
+    let body = Stmt::Block(Items::new(alloc));
+    Prog::new(ProgParts {
+        grid,
+        kind: Kind::Global,
+        scalars: Items::new(alloc),
+        arrays: Items::new(alloc),
+        templates: Items::new(alloc),
+        functions: Items::new(alloc),
+        start: Items::new(alloc),
+        body,
     })
 }
 
-// `int me = xmp_node_num();` and `int n = xmp_num_nodes();`
-fn declare(slot: u32, value: Expr, at: Place) -> Stmt
-    ensures { result ≡ stmt.Plain (plain.Declare slot (Some value) at) }
-{
-    Stmt::Plain(Plain::Declare {
-        slot,
-        value: Some(value),
-        at,
-    })
+fn shows(prog: &Prog, nodes: u32, kind: Kind, grid: &Grid) -> bool {
+    prog.nodes() == nodes && prog.kind() == kind && prog.parts().grid == *grid
 }
 
-// `x[0]:[(me + 1) % n] = me;`
-fn send(alloc: Global, at: Place) -> Result<Stmt, AllocError>
-    ensures { IfOk result (λ s. s ≡ stmt.Plain (plain.Set (target.Cell (roll-Access (record {
-        array = 0;
-        subscripts = expr.Const (pos 0) Int ∷ [];
-        image = Some (expr.Binary Rem Int (expr.Binary Add Int (expr.Scalar 1 at) (expr.Const (pos 1) Int) at) (expr.Scalar 2 at) at);
-        at = at }))) None (expr.Scalar 1 at))) }
-{
-    let image = next_image(alloc, at)?;
-    let cell = first_of(alloc, Some(image), at)?;
-    Ok(Stmt::Plain(Plain::Set {
-        target: Target::Cell(cell),
-        compound: None,
-        value: Expr::Scalar(1, at),
-    }))
-}
-
-// `printf("%d\n", x[0]);`
-fn print(alloc: Global, at: Place) -> Result<Stmt, NoMemory>
-    ensures { IfOk result (λ s. s ≡ stmt.Plain (plain.Print (37 ∷ 100 ∷ 10 ∷ []) (expr.Cell (roll-Access (record {
-        array = 0; subscripts = expr.Const (pos 0) Int ∷ []; image = None; at = at })) ∷ []) at)) }
-{
-    let mut format = Bytes::new(alloc);
-    format.push_all(b"%d\n")?;
-    let Ok(cell) = first_of(alloc, None, at) else {
-        return Err(NoMemory);
-    };
-    let Ok(arguments) = vec![in alloc; Expr::Cell(cell)] else {
-        return Err(NoMemory);
-    };
-    Ok(Stmt::Plain(Plain::Print {
-        format,
-        arguments: Items::from_vec(arguments),
-        at,
-    }))
+#[test]
+fn what_new_was_given_is_shown(rt: HostRuntime) {
+    coarray_program_fits();
+    if let Ok(grid) = Grid::new(&[3, 2]) {
+        let prog = empty(rt.alloc(), grid);
+        assert!(rt; shows(&prog, 6, Kind::Global, &grid));
+    }
 }
