@@ -5,7 +5,7 @@ use Rattle.xmp_prog.specs.declared.statements.Name.{Name}
 use Rattle.xmp_meaning.specs.declared.ends.Flow.{Flow}
 use Rattle.xmp_meaning.specs.declared.ends.Halt.{Halt}
 use Rattle.xmp_meaning.specs.declared.ends.Halt.TheVariants as halt
-use Rattle.xmp_meaning.specs.Runs.{State, Gave, Ended, Run, ◌>>=◌, ◌>>◌, pure}
+use Rattle.xmp_meaning.specs.Runs.{State, Gave, Ended, Run, ◌>>=◌, pure}
 use Rattle.xmp_meaning.specs.Assignments.{value_at}
 use Rattle.xmp_meaning.specs.Context.{Context, extents}
 use Rattle.xmp_meaning.specs.Expressions.{each, natural}
