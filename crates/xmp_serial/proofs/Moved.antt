@@ -18,8 +18,8 @@ moved cx target source to from ts ts1 ss ss1 ns ns1 ns2 s new r a b e ts_is ss_i
     let P : List ℤ → Type 0 = λ n. lengths_fit (fit (lengths to) n) (name_of target).at s ≡ Gave tt s in
     let g : lengths_fit (fit (lengths to) (lengths from)) (name_of target).at s ≡ Gave tt s = subst P (ns1_is ∙ e) f in
     done (move_cells cx target source to from s) (assign_cells cx target source ts1 ss1 ns2 s) r new
-        (rw (a, b, g)
-            (ap (λ (n : List ℤ). assign_cells cx target source ts ss n s) (sym (ns2_is ∙ e))
-            ∙ ap (λ (x : List ℕ). assign_cells cx target source x ss ns2 s) (sym ts_is)
-            ∙ ap (λ (x : List ℕ). assign_cells cx target source ts1 x ns2 s) (sym ss_is)))
-        h
+    (rw (a, b, g)
+    (ap (λ (n : List ℤ). assign_cells cx target source ts ss n s) (sym (ns2_is ∙ e))
+    ∙ ap (λ (x : List ℕ). assign_cells cx target source x ss ns2 s) (sym ts_is)
+    ∙ ap (λ (x : List ℕ). assign_cells cx target source ts1 x ns2 s) (sym ss_is)))
+    h

@@ -53,7 +53,9 @@ fn int(alloc: Global, op: BinOp, a: Expr, b: Expr) -> Result<Expr, AllocError> {
 }
 
 fn one<T: Drop>(alloc: Global, item: T) -> Result<Items<T>, AllocError> {
-    Ok(Items::from_vec(vec![in alloc; item]?))
+    let mut items = Items::new(alloc);
+    items.push(item)?;
+    Ok(items)
 }
 
 fn cell(alloc: Global, subscript: Expr) -> Result<Access, AllocError> {
@@ -203,7 +205,7 @@ fn run(alloc: Global, body: Vec<Stmt>, input: &[u8], steps: u64) -> Result<Outco
 // ---- what a program comes to
 
 // ends by itself, and printed this
-fn ended(outcome: Outcome, text: &[u8]) -> bool {
+fn ended(outcome: &Outcome, text: &[u8]) -> bool {
     match outcome {
         Outcome::Ended { out, .. } => out.as_slice() == text,
         _ => false,
@@ -211,16 +213,16 @@ fn ended(outcome: Outcome, text: &[u8]) -> bool {
 }
 
 // traps so at this place, and printed this before
-fn trapped(outcome: Outcome, trap: TrapKind, place: Place, text: &[u8]) -> bool {
+fn trapped(outcome: &Outcome, trap: TrapKind, place: Place, text: &[u8]) -> bool {
     match outcome {
         Outcome::Trapped { out, kind, at } => {
-            kind == trap && at == place && out.as_slice() == text
+            *kind == trap && *at == place && out.as_slice() == text
         }
         _ => false,
     }
 }
 
-fn out_of_steps(outcome: Outcome, text: &[u8]) -> bool {
+fn out_of_steps(outcome: &Outcome, text: &[u8]) -> bool {
     match outcome {
         Outcome::OutOfSteps { out } => out.as_slice() == text,
         _ => false,
@@ -240,8 +242,8 @@ fn ten_turns(alloc: Global) -> Result<Vec<Stmt>, Fail> {
 #[test]
 fn a_turn_of_an_uncounted_loop_takes_a_step(rt: HostRuntime) -> Result<(), Fail> {
     let alloc = rt.alloc();
-    assert!(&rt; ended(run(alloc, ten_turns(alloc)?, b"", 10)?, b"10\n"));
-    assert!(&rt; out_of_steps(run(alloc, ten_turns(alloc)?, b"", 9)?, b""));
+    assert!(&rt; ended(&run(alloc, ten_turns(alloc)?, b"", 10)?, b"10\n"));
+    assert!(&rt; out_of_steps(&run(alloc, ten_turns(alloc)?, b"", 9)?, b""));
     Ok(())
 }
 
@@ -258,7 +260,7 @@ fn counted_loops_fill_and_sum_an_array(rt: HostRuntime) -> Result<(), Fail> {
         print(alloc, b"%d ", var(S))?,
         print(alloc, b"%4d%%", var(I))?,
     ]?;
-    assert!(&rt; ended(run(alloc, body, b"", 0)?, b"140    8%"));
+    assert!(&rt; ended(&run(alloc, body, b"", 0)?, b"140    8%"));
     Ok(())
 }
 
@@ -278,7 +280,7 @@ fn traps_stand_at_their_places(rt: HostRuntime) -> Result<(), Fail> {
     ];
     for (statement, kind, at) in rows {
         let body = vec![in alloc; print(alloc, b"%d", num(7))?, statement]?;
-        assert!(&rt; trapped(run(alloc, body, b"", 0)?, kind, at, b"7"));
+        assert!(&rt; trapped(&run(alloc, body, b"", 0)?, kind, at, b"7"));
     }
     Ok(())
 }
@@ -320,7 +322,7 @@ fn expressions_have_their_values(rt: HostRuntime) -> Result<(), Fail> {
     ];
     for (value, text) in rows {
         let body = vec![in alloc; print(alloc, b"%d", value)?]?;
-        assert!(&rt; ended(run(alloc, body, b"", 0)?, text));
+        assert!(&rt; ended(&run(alloc, body, b"", 0)?, text));
     }
     Ok(())
 }
@@ -336,7 +338,7 @@ fn a_declaration_begins_at_zero(rt: HostRuntime) -> Result<(), Fail> {
         at: HERE,
     });
     let body = vec![in alloc; set(X, num(9)), declare, print(alloc, b"%d", var(X))?]?;
-    assert!(&rt; ended(run(alloc, body, b"", 0)?, b"1"));
+    assert!(&rt; ended(&run(alloc, body, b"", 0)?, b"1"));
     Ok(())
 }
 
@@ -358,7 +360,7 @@ fn scanf_reads_numbers(rt: HostRuntime) -> Result<(), Fail> {
             print(alloc, b"%d ", var(X))?,
             print(alloc, b"%d", var(S))?,
         ]?;
-        assert!(&rt; ended(run(alloc, body, input, 0)?, text));
+        assert!(&rt; ended(&run(alloc, body, input, 0)?, text));
     }
     Ok(())
 }
@@ -385,7 +387,7 @@ fn gmove_reads_before_it_writes(rt: HostRuntime) -> Result<(), Fail> {
     });
     assert!(&rt;
         ended(
-            moved(
+            &moved(
                 alloc,
                 section(alloc, TARGET, 1, 7)?,
                 section(alloc, ARRAY, 0, 7)?
@@ -393,10 +395,10 @@ fn gmove_reads_before_it_writes(rt: HostRuntime) -> Result<(), Fail> {
             b"21"
         )
     );
-    assert!(&rt; ended(moved(alloc, section(alloc, TARGET, 2, 6)?, scalar)?, b"1"));
+    assert!(&rt; ended(&moved(alloc, section(alloc, TARGET, 2, 6)?, scalar)?, b"1"));
     assert!(&rt;
         ended(
-            moved(
+            &moved(
                 alloc,
                 section(alloc, TARGET, 9, 0)?,
                 section(alloc, ARRAY, -1, 0)?
@@ -406,7 +408,7 @@ fn gmove_reads_before_it_writes(rt: HostRuntime) -> Result<(), Fail> {
     );
     assert!(&rt;
         trapped(
-            moved(
+            &moved(
                 alloc,
                 section(alloc, TARGET, 1, 7)?,
                 section(alloc, ARRAY, 0, 6)?
@@ -418,7 +420,7 @@ fn gmove_reads_before_it_writes(rt: HostRuntime) -> Result<(), Fail> {
     );
     assert!(&rt;
         trapped(
-            moved(
+            &moved(
                 alloc,
                 section(alloc, TARGET, 1, 8)?,
                 section(alloc, ARRAY, 0, 9)?
@@ -430,7 +432,7 @@ fn gmove_reads_before_it_writes(rt: HostRuntime) -> Result<(), Fail> {
     );
     assert!(&rt;
         trapped(
-            moved(
+            &moved(
                 alloc,
                 section(alloc, TARGET, 0, 8)?,
                 section(alloc, ARRAY, -1, 8)?
