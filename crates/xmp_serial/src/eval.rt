@@ -36,6 +36,20 @@ impl<C: Callee> Frame<'_, C> {
         match e {
             Expr::Const(value, _) => Ok(*value),
             Expr::Scalar(slot, _) => Ok(state.scalar(*slot)),
+            _ => self.eval_whole(e, state),
+        }
+    }
+
+    /// The same with an arm for each form: a function sets all its locals to 0 when it begins, which the leaves needn't wait for.
+    #[cycle(eval)]
+    #[inline(never)]
+    fn eval_whole(&self, e: &Expr, state: &mut State) -> Result<i64, Halt>
+        requires { C.ready self.now.callee.now }
+        ensures { Does (expr_of (context_with self.now.program.now self.now.node self.now.input.now (C.calls self.now.callee.now)) e.now state.old) result state.new }
+    {
+        match e {
+            Expr::Const(value, _) => Ok(*value),
+            Expr::Scalar(slot, _) => Ok(state.scalar(*slot)),
             Expr::Cell(access) => {
                 let at = self.cell_of(access, state)?;
                 Ok(state.cell(access.array, at))
