@@ -1,0 +1,5 @@
+pub mod Done
+pub mod TokenFacts
+pub mod Exprs
+pub mod Lists
+pub mod Lines

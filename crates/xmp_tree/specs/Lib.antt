@@ -6,3 +6,4 @@ pub mod View
 pub mod Spell
 pub mod Fits
 pub mod Refused
+pub mod Steps
