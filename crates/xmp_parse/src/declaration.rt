@@ -1,5 +1,5 @@
 // Declarations of scalars and arrays.
-use crate::depth::Effect;
+use crate::effect::Effect;
 use crate::expression::expression;
 use crate::parts::{Part, dims, more_parts, type_words};
 use crate::reader::{Parsed, Reader};

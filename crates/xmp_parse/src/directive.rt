@@ -1,5 +1,5 @@
 // The directives that hold no statement, and the lines of those that do.
-use crate::depth::Effect;
+use crate::effect::Effect;
 use crate::expression::expression;
 use crate::marks::Class;
 use crate::mapping::after_colon;

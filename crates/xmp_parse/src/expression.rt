@@ -1,5 +1,5 @@
 // Expressions. `colon` says that a `:` may stand behind one.
-use crate::depth::Effect;
+use crate::effect::Effect;
 use crate::marks::Class;
 use crate::reader::{Parsed, Reader};
 use sqlite_items::{Boxed, Items};

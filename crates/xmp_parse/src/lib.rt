@@ -1,18 +1,6 @@
 //! The parser: from the tokens of a text to its tree, or to the first token that no program has there.
 #![tactic(auto)]
 
-mod declaration;
 mod depth;
-mod directive;
-mod expression;
-mod mapping;
+mod effect;
 mod marks;
-mod parts;
-mod program;
-mod reader;
-mod simple;
-mod statement;
-#[cfg(test)]
-mod tests;
-
-pub use program::parse;

@@ -1,5 +1,6 @@
 // The lines of nodes, templates, distributions, aligns and shadows.
-use crate::depth::{Depth, Effect};
+use crate::depth::Depth;
+use crate::effect::Effect;
 use crate::expression::{expression, level};
 use crate::marks::Class;
 use crate::parts::{Part, any_dims, comma_list, dims};

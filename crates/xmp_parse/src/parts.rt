@@ -1,5 +1,5 @@
 // Lists of parts, and parts in brackets.
-use crate::depth::Effect;
+use crate::effect::Effect;
 use crate::expression::expression;
 use crate::reader::{Parsed, Reader};
 use sqlite_items::Items;

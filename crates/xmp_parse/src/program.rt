@@ -1,6 +1,6 @@
 // Programs.
 use crate::declaration::declaration_rest;
-use crate::depth::{Depth, Effect};
+use crate::effect::{Effect, start};
 use crate::mapping::mapping;
 use crate::parts::{Part, comma_list, type_words};
 use crate::reader::{Parsed, Reader, Stop};
@@ -121,7 +121,7 @@ fn refusal(tokens: &[Token], rule: u16, left: usize) -> Fault {
 
 /// The program that the tokens spell, or the first token at which they are none.
 pub fn parse(alloc: Global, tokens: &[Token]) -> Result<Tree, Fault> {
-    let depth = Depth::start();
+    let depth = start();
     match whole(alloc, Reader { tokens, depth }) {
         Ok(tree) => Ok(tree),
         Err(Stop::NoMemory) => Err(Fault::NoMemory),

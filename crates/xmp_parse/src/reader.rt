@@ -1,5 +1,18 @@
 // Tokens that are read from left to right.
-use crate::depth::{Depth, Effect};
+ghost use Rattle.std.specs.Prelude.{◌≡◌, ◌≤◌, ◌<◌, ◌&&◌, ◌||◌, List, ℕ, IfOk, MatchOption, [], ◌∷◌, length, true, cond, option_map};
+ghost use Rattle.xmp_lex.specs.declared.token.Mark.TheVariants as m;
+ghost use Rattle.xmp_lex.specs.declared.token.TokenKind.TheVariants as t;
+ghost use Rattle.xmp_tree.specs.Reading.{Test, Rule, Depths, State, part, tok};
+ghost use Rattle.xmp_tree.specs.Parts as p;
+ghost use Rattle.xmp_tree.specs.Grammar as g;
+ghost use Rattle.xmp_tree.specs.Spell.{◌at◌, type_word};
+ghost use Rattle.xmp_parse.specs.Going.{next_is, Comes, at};
+ghost use Rattle.xmp_parse.specs.declared.effect.Effect.TheVariants as effect;
+ghost use Rattle.xmp_parse.specs.declared.reader.Stop.TheVariants as stop;
+ghost use Rattle.xmp_parse.specs.Effects.{Takes, of_class, IsClass};
+
+use crate::depth::Depth;
+use crate::effect::{Effect, behind};
 use crate::marks::{Class, has};
 use std::alloc::{AllocError, Global};
 use xmp_base::{Bytes, NoMemory, Place};
@@ -56,7 +69,9 @@ fn copied(alloc: Global, bytes: &Bytes) -> Result<Bytes, NoMemory> {
 
 impl<'a> Reader<'a> {
     /// The kind of the next token.
-    pub fn kind(self) -> Option<&'a TokenKind> {
+    pub fn kind(self) -> Option<&'a TokenKind>
+        ensures { MatchOption result (self.tokens.now ≡ []) (λ k. next_is (λ x. true) self.tokens.now ≡ true) }
+    {
         match self.tokens.first() {
             Some(token) => Some(&token.kind),
             None => None,
@@ -64,7 +79,9 @@ impl<'a> Reader<'a> {
     }
 
     /// The refusal of the next token.
-    pub fn unexpected(self) -> Stop {
+    pub fn unexpected(self) -> Stop
+        ensures { result ≡ stop.Unexpected (length self.tokens.now) }
+    {
         Stop::Unexpected(self.tokens.len())
     }
 
@@ -72,7 +89,7 @@ impl<'a> Reader<'a> {
     pub fn past(self, effect: Effect) -> Parsed<'a, Place> {
         match self.tokens.split_first() {
             None => Err(self.unexpected()),
-            Some((token, rest)) => match self.depth.behind(effect) {
+            Some((token, rest)) => match behind(self.depth, effect) {
                 None => Err(Stop::TooDeep(self.tokens.len())),
                 Some(depth) => Ok((
                     token.at,
@@ -85,14 +102,18 @@ impl<'a> Reader<'a> {
         }
     }
 
-    pub fn is_mark(self, mark: Mark) -> bool {
+    pub fn is_mark(self, mark: Mark) -> bool
+        ensures { result ≡ next_is (g.is_mark mark) self.tokens.now }
+    {
         match self.kind() {
             Some(TokenKind::Mark(found)) => *found == mark,
             _ => false,
         }
     }
 
-    pub fn is_word(self, word: Reserved) -> bool {
+    pub fn is_word(self, word: Reserved) -> bool
+        ensures { result ≡ next_is (g.is_word word) self.tokens.now }
+    {
         match self.kind() {
             Some(TokenKind::Word(found)) => *found == word,
             _ => false,
@@ -100,27 +121,38 @@ impl<'a> Reader<'a> {
     }
 
     /// Whether the next token is the name that is spelled so.
-    pub fn is_spelled(self, bytes: &[u8]) -> bool {
+    pub fn is_spelled(self, bytes: &[u8]) -> bool
+        ensures { result ≡ next_is (g.is_spelled bytes.now) self.tokens.now }
+    {
         match self.kind() {
             Some(TokenKind::Name(found)) => found.as_slice() == bytes,
             _ => false,
         }
     }
 
-    pub fn is_pragma(self) -> bool {
+    pub fn is_pragma(self) -> bool
+        ensures { result ≡ next_is g.is_pragma self.tokens.now }
+    {
         matches!(self.kind(), Some(TokenKind::Pragma))
     }
 
-    pub fn is_finish(self) -> bool {
+    pub fn is_finish(self) -> bool
+        ensures { result ≡ next_is g.is_finish self.tokens.now }
+    {
         matches!(self.kind(), Some(TokenKind::Finish))
     }
 
-    pub fn is_type(self) -> bool {
+    pub fn is_type(self) -> bool
+        ensures { result ≡ next_is g.is_type self.tokens.now }
+    {
         self.is_word(Reserved::Int) || self.is_word(Reserved::Long)
     }
 
     /// Whether the next token is a mark of the class.
-    pub fn is_of(self, class: Class) -> bool {
+    pub fn is_of(self, class: Class) -> bool
+        requires { IsClass class }
+        ensures { result ≡ next_is (of_class class) self.tokens.now }
+    {
         match self.kind() {
             Some(TokenKind::Mark(found)) => has(class, *found),
             _ => false,
@@ -138,7 +170,10 @@ impl<'a> Reader<'a> {
         }
     }
 
-    pub fn mark(self, mark: Mark, effect: Effect) -> Parsed<'a, Place> {
+    pub fn mark(self, mark: Mark, effect: Effect) -> Parsed<'a, Place>
+        ensures goes { Takes effect (g.is_mark mark) self result }
+        ensures reads { IfOk result (λ x. self.tokens.now ≡ t.Mark mark at x.0 ∷ x.1.tokens.now) }
+    {
         if self.is_mark(mark) {
             self.past(effect)
         } else {
@@ -146,7 +181,10 @@ impl<'a> Reader<'a> {
         }
     }
 
-    pub fn word(self, word: Reserved, effect: Effect) -> Parsed<'a, Place> {
+    pub fn word(self, word: Reserved, effect: Effect) -> Parsed<'a, Place>
+        ensures goes { Takes effect (g.is_word word) self result }
+        ensures reads { IfOk result (λ x. self.tokens.now ≡ t.Word word at x.0 ∷ x.1.tokens.now) }
+    {
         if self.is_word(word) {
             self.past(effect)
         } else {
@@ -154,7 +192,10 @@ impl<'a> Reader<'a> {
         }
     }
 
-    pub fn spelled(self, bytes: &[u8], effect: Effect) -> Parsed<'a, Place> {
+    pub fn spelled(self, bytes: &[u8], effect: Effect) -> Parsed<'a, Place>
+        ensures goes { Takes effect (g.is_spelled bytes.now) self result }
+        ensures reads { IfOk result (λ x. self.tokens.now ≡ t.Name bytes.now at x.0 ∷ x.1.tokens.now) }
+    {
         if self.is_spelled(bytes) {
             self.past(effect)
         } else {
@@ -162,7 +203,10 @@ impl<'a> Reader<'a> {
         }
     }
 
-    pub fn pragma(self) -> Parsed<'a, Place> {
+    pub fn pragma(self) -> Parsed<'a, Place>
+        ensures goes { Takes effect.Plain g.is_pragma self result }
+        ensures reads { IfOk result (λ x. self.tokens.now ≡ t.Pragma at x.0 ∷ x.1.tokens.now) }
+    {
         if self.is_pragma() {
             self.past(Effect::Plain)
         } else {
@@ -170,14 +214,22 @@ impl<'a> Reader<'a> {
         }
     }
 
-    pub fn line_end(self) -> Parsed<'a, Place> {
+    pub fn line_end(self) -> Parsed<'a, Place>
+        ensures goes { Takes effect.Plain g.is_close self result }
+        ensures reads { IfOk result (λ x. self.tokens.now ≡ t.Close at x.0 ∷ x.1.tokens.now) }
+    {
         match self.kind() {
             Some(TokenKind::Close) => self.past(Effect::Plain),
             _ => Err(self.unexpected()),
         }
     }
 
-    pub fn mark_of(self, class: Class, effect: Effect) -> Parsed<'a, Placed<Mark>> {
+    pub fn mark_of(self, class: Class, effect: Effect) -> Parsed<'a, Placed<Mark>>
+        requires { IsClass class }
+        ensures goes { Takes effect (of_class class) self result }
+        ensures reads { IfOk result (λ x. self.tokens.now ≡ t.Mark x.0.what at x.0.at ∷ x.1.tokens.now) }
+        ensures kind { IfOk result (λ x. of_class class (t.Mark x.0.what) ≡ true) }
+    {
         match self.kind() {
             Some(TokenKind::Mark(found)) if has(class, *found) => {
                 let (at, rest) = self.past(effect)?;
@@ -187,7 +239,11 @@ impl<'a> Reader<'a> {
         }
     }
 
-    pub fn name(self, alloc: Global) -> Parsed<'a, Name> {
+    pub fn name(self, alloc: Global) -> Parsed<'a, Name>
+        ensures goes { Takes effect.Plain g.is_name self result }
+        ensures reads { IfOk result (λ x. self.tokens.now ≡ t.Name x.0.text at x.0.at ∷ x.1.tokens.now) }
+        ensures deep { IfOk result (λ x. x.1.depth.now ≤ 128) }
+    {
         match self.kind() {
             Some(TokenKind::Name(text)) => {
                 let (at, rest) = self.past(Effect::Plain)?;
@@ -198,7 +254,10 @@ impl<'a> Reader<'a> {
         }
     }
 
-    pub fn format(self, alloc: Global) -> Parsed<'a, Format> {
+    pub fn format(self, alloc: Global) -> Parsed<'a, Format>
+        ensures goes { Takes effect.Plain g.is_text self result }
+        ensures reads { IfOk result (λ x. self.tokens.now ≡ t.Text x.0.text at x.0.at ∷ x.1.tokens.now) }
+    {
         match self.kind() {
             Some(TokenKind::Text(text)) => {
                 let (at, rest) = self.past(Effect::Plain)?;
@@ -209,7 +268,10 @@ impl<'a> Reader<'a> {
         }
     }
 
-    pub fn number(self) -> Parsed<'a, (i64, Ty, Place)> {
+    pub fn number(self) -> Parsed<'a, (i64, Ty, Place)>
+        ensures goes { Takes effect.Plain g.is_number self result }
+        ensures reads { IfOk result (λ x. self.tokens.now ≡ t.Number x.0.0 x.0.1 at x.0.2 ∷ x.1.tokens.now) }
+    {
         match self.kind() {
             Some(TokenKind::Number(value, ty)) => {
                 let (at, rest) = self.past(Effect::Plain)?;
@@ -220,7 +282,10 @@ impl<'a> Reader<'a> {
     }
 
     /// The type of a cast.
-    pub fn cast_type(self) -> Parsed<'a, Placed<Ty>> {
+    pub fn cast_type(self) -> Parsed<'a, Placed<Ty>>
+        ensures goes { Takes effect.Plain g.is_type self result }
+        ensures reads { IfOk result (λ x. self.tokens.now ≡ t.Word (type_word x.0.what) at x.0.at ∷ x.1.tokens.now) }
+    {
         match self.kind() {
             Some(TokenKind::Word(Reserved::Int)) => {
                 let (at, rest) = self.past(Effect::Plain)?;
@@ -235,7 +300,10 @@ impl<'a> Reader<'a> {
     }
 
     /// The same place, behind a statement that is counted.
-    pub fn leaving(self, outer: Depth) -> Reader<'a> {
+    pub fn leaving(self, outer: Depth) -> Reader<'a>
+        ensures tokens { result.tokens ≡ self.tokens }
+        ensures depth { result.depth ≡ outer }
+    {
         Reader {
             tokens: self.tokens,
             depth: outer,

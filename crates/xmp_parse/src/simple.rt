@@ -1,5 +1,5 @@
 // Statements that hold no statement.
-use crate::depth::Effect;
+use crate::effect::Effect;
 use crate::expression::{arguments, expression, image, reference, subscripts};
 use crate::marks::Class;
 use crate::mapping::in_parens;

@@ -1,6 +1,6 @@
 // Statements, blocks, and the directives that hold statements.
 use crate::declaration::declaration;
-use crate::depth::Effect;
+use crate::effect::Effect;
 use crate::directive::{
     DirectiveWord, barrier, bcast, directive_word, gmove, loop_line, reflect, task_line, tasks_line,
 };
