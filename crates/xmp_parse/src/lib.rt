@@ -3,4 +3,6 @@
 
 mod depth;
 mod effect;
+mod kinds;
 mod marks;
+mod reader;

@@ -1,4 +1,9 @@
 // Classes of marks.
+ghost use Rattle.std.specs.Prelude.{◌≡◌};
+ghost use Rattle.xmp_lex.specs.declared.token.TokenKind.TheVariants as t;
+ghost use Rattle.xmp_tree.specs.Grammar.{mark_binds, is_assign_mark};
+ghost use Rattle.xmp_parse.specs.Classes.{of_class};
+
 use xmp_lex::Mark;
 
 #[derive(Clone, Copy, Debug, PartialEq, Eq)]
@@ -16,7 +21,9 @@ pub enum Class {
 }
 
 /// How loosely a binary operator binds, 1 to 10; 0 for what is none.
-pub fn binds(mark: Mark) -> u32 {
+pub fn binds(mark: Mark) -> u32
+    ensures { result ≡ mark_binds mark }
+{
     match mark {
         Mark::Star | Mark::Slash | Mark::Percent => 1,
         Mark::Plus | Mark::Minus => 2,
@@ -32,7 +39,9 @@ pub fn binds(mark: Mark) -> u32 {
     }
 }
 
-fn assigns(mark: Mark) -> bool {
+fn assigns(mark: Mark) -> bool
+    ensures { result ≡ is_assign_mark mark }
+{
     matches!(
         mark,
         Mark::Assign
@@ -50,7 +59,9 @@ fn assigns(mark: Mark) -> bool {
 }
 
 /// Whether the class has the mark.
-pub fn has(class: Class, mark: Mark) -> bool {
+pub fn has(class: Class, mark: Mark) -> bool
+    ensures { result ≡ of_class class (t.Mark mark) }
+{
     match class {
         Class::Binary(level) => binds(mark) == level,
         Class::Unary => matches!(mark, Mark::Plus | Mark::Minus | Mark::Tilde | Mark::Bang),
