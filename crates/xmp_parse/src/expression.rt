@@ -1,5 +1,4 @@
 // Expressions. `colon` says that a `:` may stand behind one.
-#![tactic(none)]
 ghost use Rattle.std.specs.Prelude.{◌≡◌, ◌≤◌, ◌<◌, suc, IfOk, ◌∷◌, length};
 ghost use Rattle.xmp_lex.specs.declared.token.Mark.TheVariants as m;
 ghost use Rattle.xmp_lex.specs.declared.token.TokenKind.TheVariants as t;
@@ -15,9 +14,10 @@ use crate::effect::Effect;
 use crate::marks::Class;
 use crate::reader::{Parsed, Reader};
 use sqlite_items::{Boxed, Items};
-use std::alloc::Global;
+use std::alloc::{AllocError, Global};
+use xmp_base::Place;
 use xmp_lex::Mark;
-use xmp_tree::{Expr, Inside, Link};
+use xmp_tree::{Call, CommaList, Expr, Image, Inside, Link, Next, Reference};
 
 /// The loosest level of binary operators.
 const LOOSEST: u32 = 10;
@@ -34,14 +34,51 @@ pub fn expression(alloc: Global, colon: bool, r: Reader<'_>) -> Parsed<'_, Expr>
     if !r.is_mark(Mark::Question) {
         return Ok((condition, r));
     }
+    let (branches, r) = branches(alloc, colon, r)?;
+    Ok((conditional(alloc, condition, branches)?, r))
+}
+
+/// The branches of a conditional, with the marks before them.
+#[derive(Drop)]
+struct Branches {
+    question: Place,
+    yes: Boxed<Expr>,
+    colon: Place,
+    no: Boxed<Expr>,
+}
+
+/// Both branches of a conditional, from its `?` on.
+#[cycle(expr)]
+fn branches(alloc: Global, colon: bool, r: Reader<'_>) -> Parsed<'_, Branches> {
     let (question, r) = r.mark(Mark::Question, Effect::Operator)?;
-    let (yes, r) = expression(alloc, true, r)?;
+    let (yes, r) = boxed(alloc, true, r)?;
     let (mark, r) = r.mark(Mark::Colon, Effect::Operator)?;
-    let (no, r) = expression(alloc, colon, r)?;
+    let (no, r) = boxed(alloc, colon, r)?;
+    let made = Branches {
+        question,
+        yes,
+        colon: mark,
+        no,
+    };
+    Ok((made, r))
+}
+
+/// An expression on the heap.
+#[cycle(expr)]
+fn boxed(alloc: Global, colon: bool, r: Reader<'_>) -> Parsed<'_, Boxed<Expr>> {
+    let (made, r) = expression(alloc, colon, r)?;
+    Ok((Boxed::new(alloc, made)?, r))
+}
+
+fn conditional(alloc: Global, condition: Expr, branches: Branches) -> Result<Expr, AllocError> {
+    let Branches {
+        question,
+        yes,
+        colon,
+        no,
+    } = branches;
     let condition = Boxed::new(alloc, condition)?;
-    let yes = Boxed::new(alloc, yes)?;
-    let no = Boxed::new(alloc, no)?;
-    Ok((Expr::Conditional(condition, question, yes, mark, no), r))
+    Ok(Expr::Conditional(condition, question, yes, colon, no))
 }
 
 /// Operands with operators that bind no looser than `n` says.
@@ -54,15 +91,33 @@ pub fn level(alloc: Global, n: u32, colon: bool, r: Reader<'_>) -> Parsed<'_, Ex
     ensures level { IfOk result (λ x. level_of (expr_view x.0) ≤ n) }
     ensures shorter { IfOk result (λ x. length x.1.tokens.now < length r.entry.tokens.now) }
 {
-    if n == 0 {
-        return operand(alloc, colon, r);
+    let (mut made, mut rest) = operand(alloc, colon, r)?;
+    for below in 0..n {
+        (made, rest) = longer(alloc, below, colon, made, rest)?;
     }
-    let (first, r) = level(alloc, n - 1, colon, r)?;
-    let (links, r) = links(alloc, n, n - 1, colon, r)?;
+    Ok((made, rest))
+}
+
+/// An expression of one level more, of which the first operand is read.
+#[cycle(expr)]
+fn longer(
+    alloc: Global,
+    below: u32,
+    colon: bool,
+    first: Expr,
+    r: Reader<'_>,
+) -> Parsed<'_, Expr> {
+    let (links, r) = links(alloc, below + 1, below, colon, r)?;
+    Ok((chain(alloc, first, links)?, r))
+}
+
+/// Operands of one level, where there is more than one.
+fn chain(alloc: Global, first: Expr, links: Items<Link<Boxed<Expr>>>) -> Result<Expr, AllocError> {
     if links.is_empty() {
-        return Ok((first, r));
+        Ok(first)
+    } else {
+        Ok(Expr::Chain(Boxed::new(alloc, first)?, links))
     }
-    Ok((Expr::Chain(Boxed::new(alloc, first)?, links), r))
 }
 
 /// Operators of level `n` with their right operands, which bind tighter.
@@ -106,6 +161,9 @@ fn operand(alloc: Global, colon: bool, r: Reader<'_>) -> Parsed<'_, Expr>
         let ((value, ty, at), r) = r.number()?;
         return Ok((Expr::Number(at, value, ty), r));
     }
+    if r.is_name() {
+        return named(alloc, colon, r);
+    }
     if r.is_mark(Mark::OpenParen) {
         return parens_or_cast(alloc, colon, r);
     }
@@ -134,9 +192,134 @@ fn parens_or_cast(alloc: Global, colon: bool, r: Reader<'_>) -> Parsed<'_, Expr>
         let ty = Inside { open, item, close };
         return Ok((Expr::Cast(ty, Boxed::new(alloc, operand)?), r));
     }
-    let (item, r) = expression(alloc, false, r)?;
+    let (item, r) = boxed(alloc, false, r)?;
     let (close, r) = r.mark(Mark::CloseParen, Effect::Closing(outer))?;
-    let item = Boxed::new(alloc, item)?;
     Ok((Expr::Parens(Inside { open, item, close }), r))
 }
 
+/// A call, or a variable or an element.
+#[cycle(expr)]
+fn named(alloc: Global, colon: bool, r: Reader<'_>) -> Parsed<'_, Expr>
+    ensures goes { Parses (g.rule (p.named colon)) r.entry result }
+    ensures reads { IfOk result (λ x. r.entry.tokens.now ≡ spell (expr_view x.0) x.1.tokens.now) }
+    ensures fits { IfOk result (λ x. Fits (expr_view x.0)) }
+    ensures level { IfOk result (λ x. level_of (expr_view x.0) ≤ 0) }
+    ensures shorter { IfOk result (λ x. length x.1.tokens.now < length r.entry.tokens.now) }
+{
+    let (name, r) = r.name(alloc)?;
+    if r.is_mark(Mark::OpenParen) {
+        let (arguments, r) = arguments(alloc, r)?;
+        return Ok((Expr::Call(Call { name, arguments }), r));
+    }
+    let (subscripts, r) = subscripts(alloc, r)?;
+    let (image, r) = image(alloc, colon, r)?;
+    let reference = Reference {
+        name,
+        subscripts,
+        image,
+    };
+    Ok((Expr::Read(reference), r))
+}
+
+/// The subscripts of an element, none of a variable.
+#[cycle(expr)]
+pub fn subscripts(alloc: Global, r: Reader<'_>) -> Parsed<'_, Items<Inside<Boxed<Expr>>>>
+    requires { r.depth.now ≤ 128 }
+    ensures goes { Parses (part p.subscripts) r.entry result }
+    ensures reads { IfOk result (λ x. r.entry.tokens.now ≡ spell_subscripts (subscripts_view x.0) x.1.tokens.now) }
+    ensures fits { IfOk result (λ x. FitsSubscripts (subscripts_view x.0)) }
+    ensures deep { IfOk result (λ x. x.1.depth.now ≤ 128) }
+    ensures shorter { IfOk result (λ x. length x.1.tokens.now ≤ length r.entry.tokens.now) }
+{
+    let mut subscripts = Items::new(alloc);
+    let mut rest = r;
+    while rest.is_mark(Mark::OpenBracket) {
+        let outer = rest.depth;
+        let (open, r) = rest.mark(Mark::OpenBracket, Effect::Opening)?;
+        let (item, r) = boxed(alloc, false, r)?;
+        let (close, r) = r.mark(Mark::CloseBracket, Effect::Closing(outer))?;
+        subscripts.push(Inside { open, item, close })?;
+        rest = r;
+    }
+    Ok((subscripts, rest))
+}
+
+/// The image behind a reference, where there is one.
+#[cycle(expr)]
+pub fn image(alloc: Global, colon: bool, r: Reader<'_>) -> Parsed<'_, Option<Image<Boxed<Expr>>>>
+    requires { r.depth.now ≤ 128 }
+    ensures goes { Parses (part (p.image colon)) r.entry result }
+    ensures reads { IfOk result (λ x. r.entry.tokens.now ≡ spell_image (image_view x.0) x.1.tokens.now) }
+    ensures fits { IfOk result (λ x. FitsImage (image_view x.0)) }
+    ensures shorter { IfOk result (λ x. length x.1.tokens.now ≤ length r.entry.tokens.now) }
+{
+    if !r.is_image(colon) {
+        return Ok((None, r));
+    }
+    let outer = r.depth;
+    let ((mark, open), r) = r.image_open(colon)?;
+    let (item, r) = boxed(alloc, false, r)?;
+    let (close, r) = r.mark(Mark::CloseBracket, Effect::Closing(outer))?;
+    let number = Inside { open, item, close };
+    let image = Image {
+        colon: mark,
+        number,
+    };
+    Ok((Some(image), r))
+}
+
+/// The arguments of a call, in parentheses.
+#[cycle(expr)]
+pub fn arguments(
+    alloc: Global,
+    r: Reader<'_>,
+) -> Parsed<'_, Inside<Option<CommaList<Boxed<Expr>>>>>
+    ensures goes { Parses (part p.arguments) r.entry result }
+    ensures reads { IfOk result (λ x. r.entry.tokens.now ≡ (t.Mark m.OpenParen at x.0.open) ∷ spell_arguments (arguments_view x.0.item) ((t.Mark m.CloseParen at x.0.close) ∷ x.1.tokens.now)) }
+    ensures fits { IfOk result (λ x. FitsArguments (arguments_view x.0.item)) }
+    ensures shorter { IfOk result (λ x. length x.1.tokens.now < length r.entry.tokens.now) }
+{
+    let outer = r.depth;
+    let (open, r) = r.mark(Mark::OpenParen, Effect::Opening)?;
+    if r.is_mark(Mark::CloseParen) {
+        let (close, r) = r.mark(Mark::CloseParen, Effect::Closing(outer))?;
+        let item = None;
+        return Ok((Inside { open, item, close }, r));
+    }
+    let (first, r) = boxed(alloc, false, r)?;
+    let (more, r) = more_arguments(alloc, r)?;
+    let (close, r) = r.mark(Mark::CloseParen, Effect::Closing(outer))?;
+    let item = Some(CommaList { first, more });
+    Ok((Inside { open, item, close }, r))
+}
+
+#[cycle(expr)]
+fn more_arguments(alloc: Global, r: Reader<'_>) -> Parsed<'_, Items<Next<Boxed<Expr>>>>
+    ensures goes { Parses (many (g.is_mark m.Comma) (g.comma · g.expr)) r.entry result }
+    ensures reads { IfOk result (λ x. r.entry.tokens.now ≡ spell_rest (rest_view x.0) x.1.tokens.now) }
+    ensures fits { IfOk result (λ x. FitsRest (rest_view x.0)) }
+    ensures shorter { IfOk result (λ x. length x.1.tokens.now ≤ length r.entry.tokens.now) }
+{
+    let mut more = Items::new(alloc);
+    let mut rest = r;
+    while rest.is_mark(Mark::Comma) {
+        let (comma, r) = rest.mark(Mark::Comma, Effect::Separator)?;
+        let (item, r) = boxed(alloc, false, r)?;
+        more.push(Next { comma, item })?;
+        rest = r;
+    }
+    Ok((more, rest))
+}
+
+/// A variable or an element, behind which no other colon may stand.
+pub fn reference(alloc: Global, r: Reader<'_>) -> Parsed<'_, Reference<Boxed<Expr>>> {
+    let (name, r) = r.name(alloc)?;
+    let (subscripts, r) = subscripts(alloc, r)?;
+    let (image, r) = image(alloc, false, r)?;
+    let reference = Reference {
+        name,
+        subscripts,
+        image,
+    };
+    Ok((reference, r))
+}
