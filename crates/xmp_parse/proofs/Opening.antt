@@ -78,7 +78,7 @@ pub level_of_operators : {s : State} {D : Depths} {c : Bool} {K : List Rule} {ts
     → Comes s (reading D (part (p.level b c) ∷ many (binary n) (tok operator (binary n) · part (p.level b c)) ∷ K) ts)
 level_of_operators {s = s} {D = D} {c = c} {K = K} {ts = ts} n b e w =
     subst (λ (x : ℕ). Comes s (reading D (part (p.level b c) ∷ many (binary x) (tok operator (binary x) · part (p.level b c)) ∷ K) ts)) (sym e)
-      (into (subst (λ (x : ℕ). Comes s (reading D (part (p.level x c) ∷ K) ts)) e w))
+    (into (subst (λ (x : ℕ). Comes s (reading D (part (p.level x c) ∷ K) ts)) e w))
 
 -- an operand by its first token
 operand_by : (s : State) (D : Depths) (c : Bool) (K : List Rule) (k : Token) (ts : List Token) (P : Part) → operand_of c k.kind ≡ P → Comes s (reading D (part (p.level 0 c) ∷ K) (k ∷ ts)) → Comes s (reading D (rule P ∷ K) (k ∷ ts))
@@ -116,7 +116,6 @@ paren_operand c (t.Define a) h = cc
 paren_operand c t.Pragma h = cc
 paren_operand c t.Close h = cc
 paren_operand c t.Finish h = cc
-
 
 unary_mark_operand : (c : Bool) (x : Mark) → is_unary_mark x ≡ true → operand_of c (t.Mark x) ≡ p.unary c
 unary_mark_operand c m.Plus h = refl
@@ -280,17 +279,17 @@ pair_deep : (s : State) (D : Depths) (q r : Test) (a : Rule) (K : List Rule) (k 
 pair_deep (reading E M us) D q r a K k j ts f g w v c =
     let h : q k.kind && r j.kind ≡ true = ap (λ (b : Bool). b && r j.kind) f ∙ g in
     deep_through E M us D (pair q r a ∷ K) (k ∷ j ∷ ts) c.depths (suc (length ts)) c.reads c.shallow
-      (record {
-        front = now D ∷ [];
-        depth = now (behind opening D);
-        now = behind opening D;
-        rules = a ∷ K;
-        rest = ts;
-        reads = onward (ap (λ (b : Bool). pair_step b D a K k j ts) h) here;
-        count = refl;
-        shallow = All-cons (λ d. d ≤ 128) (now D) [] v (All-nil (λ d. d ≤ 128));
-        deep = w;
-      })
+    (record {
+      front = now D ∷ [];
+      depth = now (behind opening D);
+      now = behind opening D;
+      rules = a ∷ K;
+      rest = ts;
+      reads = onward (ap (λ (b : Bool). pair_step b D a K k j ts) h) here;
+      count = refl;
+      shallow = All-cons (λ d. d ≤ 128) (now D) [] v (All-nil (λ d. d ≤ 128));
+      deep = w;
+    })
 
 pub image_taken : (s : State) (d n : Depth) (ks : List Token) (k : Token) (us : List Token) (j : Token) (ts : List Token) (L : List (ℕ × ℕ)) (K : List Rule)
     → ks ≡ k ∷ us → us ≡ j ∷ ts → next_are (is_mark m.Colon) (is_mark m.OpenBracket) ks ≡ true → (n.now ≡ suc d.now) × (n.base ≡ suc d.now) × (n.now ≤ 128) → d.now ≤ 128
@@ -300,7 +299,7 @@ image_taken s d n ks k us j ts L K e f h g v c =
     let q : ks ≡ k ∷ j ∷ ts = e ∙ ap (λ (l : List Token). k ∷ l) f in
     let b = both_true _ _ (subst (λ (l : List Token). next_are (is_mark m.Colon) (is_mark m.OpenBracket) l ≡ true) q h) in
     let r = seq (pair_taken s (depths d.now d.base L) (is_mark m.Colon) (is_mark m.OpenBracket) (expr · tok closing (is_mark m.CloseBracket)) K k j ts b.0 b.1 refl refl
-          (subst (λ (x : ℕ). x ≤ 128) g.0 g.2) v (into (subst (λ (l : List Token). Comes s (reading (depths d.now d.base L) (part (p.image true) ∷ K) l)) q c))) in
+    (subst (λ (x : ℕ). x ≤ 128) g.0 g.2) v (into (subst (λ (l : List Token). Comes s (reading (depths d.now d.base L) (part (p.image true) ∷ K) l)) q c))) in
     same_depths n.now n.base (suc d.now) (suc d.now) _ _ ts s g.0 g.1 r
 
 pub image_deep : (s : State) (d : Depth) (ks : List Token) (k : Token) (us : List Token) (j : Token) (ts : List Token) (L : List (ℕ × ℕ)) (K : List Rule)
@@ -310,8 +309,8 @@ image_deep s d ks k us j ts L K e f h g v c =
     let q : ks ≡ k ∷ j ∷ ts = e ∙ ap (λ (l : List Token). k ∷ l) f in
     let b = both_true _ _ (subst (λ (l : List Token). next_are (is_mark m.Colon) (is_mark m.OpenBracket) l ≡ true) q h) in
     subst (λ (l : List Token). TooDeepAt s (length l)) (sym f)
-      (pair_deep s (depths d.now d.base L) (is_mark m.Colon) (is_mark m.OpenBracket) (expr · tok closing (is_mark m.CloseBracket)) K k j ts b.0 b.1 g v
-        (into (subst (λ (l : List Token). Comes s (reading (depths d.now d.base L) (part (p.image true) ∷ K) l)) q c)))
+    (pair_deep s (depths d.now d.base L) (is_mark m.Colon) (is_mark m.OpenBracket) (expr · tok closing (is_mark m.CloseBracket)) K k j ts b.0 b.1 g v
+    (into (subst (λ (l : List Token). Comes s (reading (depths d.now d.base L) (part (p.image true) ∷ K) l)) q c)))
 
 pub no_pair : (q r : Test) (ks : List Token) (k : Token) (us : List Token) → ks ≡ k ∷ us → us ≡ [] → next_are q r ks ≡ true → ⊥
 no_pair q r ks k us e f h =
@@ -337,3 +336,22 @@ pub image_alone : (x : Bool) {s : State} {D : Depths} {K : List Rule} {ts : List
     → Comes s (reading D (tok plain (is_mark m.Colon) ∷ brackets expr ∷ K) ts)
 image_alone true e h c = cc
 image_alone false e h c = first h (into c)
+
+-- the depths around, counted elsewhere
+pub same_around : {s : State} {a b n m c d : ℕ} {L : List (ℕ × ℕ)} {K : List Rule} {ts : List Token} → n ≡ c → m ≡ d → Comes s (reading (depths a b ((n, m) ∷ L)) K ts) → Comes s (reading (depths a b ((c, d) ∷ L)) K ts)
+same_around {s = s} {a = a} {b = b} {n = n} {m = m} {c = c} {d = d} {L = L} {K = K} {ts = ts} p q w =
+    subst (λ (x : ℕ). Comes s (reading (depths a b ((x, d) ∷ L)) K ts)) p (subst (λ (x : ℕ). Comes s (reading (depths a b ((n, x) ∷ L)) K ts)) q w)
+
+-- a choice by the token that is not to come
+pub first_not : (q : Test) {s : State} {D : Depths} {a b : Rule} {K : List Rule} {ts : List Token} → next_is q ts ≡ false → Comes s (reading D (choice (λ k. not (q k)) a b ∷ K) ts) → Comes s (reading D (head a K) ts)
+first_not q {s = s} {D = D} {a = a} {b = b} {K = K} {ts = []} h c = let f = c.finish in cc
+first_not q {s = s} {D = D} {a = a} {b = b} {K = K} {ts = k ∷ ts} h c = first {s = s} {D = D} {q = λ j. not (q j)} {a = a} {b = b} {K = K} {ts = k ∷ ts} (ap not h) c
+
+pub second_not : (q : Test) {s : State} {D : Depths} {a b : Rule} {K : List Rule} {ts : List Token} → next_is q ts ≡ true → Comes s (reading D (choice (λ k. not (q k)) a b ∷ K) ts) → Comes s (reading D (head b K) ts)
+second_not q {s = s} {D = D} {a = a} {b = b} {K = K} {ts = []} h c = cc
+second_not q {s = s} {D = D} {a = a} {b = b} {K = K} {ts = k ∷ ts} h c = second {s = s} {D = D} {q = λ j. not (q j)} {a = a} {b = b} {K = K} {ts = k ∷ ts} (ap not h) c
+
+-- the first of a choice, as it stands
+pub chosen : {s : State} {D : Depths} {q : Test} {a b : Rule} {K : List Rule} {ts : List Token} → next_is q ts ≡ true → Comes s (reading D (choice q a b ∷ K) ts) → Comes s (reading D (a ∷ K) ts)
+chosen {s = s} {D = D} {q = q} {a = a} {b = b} {K = K} {ts = []} h c = cc
+chosen {s = s} {D = D} {q = q} {a = a} {b = b} {K = K} {ts = k ∷ ts} h c = silent s _ _ (ap (λ (x : Bool). goes [] (reading D (cond x a b ∷ K) (k ∷ ts))) h) refl c

@@ -11,11 +11,11 @@ ghost use Rattle.xmp_tree.specs.View.{expr_view, ref_view, links_view, subscript
 ghost use Rattle.xmp_parse.specs.Going.{Parses};
 
 use crate::effect::Effect;
+use crate::joined::{Branches, chain, conditional};
 use crate::marks::Class;
 use crate::reader::{Parsed, Reader};
 use sqlite_items::{Boxed, Items};
-use std::alloc::{AllocError, Global};
-use xmp_base::Place;
+use std::alloc::Global;
 use xmp_lex::Mark;
 use xmp_tree::{Call, CommaList, Expr, Image, Inside, Link, Next, Reference};
 
@@ -34,22 +34,18 @@ pub fn expression(alloc: Global, colon: bool, r: Reader<'_>) -> Parsed<'_, Expr>
     if !r.is_mark(Mark::Question) {
         return Ok((condition, r));
     }
-    let (branches, r) = branches(alloc, colon, r)?;
+    let (branches, r) = both_branches(alloc, colon, r)?;
     Ok((conditional(alloc, condition, branches)?, r))
-}
-
-/// The branches of a conditional, with the marks before them.
-#[derive(Drop)]
-struct Branches {
-    question: Place,
-    yes: Boxed<Expr>,
-    colon: Place,
-    no: Boxed<Expr>,
 }
 
 /// Both branches of a conditional, from its `?` on.
 #[cycle(expr)]
-fn branches(alloc: Global, colon: bool, r: Reader<'_>) -> Parsed<'_, Branches> {
+fn both_branches(alloc: Global, colon: bool, r: Reader<'_>) -> Parsed<'_, Branches>
+    ensures goes { Parses (tok operator (g.is_mark m.Question) · g.expr_colon · tok operator (g.is_mark m.Colon) · part (p.expression colon)) r.entry result }
+    ensures reads { IfOk result (λ x. r.entry.tokens.now ≡ (t.Mark m.Question at x.0.question) ∷ spell (expr_view x.0.yes) ((t.Mark m.Colon at x.0.colon) ∷ spell (expr_view x.0.no) x.1.tokens.now)) }
+    ensures fits { IfOk result (λ x. Fits (expr_view x.0.yes) × Fits (expr_view x.0.no)) }
+    ensures shorter { IfOk result (λ x. length x.1.tokens.now < length r.entry.tokens.now) }
+{
     let (question, r) = r.mark(Mark::Question, Effect::Operator)?;
     let (yes, r) = boxed(alloc, true, r)?;
     let (mark, r) = r.mark(Mark::Colon, Effect::Operator)?;
@@ -65,20 +61,14 @@ fn branches(alloc: Global, colon: bool, r: Reader<'_>) -> Parsed<'_, Branches> {
 
 /// An expression on the heap.
 #[cycle(expr)]
-fn boxed(alloc: Global, colon: bool, r: Reader<'_>) -> Parsed<'_, Boxed<Expr>> {
+fn boxed(alloc: Global, colon: bool, r: Reader<'_>) -> Parsed<'_, Boxed<Expr>>
+    ensures goes { Parses (part (p.expression colon)) r.entry result }
+    ensures reads { IfOk result (λ x. r.entry.tokens.now ≡ spell (expr_view x.0) x.1.tokens.now) }
+    ensures fits { IfOk result (λ x. Fits (expr_view x.0)) }
+    ensures shorter { IfOk result (λ x. length x.1.tokens.now < length r.entry.tokens.now) }
+{
     let (made, r) = expression(alloc, colon, r)?;
     Ok((Boxed::new(alloc, made)?, r))
-}
-
-fn conditional(alloc: Global, condition: Expr, branches: Branches) -> Result<Expr, AllocError> {
-    let Branches {
-        question,
-        yes,
-        colon,
-        no,
-    } = branches;
-    let condition = Boxed::new(alloc, condition)?;
-    Ok(Expr::Conditional(condition, question, yes, colon, no))
 }
 
 /// Operands with operators that bind no looser than `n` says.
@@ -100,24 +90,19 @@ pub fn level(alloc: Global, n: u32, colon: bool, r: Reader<'_>) -> Parsed<'_, Ex
 
 /// An expression of one level more, of which the first operand is read.
 #[cycle(expr)]
-fn longer(
-    alloc: Global,
-    below: u32,
-    colon: bool,
-    first: Expr,
-    r: Reader<'_>,
-) -> Parsed<'_, Expr> {
+#[tactic(auto, using(crate::proofs::Views::chain_fits))]
+fn longer(alloc: Global, below: u32, colon: bool, first: Expr, r: Reader<'_>) -> Parsed<'_, Expr>
+    requires level { below < 10 }
+    requires first { level_of (expr_view first) ≤ below }
+    requires fits { Fits (expr_view first) }
+    ensures goes { Parses (many (g.binary (suc below)) (tok operator (g.binary (suc below)) · part (p.level below colon))) r.entry result }
+    ensures reads { IfOk result (λ x. spell (expr_view first) r.entry.tokens.now ≡ spell (expr_view x.0) x.1.tokens.now) }
+    ensures fits { IfOk result (λ x. Fits (expr_view x.0)) }
+    ensures level { IfOk result (λ x. level_of (expr_view x.0) ≤ suc below) }
+    ensures shorter { IfOk result (λ x. length x.1.tokens.now ≤ length r.entry.tokens.now) }
+{
     let (links, r) = links(alloc, below + 1, below, colon, r)?;
     Ok((chain(alloc, first, links)?, r))
-}
-
-/// Operands of one level, where there is more than one.
-fn chain(alloc: Global, first: Expr, links: Items<Link<Boxed<Expr>>>) -> Result<Expr, AllocError> {
-    if links.is_empty() {
-        Ok(first)
-    } else {
-        Ok(Expr::Chain(Boxed::new(alloc, first)?, links))
-    }
 }
 
 /// Operators of level `n` with their right operands, which bind tighter.
@@ -150,6 +135,7 @@ fn links(
 
 /// An operand, with the unary operators and casts before it.
 #[cycle(expr)]
+#[tactic(auto, using(crate::proofs::Views::view_number, crate::proofs::Views::view_unary))]
 fn operand(alloc: Global, colon: bool, r: Reader<'_>) -> Parsed<'_, Expr>
     ensures goes { Parses (part (p.level 0 colon)) r.entry result }
     ensures reads { IfOk result (λ x. r.entry.tokens.now ≡ spell (expr_view x.0) x.1.tokens.now) }
@@ -176,6 +162,7 @@ fn operand(alloc: Global, colon: bool, r: Reader<'_>) -> Parsed<'_, Expr>
 }
 
 #[cycle(expr)]
+#[tactic(auto, using(crate::proofs::Views::view_cast, crate::proofs::Views::view_parens))]
 fn parens_or_cast(alloc: Global, colon: bool, r: Reader<'_>) -> Parsed<'_, Expr>
     ensures goes { Parses (g.rule (p.parens_or_cast colon)) r.entry result }
     ensures reads { IfOk result (λ x. r.entry.tokens.now ≡ spell (expr_view x.0) x.1.tokens.now) }
@@ -199,6 +186,7 @@ fn parens_or_cast(alloc: Global, colon: bool, r: Reader<'_>) -> Parsed<'_, Expr>
 
 /// A call, or a variable or an element.
 #[cycle(expr)]
+#[tactic(auto, using(crate::proofs::Views::view_read, crate::proofs::Views::view_call))]
 fn named(alloc: Global, colon: bool, r: Reader<'_>) -> Parsed<'_, Expr>
     ensures goes { Parses (g.rule (p.named colon)) r.entry result }
     ensures reads { IfOk result (λ x. r.entry.tokens.now ≡ spell (expr_view x.0) x.1.tokens.now) }
@@ -270,10 +258,7 @@ pub fn image(alloc: Global, colon: bool, r: Reader<'_>) -> Parsed<'_, Option<Ima
 
 /// The arguments of a call, in parentheses.
 #[cycle(expr)]
-pub fn arguments(
-    alloc: Global,
-    r: Reader<'_>,
-) -> Parsed<'_, Inside<Option<CommaList<Boxed<Expr>>>>>
+pub fn arguments(alloc: Global, r: Reader<'_>) -> Parsed<'_, Inside<Option<CommaList<Boxed<Expr>>>>>
     ensures goes { Parses (part p.arguments) r.entry result }
     ensures reads { IfOk result (λ x. r.entry.tokens.now ≡ (t.Mark m.OpenParen at x.0.open) ∷ spell_arguments (arguments_view x.0.item) ((t.Mark m.CloseParen at x.0.close) ∷ x.1.tokens.now)) }
     ensures fits { IfOk result (λ x. FitsArguments (arguments_view x.0.item)) }
@@ -309,17 +294,4 @@ fn more_arguments(alloc: Global, r: Reader<'_>) -> Parsed<'_, Items<Next<Boxed<E
         rest = r;
     }
     Ok((more, rest))
-}
-
-/// A variable or an element, behind which no other colon may stand.
-pub fn reference(alloc: Global, r: Reader<'_>) -> Parsed<'_, Reference<Boxed<Expr>>> {
-    let (name, r) = r.name(alloc)?;
-    let (subscripts, r) = subscripts(alloc, r)?;
-    let (image, r) = image(alloc, false, r)?;
-    let reference = Reference {
-        name,
-        subscripts,
-        image,
-    };
-    Ok((reference, r))
 }

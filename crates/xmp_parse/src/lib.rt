@@ -6,12 +6,14 @@ mod depth;
 mod directive;
 mod effect;
 mod expression;
+mod joined;
 mod kinds;
 mod mapping;
 mod marks;
 mod parts;
 mod program;
 mod reader;
+mod refusal;
 mod simple;
 mod statement;
 #[cfg(test)]

@@ -4,10 +4,11 @@ use crate::effect::{Effect, start};
 use crate::mapping::mapping;
 use crate::parts::{Part, comma_list, type_words};
 use crate::reader::{Parsed, Reader, Stop};
+use crate::refusal::refusal;
 use crate::statement::body;
 use sqlite_items::Items;
 use std::alloc::Global;
-use xmp_base::{Fault, Phase, Place, Refusal};
+use xmp_base::Fault;
 use xmp_lex::{Mark, Reserved, Token};
 use xmp_tree::{Function, Inside, Name, Parameters, TopItem, Tree, TypeWords};
 
@@ -90,7 +91,7 @@ fn program(alloc: Global, r: Reader<'_>) -> Parsed<'_, Tree> {
         let last = is_function(&item) && r.is_finish();
         parts.push(item)?;
         if last {
-            let (finish, r) = r.take(true, Effect::Plain)?;
+            let (finish, r) = r.finish()?;
             return Ok((Tree { parts, finish }, r));
         }
         at = r;
@@ -104,18 +105,6 @@ fn whole(alloc: Global, r: Reader<'_>) -> Result<Tree, Stop> {
         Ok(tree)
     } else {
         Err(r.unexpected())
-    }
-}
-
-/// The refusal of the token from which so many tokens are left.
-fn refusal(tokens: &[Token], rule: u16, left: usize) -> Fault {
-    match tokens.len().checked_sub(left).and_then(|i| tokens.get(i)) {
-        Some(token) => Fault::Refused(Refusal {
-            phase: Phase::Syntax,
-            rule,
-            at: token.at,
-        }),
-        None => Fault::NoMemory,
     }
 }
 

@@ -1,6 +1,6 @@
 // Statements that hold no statement.
 use crate::effect::Effect;
-use crate::expression::{arguments, expression, image, reference, subscripts};
+use crate::expression::{arguments, expression, image, subscripts};
 use crate::marks::Class;
 use crate::mapping::in_parens;
 use crate::parts::more_parts;
@@ -231,4 +231,17 @@ pub fn condition(
     let (word, r) = r.word(word, Effect::Entering)?;
     let (condition, r) = in_parens(alloc, r)?;
     Ok(((word, condition), r))
+}
+
+/// A variable or an element, behind which no other colon may stand.
+pub fn reference(alloc: Global, r: Reader<'_>) -> Parsed<'_, Reference<Boxed<Expr>>> {
+    let (name, r) = r.name(alloc)?;
+    let (subscripts, r) = subscripts(alloc, r)?;
+    let (image, r) = image(alloc, false, r)?;
+    let reference = Reference {
+        name,
+        subscripts,
+        image,
+    };
+    Ok((reference, r))
 }
