@@ -91,7 +91,7 @@ word_back w.SyncAll = refl
 same_number : (a b : ℕ) → (a == b) ≡ true → a ≡ b
 same_number a b e = search (rules)
 
-same_mark : (a b : Mark) → (mark_code a == mark_code b) ≡ true → a ≡ b
+pub same_mark : (a b : Mark) → (mark_code a == mark_code b) ≡ true → a ≡ b
 same_mark a b e = sym (mark_back a) ∙ (ap mark_at (same_number (mark_code a) (mark_code b) e) ∙ mark_back b)
 
 same_word : (a b : Reserved) → (word_code a == word_code b) ≡ true → a ≡ b

@@ -1,2 +1,3 @@
 pub mod Taking
 pub mod Held
+pub mod Opening

@@ -70,7 +70,7 @@ one_stuck x p D K k ts s h c =
       (stuck_here D (tok x p ∷ K) k ts (ap (λ b. cond b (goes (now (behind x D) ∷ []) (reading (behind x D) K [])) halts) h))
 
 -- the depths that the code counts
-same_depths : (n b m c : ℕ) (L : List (ℕ × ℕ)) (K : List Rule) (ts : List Token) (s : State) → n ≡ m → b ≡ c → Comes s (reading (depths m c L) K ts) → Comes s (reading (depths n b L) K ts)
+pub same_depths : (n b m c : ℕ) (L : List (ℕ × ℕ)) (K : List Rule) (ts : List Token) (s : State) → n ≡ m → b ≡ c → Comes s (reading (depths m c L) K ts) → Comes s (reading (depths n b L) K ts)
 same_depths n b m c L K ts s p q w = subst (λ (x : ℕ). Comes s (reading (depths x b L) K ts)) (sym p) (subst (λ (x : ℕ). Comes s (reading (depths m x L) K ts)) (sym q) w)
 
 entered : (p : Test) (d : Depth) (L : List (ℕ × ℕ)) (K : List Rule) (ks : List Token) (s : State) → has_finish ks ≡ true

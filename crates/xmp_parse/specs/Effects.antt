@@ -1,6 +1,10 @@
 -- What the tokens do to the depths of a reading. Source: this project.
 use Rattle.std.specs.Prelude.{◌≡◌, ◌<◌, ℕ, List, ◌∷◌, Result, Ok, Err}
-use Rattle.xmp_tree.specs.Reading.{Test, Rule, State, Depths, depths, tok, mark, plain, operator, separator, opening, closing, cast, enter}
+use Rattle.std.specs.Prelude.{Bool}
+use Rattle.xmp_lex.specs.declared.token.Mark.TheVariants as m
+use Rattle.xmp_tree.specs.Parts as p
+use Rattle.xmp_tree.specs.Grammar.{expr, is_mark}
+use Rattle.xmp_tree.specs.Reading.{part, Test, Rule, State, Depths, depths, tok, mark, plain, operator, separator, opening, closing, cast, enter}
 use Rattle.xmp_parse.specs.declared.reader.Reader.{Reader}
 use Rattle.xmp_parse.specs.declared.reader.Stop.{Stop}
 use Rattle.xmp_parse.specs.declared.depth.Depth.{Depth}
@@ -32,3 +36,8 @@ around_behind d _ L = L
 -- A token is taken that passes the test.
 abbrev pub Takes : {A : Type 0} → Effect → Test → Reader → Result (A × Reader) Stop → Type 0
 Takes x p r result = (s : State) (L : List (ℕ × ℕ)) (K : List Rule) → Comes s (stands (around x L) (taking x p K) r) → After s (around_behind r.depth x L) K result
+
+-- The colon and the bracket of an image are taken.
+abbrev pub OpensImage : {A : Type 0} → Bool → Reader → Result (A × Reader) Stop → Type 0
+OpensImage colon r result = (s : State) (L : List (ℕ × ℕ)) (K : List Rule) → Comes s (stands L (part (p.image colon) ∷ K) r)
+    → After s ((r.depth.now, r.depth.base) ∷ L) (expr ∷ tok closing (is_mark m.CloseBracket) ∷ K) result

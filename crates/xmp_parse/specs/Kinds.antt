@@ -1,11 +1,13 @@
 -- What tokens hold. Source: this project.
-use Rattle.std.specs.Prelude.{ℕ, ℤ, List, [], ◌∷◌, Bool, false, Option, None, Some}
+use Rattle.std.specs.Prelude.{ℕ, ℤ, List, [], ◌∷◌, Bool, true, false, ◌&&◌, Option, None, Some}
 use Rattle.xmp_num.specs.declared.types.Ty.{Ty}
 use Rattle.xmp_num.specs.declared.types.Ty.TheVariants as ty
 use Rattle.xmp_lex.specs.declared.token.Token.{Token}
 use Rattle.xmp_lex.specs.declared.token.TokenKind.{TokenKind}
 use Rattle.xmp_lex.specs.declared.token.TokenKind.TheVariants as t
 use Rattle.xmp_lex.specs.declared.token.Mark.{Mark}
+use Rattle.xmp_lex.specs.declared.token.Mark.TheVariants as m
+use Rattle.xmp_tree.specs.Grammar.{is_mark}
 use Rattle.xmp_lex.specs.declared.token.Reserved.{Reserved}
 use Rattle.xmp_lex.specs.declared.token.Reserved.TheVariants as w
 use Rattle.xmp_tree.specs.Reading.{Test}
@@ -65,3 +67,13 @@ next_number (t ∷ ts) = number_in t.kind
 abbrev pub next_type : List Token → Option Ty
 next_type [] = None
 next_type (t ∷ ts) = type_in t.kind
+
+-- the next two tokens pass the tests
+abbrev pub next_are : Test → Test → List Token → Bool
+next_are p q [] = false
+next_are p q (t ∷ ts) = p t.kind && next_is q ts
+
+-- the image of a reference begins here; where another colon may follow, a bracket stands behind its colon
+abbrev pub begins_image : Bool → List Token → Bool
+begins_image true ts = next_are (is_mark m.Colon) (is_mark m.OpenBracket) ts
+begins_image false ts = next_is (is_mark m.Colon) ts

@@ -302,3 +302,35 @@ pub fn is_of(kind: &TokenKind, class: Class) -> bool
         None => false,
     }
 }
+
+pub fn is_name(kind: &TokenKind) -> bool
+    ensures { result ≡ g.is_name kind.now }
+{
+    match kind {
+        TokenKind::Name(_) => true,
+        TokenKind::Word(_) => false,
+        TokenKind::Number(_, _) => false,
+        TokenKind::Text(_) => false,
+        TokenKind::Mark(_) => false,
+        TokenKind::Define(_) => false,
+        TokenKind::Pragma => false,
+        TokenKind::Close => false,
+        TokenKind::Finish => false,
+    }
+}
+
+pub fn is_number(kind: &TokenKind) -> bool
+    ensures { result ≡ g.is_number kind.now }
+{
+    match kind {
+        TokenKind::Name(_) => false,
+        TokenKind::Word(_) => false,
+        TokenKind::Number(_, _) => true,
+        TokenKind::Text(_) => false,
+        TokenKind::Mark(_) => false,
+        TokenKind::Define(_) => false,
+        TokenKind::Pragma => false,
+        TokenKind::Close => false,
+        TokenKind::Finish => false,
+    }
+}

@@ -8,17 +8,17 @@ ghost use Rattle.xmp_tree.specs.Parts as p;
 ghost use Rattle.xmp_tree.specs.Grammar as g;
 ghost use Rattle.xmp_tree.specs.Spell.{◌at◌, type_word};
 ghost use Rattle.xmp_parse.specs.Going.{Comes};
-ghost use Rattle.xmp_parse.specs.Kinds.{next_is, next_kind, next_mark, next_name, next_text, next_number, next_type};
+ghost use Rattle.xmp_parse.specs.Kinds.{next_is, next_are, begins_image, next_kind, next_mark, next_name, next_text, next_number, next_type};
 ghost use Rattle.xmp_lex.specs.declared.token.TokenKind.{TokenKind};
 ghost use Rattle.xmp_parse.specs.declared.effect.Effect.TheVariants as eff;
 ghost use Rattle.xmp_parse.specs.declared.reader.Stop.TheVariants as stop;
-ghost use Rattle.xmp_parse.specs.Effects.{Takes};
+ghost use Rattle.xmp_parse.specs.Effects.{Takes, OpensImage};
 ghost use Rattle.xmp_parse.specs.Classes.{of_class, IsClass};
 
 use crate::depth::Depth;
 use crate::effect::{Effect, behind};
 use crate::kinds::{
-    is_close, is_finish, is_mark, is_of, is_pragma, is_spelled, is_word, mark_in, name_in, number_in,
+    is_close, is_finish, is_mark, is_name, is_number, is_of, is_pragma, is_spelled, is_word, mark_in, name_in, number_in,
     text_in, type_in,
 };
 use crate::marks::{Class, has};
@@ -209,9 +209,99 @@ impl<'a> Reader<'a> {
         self.is_word(Reserved::Int) || self.is_word(Reserved::Long)
     }
 
+    pub fn is_name(self) -> bool
+        ensures { result ≡ next_is g.is_name self.entry.tokens.now }
+    {
+        match self.kind() {
+            Some(kind) => is_name(kind),
+            None => false,
+        }
+    }
+
+    pub fn is_number(self) -> bool
+        ensures { result ≡ next_is g.is_number self.entry.tokens.now }
+    {
+        match self.kind() {
+            Some(kind) => is_number(kind),
+            None => false,
+        }
+    }
+
+    /// Whether a colon and an opening bracket come next.
+    fn is_colon_bracket(self) -> bool
+        ensures { result ≡ next_are (g.is_mark m.Colon) (g.is_mark m.OpenBracket) self.entry.tokens.now }
+    {
+        match front(self.tokens) {
+            None => false,
+            Some((_, rest)) => {
+                let behind = Reader {
+                    tokens: rest,
+                    depth: self.depth,
+                };
+                self.is_mark(Mark::Colon) && behind.is_mark(Mark::OpenBracket)
+            }
+        }
+    }
+
+    /// Whether the image of a reference begins here. Where another colon may follow, a bracket stands behind its colon.
+    pub fn is_image(self, colon: bool) -> bool
+        ensures { result ≡ begins_image colon self.entry.tokens.now }
+    {
+        if colon {
+            self.is_colon_bracket()
+        } else {
+            self.is_mark(Mark::Colon)
+        }
+    }
+
+    /// A colon and an opening bracket, which are there.
+    fn both(self) -> Parsed<'a, (Place, Place)>
+        requires deep { self.depth.now ≤ 128 }
+        requires pair { next_are (g.is_mark m.Colon) (g.is_mark m.OpenBracket) self.tokens.now ≡ true }
+        ensures goes { OpensImage true self.entry result }
+        ensures reads { IfOk result (λ x. self.entry.tokens.now ≡ (t.Mark m.Colon at x.0.0) ∷ (t.Mark m.OpenBracket at x.0.1) ∷ x.1.tokens.now) }
+        ensures deep { IfOk result (λ x. x.1.depth.now ≤ 128) }
+        ensures shorter { IfOk result (λ x. length x.1.tokens.now < length self.entry.tokens.now) }
+    {
+        match front(self.tokens) {
+            None => Err(self.unexpected()),
+            Some((colon, rest)) => match front(rest) {
+                None => Err(self.unexpected()),
+                Some((open, last)) => match behind(self.depth, Effect::Opening) {
+                    None => Err(Stop::TooDeep(rest.len())),
+                    Some(depth) => Ok((
+                        (colon.at, open.at),
+                        Reader {
+                            tokens: last,
+                            depth,
+                        },
+                    )),
+                },
+            },
+        }
+    }
+
+    /// The colon and the opening bracket of an image that begins here.
+    pub fn image_open(self, colon: bool) -> Parsed<'a, (Place, Place)>
+        requires deep { self.depth.now ≤ 128 }
+        requires image { begins_image colon self.tokens.now ≡ true }
+        ensures goes { OpensImage colon self.entry result }
+        ensures reads { IfOk result (λ x. self.entry.tokens.now ≡ (t.Mark m.Colon at x.0.0) ∷ (t.Mark m.OpenBracket at x.0.1) ∷ x.1.tokens.now) }
+        ensures deep { IfOk result (λ x. x.1.depth.now ≤ 128) }
+        ensures shorter { IfOk result (λ x. length x.1.tokens.now < length self.entry.tokens.now) }
+    {
+        if colon {
+            return self.both();
+        }
+        let (mark, rest) = self.mark(Mark::Colon, Effect::Plain)?;
+        let (open, last) = rest.mark(Mark::OpenBracket, Effect::Opening)?;
+        Ok(((mark, open), last))
+    }
+
     pub fn mark(self, mark: Mark, effect: Effect) -> Parsed<'a, Place>
         ensures goes { Takes effect (g.is_mark mark) self.entry result }
         ensures reads { IfOk result (λ x. self.entry.tokens.now ≡ t.Mark mark at x.0 ∷ x.1.tokens.now) }
+        ensures deep { IfOk result (λ x. x.1.depth.now ≤ 128) }
         ensures shorter { IfOk result (λ x. length x.1.tokens.now < length self.entry.tokens.now) }
     {
         self.take(self.is_mark(mark), effect)

@@ -1,5 +1,0 @@
-pub mod Done
-pub mod TokenFacts
-pub mod Exprs
-pub mod Lists
-pub mod Lines
