@@ -1,3 +1,4 @@
 pub mod Taking
 pub mod Held
 pub mod Opening
+pub mod Listing

@@ -6,4 +6,5 @@ mod effect;
 mod expression;
 mod kinds;
 mod marks;
+mod parts;
 mod reader;
