@@ -1,6 +1,7 @@
 //! The parser: from the tokens of a text to its tree, or to the first token that no program has there.
 #![tactic(auto)]
 
+mod declaration;
 mod depth;
 mod effect;
 mod expression;
