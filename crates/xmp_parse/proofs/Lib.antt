@@ -2,3 +2,4 @@ pub mod Taking
 pub mod Held
 pub mod Opening
 pub mod Listing
+pub mod Dispatch

@@ -6,6 +6,8 @@ mod depth;
 mod effect;
 mod expression;
 mod kinds;
+mod mapping;
 mod marks;
 mod parts;
 mod reader;
+mod words;
