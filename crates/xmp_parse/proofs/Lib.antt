@@ -3,3 +3,4 @@ pub mod Held
 pub mod Opening
 pub mod Listing
 pub mod Dispatch
+pub mod MaxOrMin

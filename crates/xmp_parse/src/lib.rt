@@ -6,6 +6,7 @@ mod depth;
 mod effect;
 mod expression;
 mod kinds;
+mod lines;
 mod mapping;
 mod marks;
 mod parts;
