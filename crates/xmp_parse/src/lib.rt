@@ -5,6 +5,7 @@ mod declaration;
 mod depth;
 mod effect;
 mod expression;
+mod heads;
 mod kinds;
 mod lines;
 mod mapping;

@@ -184,7 +184,7 @@ fn reduction(alloc: Global, r: Reader<'_>) -> Parsed<'_, Reduction>
     Ok((Reduction { word, list }, r))
 }
 
-fn reductions(alloc: Global, r: Reader<'_>) -> Parsed<'_, Items<Reduction>>
+pub fn reductions(alloc: Global, r: Reader<'_>) -> Parsed<'_, Items<Reduction>>
     ensures goes { Parses (many (g.is_spelled (codes "reduction")) (part p.reduction)) r.entry result }
     ensures reads { IfOk result (λ x. r.entry.tokens.now ≡ sp.each sp.reduction x.0 x.1.tokens.now) }
     ensures fits { IfOk result (λ x. f.Each f.FitsReduction x.0) }
