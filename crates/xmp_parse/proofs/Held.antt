@@ -11,7 +11,7 @@ use Rattle.xmp_lex.specs.declared.token.Mark.TheVariants as m
 use Rattle.xmp_lex.specs.declared.token.Reserved.{Reserved}
 use Rattle.xmp_lex.specs.declared.token.Reserved.TheVariants as w
 use Rattle.xmp_tree.specs.Reading.{Test}
-use Rattle.xmp_tree.specs.Grammar.{mark_code, word_code, same_text, is_mark, is_word, is_spelled, is_name, is_text, is_number, is_type, is_pragma, is_close}
+use Rattle.xmp_tree.specs.Grammar.{mark_code, word_code, same_text, is_mark, is_word, is_spelled, is_name, is_text, is_number, is_type, is_pragma, is_close, is_finish}
 use Rattle.xmp_tree.specs.Spell.{type_word}
 use Rattle.xmp_parse.specs.declared.marks.Class.{Class}
 use Rattle.xmp_parse.specs.declared.marks.Class.TheVariants as c
@@ -430,3 +430,18 @@ class_none x i (k ∷ ts) e = other_class x i k.kind e
 -- no class has the end of the text
 pub class_end : (x : Class) → IsClass x → of_class x t.Finish ≡ false
 class_end x i = other_class x i t.Finish refl
+
+finish_kind : (k : TokenKind) → is_finish k ≡ true → k ≡ t.Finish
+finish_kind (t.Name a) e = cc
+finish_kind (t.Word a) e = cc
+finish_kind (t.Number a b) e = cc
+finish_kind (t.Text a) e = cc
+finish_kind (t.Mark a) e = cc
+finish_kind (t.Define a) e = cc
+finish_kind t.Pragma e = cc
+finish_kind t.Close e = cc
+finish_kind t.Finish e = refl
+
+pub finish_next : (ts : List Token) → next_is is_finish ts ≡ true → next_kind ts ≡ Some t.Finish
+finish_next [] e = cc
+finish_next (k ∷ ts) e = ap (λ j. Some j) (finish_kind k.kind e)

@@ -1,3 +1,5 @@
 pub mod Taking
 pub mod Held
 pub mod Opening
+pub mod Whole
+pub mod Views

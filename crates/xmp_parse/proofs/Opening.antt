@@ -337,3 +337,8 @@ pub image_alone : (x : Bool) {s : State} {D : Depths} {K : List Rule} {ts : List
     → Comes s (reading D (tok plain (is_mark m.Colon) ∷ brackets expr ∷ K) ts)
 image_alone true e h c = cc
 image_alone false e h c = first h (into c)
+
+-- the depths around, counted elsewhere
+pub same_around : {s : State} {a b n m c d : ℕ} {L : List (ℕ × ℕ)} {K : List Rule} {ts : List Token} → n ≡ c → m ≡ d → Comes s (reading (depths a b ((n, m) ∷ L)) K ts) → Comes s (reading (depths a b ((c, d) ∷ L)) K ts)
+same_around {s = s} {a = a} {b = b} {n = n} {m = m} {c = c} {d = d} {L = L} {K = K} {ts = ts} p q w =
+    subst (λ (x : ℕ). Comes s (reading (depths a b ((x, d) ∷ L)) K ts)) p (subst (λ (x : ℕ). Comes s (reading (depths a b ((n, x) ∷ L)) K ts)) q w)

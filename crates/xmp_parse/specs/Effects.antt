@@ -1,16 +1,16 @@
 -- What the tokens do to the depths of a reading. Source: this project.
-use Rattle.std.specs.Prelude.{◌≡◌, ◌<◌, ℕ, List, ◌∷◌, Result, Ok, Err}
+use Rattle.std.specs.Prelude.{◌≤◌, ℕ, List, ◌∷◌, All, Result, Ok, Err}
 use Rattle.std.specs.Prelude.{Bool}
 use Rattle.xmp_lex.specs.declared.token.Mark.TheVariants as m
 use Rattle.xmp_tree.specs.Parts as p
-use Rattle.xmp_tree.specs.Grammar.{expr, is_mark}
-use Rattle.xmp_tree.specs.Reading.{part, Test, Rule, State, Depths, depths, tok, mark, plain, operator, separator, opening, closing, cast, enter}
+use Rattle.xmp_tree.specs.Grammar.{expr, is_mark, is_finish, rule}
+use Rattle.xmp_tree.specs.Reading.{part, Reads, Test, Rule, State, Depths, depths, tok, mark, plain, operator, separator, opening, closing, cast, enter}
 use Rattle.xmp_parse.specs.declared.reader.Reader.{Reader}
 use Rattle.xmp_parse.specs.declared.reader.Stop.{Stop}
 use Rattle.xmp_parse.specs.declared.depth.Depth.{Depth}
 use Rattle.xmp_parse.specs.declared.effect.Effect.{Effect}
 use Rattle.xmp_parse.specs.declared.effect.Effect.TheVariants as e
-use Rattle.xmp_parse.specs.Going.{Comes, After, stands}
+use Rattle.xmp_parse.specs.Going.{Comes, After, Refused, stands}
 
 -- the rules for a token of this effect
 abbrev pub taking : Effect → Test → List Rule → List Rule
@@ -41,3 +41,11 @@ Takes x p r result = (s : State) (L : List (ℕ × ℕ)) (K : List Rule) → Com
 abbrev pub OpensImage : {A : Type 0} → Bool → Reader → Result (A × Reader) Stop → Type 0
 OpensImage colon r result = (s : State) (L : List (ℕ × ℕ)) (K : List Rule) → Comes s (stands L (part (p.image colon) ∷ K) r)
     → After s ((r.depth.now, r.depth.base) ∷ L) (expr ∷ tok closing (is_mark m.CloseBracket) ∷ K) result
+
+-- The end of the text is taken.
+abbrev pub Ended : {A : Type 0} → State → List (ℕ × ℕ) → List Rule → Result (A × Reader) Stop → Type 0
+Ended s L K (Ok x) = (ds : List ℕ) × Reads rule s ds (stands L K x.1) × All (λ d. d ≤ 128) ds
+Ended s L K (Err f) = Refused s f
+
+abbrev pub Finishes : {A : Type 0} → Reader → Result (A × Reader) Stop → Type 0
+Finishes r result = (s : State) (L : List (ℕ × ℕ)) (K : List Rule) → Comes s (stands L (tok plain is_finish ∷ K) r) → Ended s L K result

@@ -3,7 +3,7 @@
 
 mod depth;
 mod effect;
-mod expression;
 mod kinds;
 mod marks;
 mod reader;
+mod refusal;

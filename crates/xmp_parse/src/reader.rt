@@ -12,7 +12,8 @@ ghost use Rattle.xmp_parse.specs.Kinds.{next_is, next_are, begins_image, next_ki
 ghost use Rattle.xmp_lex.specs.declared.token.TokenKind.{TokenKind};
 ghost use Rattle.xmp_parse.specs.declared.effect.Effect.TheVariants as eff;
 ghost use Rattle.xmp_parse.specs.declared.reader.Stop.TheVariants as stop;
-ghost use Rattle.xmp_parse.specs.Effects.{Takes, OpensImage};
+ghost use Rattle.xmp_parse.specs.Depths.{now_behind, base_behind};
+ghost use Rattle.xmp_parse.specs.Effects.{Takes, OpensImage, Finishes};
 ghost use Rattle.xmp_parse.specs.Classes.{of_class, IsClass};
 
 use crate::depth::Depth;
@@ -107,6 +108,7 @@ impl<'a> Reader<'a> {
         ensures goes { (p : Test) → p t.Finish ≡ false → next_is p self.entry.tokens.now ≡ true → Takes effect p self.entry result }
         ensures reads { (k : TokenKind) → next_kind self.entry.tokens.now ≡ Some k → IfOk result (λ x. self.entry.tokens.now ≡ (k at x.0) ∷ x.1.tokens.now) }
         ensures deep { IfOk result (λ x. x.1.depth.now ≤ 128) }
+        ensures depth { IfOk result (λ x. (x.1.depth.now ≡ now_behind self.entry.depth effect) × (x.1.depth.base ≡ base_behind self.entry.depth effect)) }
         ensures shorter { IfOk result (λ x. length x.1.tokens.now < length self.entry.tokens.now) }
     {
         match front(self.tokens) {
@@ -130,6 +132,7 @@ impl<'a> Reader<'a> {
         ensures reads { (k : TokenKind) → (found ≡ true → next_kind self.entry.tokens.now ≡ Some k) → IfOk result (λ x. self.entry.tokens.now ≡ (k at x.0) ∷ x.1.tokens.now) }
         ensures found { IfOk result (λ x. found ≡ true) }
         ensures deep { IfOk result (λ x. x.1.depth.now ≤ 128) }
+        ensures depth { IfOk result (λ x. (x.1.depth.now ≡ now_behind self.entry.depth effect) × (x.1.depth.base ≡ base_behind self.entry.depth effect)) }
         ensures shorter { IfOk result (λ x. length x.1.tokens.now < length self.entry.tokens.now) }
     {
         if found {
@@ -302,6 +305,7 @@ impl<'a> Reader<'a> {
         ensures goes { Takes effect (g.is_mark mark) self.entry result }
         ensures reads { IfOk result (λ x. self.entry.tokens.now ≡ t.Mark mark at x.0 ∷ x.1.tokens.now) }
         ensures deep { IfOk result (λ x. x.1.depth.now ≤ 128) }
+        ensures depth { IfOk result (λ x. (x.1.depth.now ≡ now_behind self.entry.depth effect) × (x.1.depth.base ≡ base_behind self.entry.depth effect)) }
         ensures shorter { IfOk result (λ x. length x.1.tokens.now < length self.entry.tokens.now) }
     {
         self.take(self.is_mark(mark), effect)
@@ -458,6 +462,29 @@ impl<'a> Reader<'a> {
                 Ok((Placed { what, at }, rest))
             }
             None => Err(self.unexpected()),
+        }
+    }
+
+    /// The end of the text, behind which no token may stand.
+    pub fn finish(self) -> Parsed<'a, Place>
+        ensures goes { Finishes self.entry result }
+        ensures reads { IfOk result (λ x. self.entry.tokens.now ≡ t.Finish at x.0 ∷ x.1.tokens.now) }
+    {
+        if !self.is_finish() {
+            return Err(self.unexpected());
+        }
+        match front(self.tokens) {
+            None => Err(self.unexpected()),
+            Some((token, rest)) => match behind(self.depth, Effect::Plain) {
+                None => Err(Stop::TooDeep(self.tokens.len())),
+                Some(depth) => Ok((
+                    token.at,
+                    Reader {
+                        tokens: rest,
+                        depth,
+                    },
+                )),
+            },
         }
     }
 

@@ -1,6 +1,6 @@
 use Rattle.std.proofs.Common.{rules, ◌≡◌, ℕ, true, false, sym, refl, ◌∙◌}
 use Rattle.std.proofs.lemmas.Result.{err_from_is_err_and}
-use Rattle.xmp_parse.proofs.Opening.{image_alone, seq}
+use Rattle.xmp_parse.proofs.Opening.{image_alone, seq, same_around}
 use Rattle.xmp_parse.proofs.reader.Reader.image_open.Goals as goal
 
 pub returns-in_err-mark-clause-goes : goal.returns-in_err-mark-clause-goes
@@ -15,4 +15,5 @@ returns-in_err-open-clause-goes c = λ s L K w.
 
 pub returns-clause-goes : goal.returns-clause-goes
 returns-clause-goes c = λ s L K w.
-    c.in_ok-open.ensures.goes s _ _ (seq (c.in_ok-mark.ensures.goes s _ _ (image_alone c.args.colon c.if-colon.false c.requires.image w)))
+    same_around c.in_ok-mark.ensures.depth.0 c.in_ok-mark.ensures.depth.1
+      (seq (c.in_ok-open.ensures.goes s _ _ (seq (c.in_ok-mark.ensures.goes s _ _ (image_alone c.args.colon c.if-colon.false c.requires.image w)))))
