@@ -88,7 +88,7 @@ word_back w.Printf = refl
 word_back w.Scanf = refl
 word_back w.SyncAll = refl
 
-same_number : (a b : ℕ) → (a == b) ≡ true → a ≡ b
+pub same_number : (a b : ℕ) → (a == b) ≡ true → a ≡ b
 same_number a b e = search (rules)
 
 pub same_mark : (a b : Mark) → (mark_code a == mark_code b) ≡ true → a ≡ b

@@ -3,3 +3,5 @@ pub mod Held
 pub mod Opening
 pub mod Whole
 pub mod Views
+pub mod Levels
+pub mod Longer

@@ -342,3 +342,17 @@ image_alone false e h c = first h (into c)
 pub same_around : {s : State} {a b n m c d : ℕ} {L : List (ℕ × ℕ)} {K : List Rule} {ts : List Token} → n ≡ c → m ≡ d → Comes s (reading (depths a b ((n, m) ∷ L)) K ts) → Comes s (reading (depths a b ((c, d) ∷ L)) K ts)
 same_around {s = s} {a = a} {b = b} {n = n} {m = m} {c = c} {d = d} {L = L} {K = K} {ts = ts} p q w =
     subst (λ (x : ℕ). Comes s (reading (depths a b ((x, d) ∷ L)) K ts)) p (subst (λ (x : ℕ). Comes s (reading (depths a b ((n, x) ∷ L)) K ts)) q w)
+
+-- a choice by the token that is not to come
+pub first_not : (q : Test) {s : State} {D : Depths} {a b : Rule} {K : List Rule} {ts : List Token} → next_is q ts ≡ false → Comes s (reading D (choice (λ k. not (q k)) a b ∷ K) ts) → Comes s (reading D (head a K) ts)
+first_not q {s = s} {D = D} {a = a} {b = b} {K = K} {ts = []} h c = let f = c.finish in cc
+first_not q {s = s} {D = D} {a = a} {b = b} {K = K} {ts = k ∷ ts} h c = first {s = s} {D = D} {q = λ j. not (q j)} {a = a} {b = b} {K = K} {ts = k ∷ ts} (ap not h) c
+
+pub second_not : (q : Test) {s : State} {D : Depths} {a b : Rule} {K : List Rule} {ts : List Token} → next_is q ts ≡ true → Comes s (reading D (choice (λ k. not (q k)) a b ∷ K) ts) → Comes s (reading D (head b K) ts)
+second_not q {s = s} {D = D} {a = a} {b = b} {K = K} {ts = []} h c = cc
+second_not q {s = s} {D = D} {a = a} {b = b} {K = K} {ts = k ∷ ts} h c = second {s = s} {D = D} {q = λ j. not (q j)} {a = a} {b = b} {K = K} {ts = k ∷ ts} (ap not h) c
+
+-- the first of a choice, as it stands
+pub chosen : {s : State} {D : Depths} {q : Test} {a b : Rule} {K : List Rule} {ts : List Token} → next_is q ts ≡ true → Comes s (reading D (choice q a b ∷ K) ts) → Comes s (reading D (a ∷ K) ts)
+chosen {s = s} {D = D} {q = q} {a = a} {b = b} {K = K} {ts = []} h c = cc
+chosen {s = s} {D = D} {q = q} {a = a} {b = b} {K = K} {ts = k ∷ ts} h c = silent s _ _ (ap (λ (x : Bool). goes [] (reading D (cond x a b ∷ K) (k ∷ ts))) h) refl c

@@ -3,6 +3,8 @@
 
 mod depth;
 mod effect;
+mod expression;
+mod joined;
 mod kinds;
 mod marks;
 mod reader;
