@@ -7,6 +7,7 @@ use Rattle.xmp_lex.specs.declared.token.Token.{Token}
 use Rattle.xmp_lex.specs.declared.token.TokenKind.TheVariants as t
 use Rattle.xmp_lex.specs.declared.token.Mark.{Mark}
 use Rattle.xmp_lex.specs.declared.token.Mark.TheVariants as m
+use Rattle.xmp_tree.specs.declared.parts.Name.{Name}
 use Rattle.xmp_tree.specs.declared.parts.Inside.{Inside}
 use Rattle.xmp_tree.specs.declared.parts.Placed.{Placed}
 use Rattle.xmp_tree.specs.declared.parts.Next.{Next}
@@ -73,3 +74,19 @@ pub chain_fits : (n : ℕ) (x : made.Expr) (xs : List (Link made.Expr)) → xs �
 chain_fits n x [] h a b c = absurd (h refl)
 chain_fits n x (y ∷ ys) h a b c =
     ((subst (λ (k : ℕ). level_of (expr_view x) < k) (sym c.0) a, b, subst (λ (k : ℕ). FitsLinks k (links_view (y ∷ ys))) (sym c.0) c), omega (arith, c.0))
+
+pub view_read : (n : Name) (ds : List (Inside made.Expr)) (i : Option (made_image.Image made.Expr))
+    → expr_view (e.Read (record { name = n; subscripts = ds; image = i })) ≡ read (ref_view (record { name = n; subscripts = ds; image = i }))
+view_read n ds None = ap expr_view (sym (e.rolls-Read (record { name = n; subscripts = ds; image = None }))) ∙ fold-roll-Expr Expr expr_step (Expr-F.Read (record { name = n; subscripts = ds; image = None }))
+view_read n ds (Some i) = ap expr_view (sym (e.rolls-Read (record { name = n; subscripts = ds; image = Some i }))) ∙ fold-roll-Expr Expr expr_step (Expr-F.Read (record { name = n; subscripts = ds; image = Some i }))
+
+pub view_call : (n : Name) (o c : Place) (xs : Option (CommaList made.Expr))
+    → expr_view (e.Call (record { name = n; arguments = record { «open» = o; item = xs; close = c } })) ≡ call n o (arguments_view xs) c
+view_call n o c None = ap expr_view (sym (e.rolls-Call (record { name = n; arguments = record { «open» = o; item = None; close = c } }))) ∙ fold-roll-Expr Expr expr_step (Expr-F.Call (record { name = n; arguments = record { «open» = o; item = None; close = c } }))
+view_call n o c (Some xs) = ap expr_view (sym (e.rolls-Call (record { name = n; arguments = record { «open» = o; item = Some xs; close = c } }))) ∙ fold-roll-Expr Expr expr_step (Expr-F.Call (record { name = n; arguments = record { «open» = o; item = Some xs; close = c } }))
+
+pub longer_fits : (n b : ℕ) → n ≡ suc b → (first x : made.Expr) (xs : List (Link made.Expr)) → (xs ≡ [] → x ≡ first) → (xs ≢ [] → expr_view x ≡ chain (expr_view first) (links_view xs))
+    → level_of (expr_view first) ≤ b → Fits (expr_view first) → FitsLinks n (links_view xs) → Fits (expr_view x)
+longer_fits n b e first x [] f g l h k = subst (λ (y : made.Expr). Fits (expr_view y)) (sym (f refl)) h
+longer_fits n b e first x (y ∷ ys) f g l h k =
+    subst (λ (z : Expr). Fits z) (sym (g (λ q. cc))) (chain_fits n first (y ∷ ys) (λ q. cc) (omega (arith, e, l)) h k).0

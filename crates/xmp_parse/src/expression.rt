@@ -1,5 +1,4 @@
 // Expressions. `colon` says that a `:` may stand behind one.
-#![tactic(none)]
 ghost use Rattle.std.specs.Prelude.{◌≡◌, ◌≤◌, ◌<◌, suc, IfOk, ◌∷◌, length};
 ghost use Rattle.xmp_lex.specs.declared.token.Mark.TheVariants as m;
 ghost use Rattle.xmp_lex.specs.declared.token.TokenKind.TheVariants as t;
@@ -91,6 +90,7 @@ pub fn level(alloc: Global, n: u32, colon: bool, r: Reader<'_>) -> Parsed<'_, Ex
 
 /// An expression of one level more, of which the first operand is read.
 #[cycle(expr)]
+#[tactic(auto, using(crate::proofs::Views::chain_fits))]
 fn longer(
     alloc: Global,
     below: u32,
@@ -141,6 +141,7 @@ fn links(
 
 /// An operand, with the unary operators and casts before it.
 #[cycle(expr)]
+#[tactic(auto, using(crate::proofs::Views::view_number, crate::proofs::Views::view_unary))]
 fn operand(alloc: Global, colon: bool, r: Reader<'_>) -> Parsed<'_, Expr>
     ensures goes { Parses (part (p.level 0 colon)) r.entry result }
     ensures reads { IfOk result (λ x. r.entry.tokens.now ≡ spell (expr_view x.0) x.1.tokens.now) }
@@ -167,6 +168,7 @@ fn operand(alloc: Global, colon: bool, r: Reader<'_>) -> Parsed<'_, Expr>
 }
 
 #[cycle(expr)]
+#[tactic(auto, using(crate::proofs::Views::view_cast, crate::proofs::Views::view_parens))]
 fn parens_or_cast(alloc: Global, colon: bool, r: Reader<'_>) -> Parsed<'_, Expr>
     ensures goes { Parses (g.rule (p.parens_or_cast colon)) r.entry result }
     ensures reads { IfOk result (λ x. r.entry.tokens.now ≡ spell (expr_view x.0) x.1.tokens.now) }
@@ -190,6 +192,7 @@ fn parens_or_cast(alloc: Global, colon: bool, r: Reader<'_>) -> Parsed<'_, Expr>
 
 /// A call, or a variable or an element.
 #[cycle(expr)]
+#[tactic(auto, using(crate::proofs::Views::view_read, crate::proofs::Views::view_call))]
 fn named(alloc: Global, colon: bool, r: Reader<'_>) -> Parsed<'_, Expr>
     ensures goes { Parses (g.rule (p.named colon)) r.entry result }
     ensures reads { IfOk result (λ x. r.entry.tokens.now ≡ spell (expr_view x.0) x.1.tokens.now) }

@@ -1,4 +1,10 @@
-use Rattle.std.proofs.Common.{rules, ◌≡◌, ℕ, true, false, sym, refl, ap, ◌∙◌, arith}
+use Rattle.std.proofs.Common.{rules, ◌≡◌, ℕ, true, false, sym, refl, ap, ◌∙◌, arith, suc, subst, List, ◌∷◌}
+use Rattle.xmp_parse.proofs.Views.{longer_fits, view_parens}
+use Rattle.xmp_lex.specs.declared.token.Token.{Token}
+use Rattle.xmp_lex.specs.declared.token.TokenKind.TheVariants as t
+use Rattle.xmp_tree.specs.View.{expr_view, links_view}
+use Rattle.xmp_tree.specs.Fits.{FitsLinks}
+use Rattle.xmp_tree.specs.Spell.{◌at◌, spell}
 use Rattle.xmp_parse.proofs.Longer.{links_longer, subscripts_longer, rest_longer}
 use Rattle.std.proofs.lemmas.Result.{err_from_is_err_and}
 use Rattle.xmp_parse.proofs.Opening.{seq, into, skip, first, second, again, no_more, first_not, second_not, chosen, without_image, a_number, a_name, a_paren, a_unary, no_operand}
@@ -313,3 +319,15 @@ more_arguments-loop-alloc-preserved n c =
 
 pub more_arguments-loop-alloc-init : goal.more_arguments-loop-alloc-init
 more_arguments-loop-alloc-init n c = rw c.new-more.ensures (record { goes = λ s L K w. w; reads = refl; fits = tt; shorter = omega arith })
+
+pub longer-returns-clause-fits : goal.longer-returns-clause-fits
+longer-returns-clause-fits n c =
+    longer_fits (suc c.args.below) c.args.below refl c.args.first c.in_ok-chain.field-0 c.in_ok-links.links c.in_ok-chain.ensures.none c.in_ok-chain.ensures.some c.requires.first c.requires.fits
+      (subst (λ (k : ℕ). FitsLinks k (links_view c.in_ok-links.links)) (sym (plus_one c.args.below)) c.in_ok-links.ensures.fits)
+
+pub parens_or_cast-returns-clause-reads : goal.parens_or_cast-returns-clause-reads
+parens_or_cast-returns-clause-reads n c =
+    rw (view_parens _) (c.in_ok-open.ensures.reads ∙ ap (λ (l : List Token). (t.Mark m.OpenParen at c.in_ok-open.open) ∷ l) (c.in_ok-item-2.ensures.reads ∙ ap (spell (expr_view c.in_ok-item-2.item)) c.in_ok-close-2.ensures.reads))
+
+pub parens_or_cast-returns-clause-fits : goal.parens_or_cast-returns-clause-fits
+parens_or_cast-returns-clause-fits n c = rw (view_parens _) c.in_ok-item-2.ensures.fits
