@@ -78,7 +78,7 @@ pub level_of_operators : {s : State} {D : Depths} {c : Bool} {K : List Rule} {ts
     → Comes s (reading D (part (p.level b c) ∷ many (binary n) (tok operator (binary n) · part (p.level b c)) ∷ K) ts)
 level_of_operators {s = s} {D = D} {c = c} {K = K} {ts = ts} n b e w =
     subst (λ (x : ℕ). Comes s (reading D (part (p.level b c) ∷ many (binary x) (tok operator (binary x) · part (p.level b c)) ∷ K) ts)) (sym e)
-      (into (subst (λ (x : ℕ). Comes s (reading D (part (p.level x c) ∷ K) ts)) e w))
+    (into (subst (λ (x : ℕ). Comes s (reading D (part (p.level x c) ∷ K) ts)) e w))
 
 -- an operand by its first token
 operand_by : (s : State) (D : Depths) (c : Bool) (K : List Rule) (k : Token) (ts : List Token) (P : Part) → operand_of c k.kind ≡ P → Comes s (reading D (part (p.level 0 c) ∷ K) (k ∷ ts)) → Comes s (reading D (rule P ∷ K) (k ∷ ts))
@@ -116,7 +116,6 @@ paren_operand c (t.Define a) h = cc
 paren_operand c t.Pragma h = cc
 paren_operand c t.Close h = cc
 paren_operand c t.Finish h = cc
-
 
 unary_mark_operand : (c : Bool) (x : Mark) → is_unary_mark x ≡ true → operand_of c (t.Mark x) ≡ p.unary c
 unary_mark_operand c m.Plus h = refl
@@ -280,17 +279,17 @@ pair_deep : (s : State) (D : Depths) (q r : Test) (a : Rule) (K : List Rule) (k 
 pair_deep (reading E M us) D q r a K k j ts f g w v c =
     let h : q k.kind && r j.kind ≡ true = ap (λ (b : Bool). b && r j.kind) f ∙ g in
     deep_through E M us D (pair q r a ∷ K) (k ∷ j ∷ ts) c.depths (suc (length ts)) c.reads c.shallow
-      (record {
-        front = now D ∷ [];
-        depth = now (behind opening D);
-        now = behind opening D;
-        rules = a ∷ K;
-        rest = ts;
-        reads = onward (ap (λ (b : Bool). pair_step b D a K k j ts) h) here;
-        count = refl;
-        shallow = All-cons (λ d. d ≤ 128) (now D) [] v (All-nil (λ d. d ≤ 128));
-        deep = w;
-      })
+    (record {
+      front = now D ∷ [];
+      depth = now (behind opening D);
+      now = behind opening D;
+      rules = a ∷ K;
+      rest = ts;
+      reads = onward (ap (λ (b : Bool). pair_step b D a K k j ts) h) here;
+      count = refl;
+      shallow = All-cons (λ d. d ≤ 128) (now D) [] v (All-nil (λ d. d ≤ 128));
+      deep = w;
+    })
 
 pub image_taken : (s : State) (d n : Depth) (ks : List Token) (k : Token) (us : List Token) (j : Token) (ts : List Token) (L : List (ℕ × ℕ)) (K : List Rule)
     → ks ≡ k ∷ us → us ≡ j ∷ ts → next_are (is_mark m.Colon) (is_mark m.OpenBracket) ks ≡ true → (n.now ≡ suc d.now) × (n.base ≡ suc d.now) × (n.now ≤ 128) → d.now ≤ 128
@@ -300,7 +299,7 @@ image_taken s d n ks k us j ts L K e f h g v c =
     let q : ks ≡ k ∷ j ∷ ts = e ∙ ap (λ (l : List Token). k ∷ l) f in
     let b = both_true _ _ (subst (λ (l : List Token). next_are (is_mark m.Colon) (is_mark m.OpenBracket) l ≡ true) q h) in
     let r = seq (pair_taken s (depths d.now d.base L) (is_mark m.Colon) (is_mark m.OpenBracket) (expr · tok closing (is_mark m.CloseBracket)) K k j ts b.0 b.1 refl refl
-          (subst (λ (x : ℕ). x ≤ 128) g.0 g.2) v (into (subst (λ (l : List Token). Comes s (reading (depths d.now d.base L) (part (p.image true) ∷ K) l)) q c))) in
+    (subst (λ (x : ℕ). x ≤ 128) g.0 g.2) v (into (subst (λ (l : List Token). Comes s (reading (depths d.now d.base L) (part (p.image true) ∷ K) l)) q c))) in
     same_depths n.now n.base (suc d.now) (suc d.now) _ _ ts s g.0 g.1 r
 
 pub image_deep : (s : State) (d : Depth) (ks : List Token) (k : Token) (us : List Token) (j : Token) (ts : List Token) (L : List (ℕ × ℕ)) (K : List Rule)
@@ -310,8 +309,8 @@ image_deep s d ks k us j ts L K e f h g v c =
     let q : ks ≡ k ∷ j ∷ ts = e ∙ ap (λ (l : List Token). k ∷ l) f in
     let b = both_true _ _ (subst (λ (l : List Token). next_are (is_mark m.Colon) (is_mark m.OpenBracket) l ≡ true) q h) in
     subst (λ (l : List Token). TooDeepAt s (length l)) (sym f)
-      (pair_deep s (depths d.now d.base L) (is_mark m.Colon) (is_mark m.OpenBracket) (expr · tok closing (is_mark m.CloseBracket)) K k j ts b.0 b.1 g v
-        (into (subst (λ (l : List Token). Comes s (reading (depths d.now d.base L) (part (p.image true) ∷ K) l)) q c)))
+    (pair_deep s (depths d.now d.base L) (is_mark m.Colon) (is_mark m.OpenBracket) (expr · tok closing (is_mark m.CloseBracket)) K k j ts b.0 b.1 g v
+    (into (subst (λ (l : List Token). Comes s (reading (depths d.now d.base L) (part (p.image true) ∷ K) l)) q c)))
 
 pub no_pair : (q r : Test) (ks : List Token) (k : Token) (us : List Token) → ks ≡ k ∷ us → us ≡ [] → next_are q r ks ≡ true → ⊥
 no_pair q r ks k us e f h =

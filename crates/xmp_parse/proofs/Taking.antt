@@ -60,14 +60,14 @@ pub one_deep : (x : Effect) (p : Test) (D : Depths) (K : List Rule) (k : Token) 
     → p k.kind ≡ true → 128 < now (behind x D) → Comes s (reading D (tok x p ∷ K) (k ∷ ts)) → TooDeepAt s (suc (length ts))
 one_deep x p D K k ts (reading E M us) h w c =
     deep_through E M us D (tok x p ∷ K) (k ∷ ts) c.depths (suc (length ts)) c.reads c.shallow
-      (deep_here D (tok x p ∷ K) k ts (now (behind x D)) (behind x D) K (ap (λ b. cond b (goes (now (behind x D) ∷ []) (reading (behind x D) K ts)) halts) h) w)
+    (deep_here D (tok x p ∷ K) k ts (now (behind x D)) (behind x D) K (ap (λ b. cond b (goes (now (behind x D) ∷ []) (reading (behind x D) K ts)) halts) h) w)
 
 -- it is another
 pub one_stuck : (x : Effect) (p : Test) (D : Depths) (K : List Rule) (k : Token) (ts : List Token) (s : State)
     → p k.kind ≡ false → Comes s (reading D (tok x p ∷ K) (k ∷ ts)) → StuckAt s (suc (length ts))
 one_stuck x p D K k ts s h c =
     stuck_through s (reading D (tok x p ∷ K) (k ∷ ts)) c.depths (suc (length ts)) c.reads c.shallow
-      (stuck_here D (tok x p ∷ K) k ts (ap (λ b. cond b (goes (now (behind x D) ∷ []) (reading (behind x D) K [])) halts) h))
+    (stuck_here D (tok x p ∷ K) k ts (ap (λ b. cond b (goes (now (behind x D) ∷ []) (reading (behind x D) K [])) halts) h))
 
 -- the depths that the code counts
 pub same_depths : (n b m c : ℕ) (L : List (ℕ × ℕ)) (K : List Rule) (ts : List Token) (s : State) → n ≡ m → b ≡ c → Comes s (reading (depths m c L) K ts) → Comes s (reading (depths n b L) K ts)
@@ -132,7 +132,7 @@ pub past_deep : (x : code.Effect) (p : Test) (d : Depth) (ks : List Token) (k : 
     → Comes s (reading (depths d.now d.base (around x L)) (taking x p K) ks) → TooDeepAt s (length ks)
 past_deep x p d ks k ts s L K q h w c =
     subst (λ (l : List Token). TooDeepAt s (length l)) (sym q)
-      (taken_deep x p d k ts s L K (subst (λ (l : List Token). next_is p l ≡ true) q h) w (subst (λ (l : List Token). Comes s (reading (depths d.now d.base (around x L)) (taking x p K) l)) q c))
+    (taken_deep x p d k ts s L K (subst (λ (l : List Token). next_is p l ≡ true) q h) w (subst (λ (l : List Token). Comes s (reading (depths d.now d.base (around x L)) (taking x p K) l)) q c))
 
 pub past_none : (p : Test) (ks : List Token) → ks ≡ [] → next_is p ks ≡ true → ⊥
 past_none p [] q h = cc

@@ -34,10 +34,11 @@ shallow_whole ts ds u r h w = λ es v q.
 -- the end of the text is taken
 pub finished : (s : State) (D : Depths) (K : List Rule) (k : Token) (ts : List Token) → is_finish k.kind ≡ true → now D ≤ 128 → Comes s (reading D (tok plain is_finish ∷ K) (k ∷ ts))
     → (ds : List ℕ) × Reads rule s ds (reading D K ts) × All (λ d. d ≤ 128) ds
-finished s D K k ts h w c =
-    (c.depths ++ now D ∷ [],
-      reads_on s _ (reading D K ts) c.depths (now D ∷ []) c.reads (onward (ap (λ (b : Bool). cond b (goes (now D ∷ []) (reading D K ts)) halts) h) here),
-      All-append (λ d. d ≤ 128) c.depths (now D ∷ []) c.shallow (All-cons (λ d. d ≤ 128) (now D) [] w (All-nil (λ d. d ≤ 128))))
+finished s D K k ts h w c = (
+  c.depths ++ now D ∷ [],
+  reads_on s _ (reading D K ts) c.depths (now D ∷ []) c.reads (onward (ap (λ (b : Bool). cond b (goes (now D ∷ []) (reading D K ts)) halts) h) here),
+  All-append (λ d. d ≤ 128) c.depths (now D ∷ []) c.shallow (All-cons (λ d. d ≤ 128) (now D) [] w (All-nil (λ d. d ≤ 128))),
+)
 
 -- a token behind the end of the text
 pub behind_end : (s : State) (D : Depths) (ds : List ℕ) (k : Token) (ts : List Token) → Reads rule s ds (reading D [] (k ∷ ts)) → All (λ d. d ≤ 128) ds → StuckAt s (suc (length ts))
@@ -47,7 +48,7 @@ pub finish_ok : (s : State) (d n : Depth) (ks : List Token) (k : Token) (ts : Li
     → Comes s (reading (depths d.now d.base L) (tok plain is_finish ∷ K) ks) → (ds : List ℕ) × Reads rule s ds (reading (depths n.now n.base L) K ts) × All (λ d. d ≤ 128) ds
 finish_ok s d n ks k ts L K q h a c =
     let v = finished s (depths d.now d.base L) K k ts (subst (λ (l : List Token). next_is is_finish l ≡ true) q h) (subst (λ (x : ℕ). x ≤ 128) a.0 a.2)
-          (subst (λ (l : List Token). Comes s (reading (depths d.now d.base L) (tok plain is_finish ∷ K) l)) q c) in
+    (subst (λ (l : List Token). Comes s (reading (depths d.now d.base L) (tok plain is_finish ∷ K) l)) q c) in
     (v.0, subst (λ (x : ℕ). Reads rule s v.0 (reading (depths x n.base L) K ts)) (sym a.0) (subst (λ (x : ℕ). Reads rule s v.0 (reading (depths d.now x L) K ts)) (sym a.1) v.1), v.2)
 
 pub finish_read : (ks : List Token) (k : Token) (ts : List Token) → ks ≡ k ∷ ts → next_is is_finish ks ≡ true → ks ≡ (t.Finish at k.at) ∷ ts

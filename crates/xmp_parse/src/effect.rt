@@ -57,21 +57,33 @@ pub fn behind(depth: Depth, effect: Effect) -> Option<Depth>
     match effect {
         Effect::Plain => within(depth),
         Effect::Operator => match deeper(depth) {
-            Some(now) => Some(Depth { now, base: depth.base }),
+            Some(now) => Some(Depth {
+                now,
+                base: depth.base,
+            }),
             None => None,
         },
-        Effect::Separator => within(Depth { now: depth.base, base: depth.base }),
+        Effect::Separator => within(Depth {
+            now: depth.base,
+            base: depth.base,
+        }),
         Effect::Opening => match deeper(depth) {
             Some(now) => Some(Depth { now, base: now }),
             None => None,
         },
         Effect::Closing(outer) => within(outer),
         Effect::Cast(outer) => match deeper(outer) {
-            Some(now) => Some(Depth { now, base: outer.base }),
+            Some(now) => Some(Depth {
+                now,
+                base: outer.base,
+            }),
             None => None,
         },
         Effect::Entering => match deeper(depth) {
-            Some(now) => Some(Depth { now, base: depth.base + 1 }),
+            Some(now) => Some(Depth {
+                now,
+                base: depth.base + 1,
+            }),
             None => None,
         },
     }

@@ -91,13 +91,7 @@ pub fn level(alloc: Global, n: u32, colon: bool, r: Reader<'_>) -> Parsed<'_, Ex
 /// An expression of one level more, of which the first operand is read.
 #[cycle(expr)]
 #[tactic(auto, using(crate::proofs::Views::chain_fits))]
-fn longer(
-    alloc: Global,
-    below: u32,
-    colon: bool,
-    first: Expr,
-    r: Reader<'_>,
-) -> Parsed<'_, Expr>
+fn longer(alloc: Global, below: u32, colon: bool, first: Expr, r: Reader<'_>) -> Parsed<'_, Expr>
     requires level { below < 10 }
     requires first { level_of (expr_view first) ≤ below }
     requires fits { Fits (expr_view first) }
@@ -264,10 +258,7 @@ pub fn image(alloc: Global, colon: bool, r: Reader<'_>) -> Parsed<'_, Option<Ima
 
 /// The arguments of a call, in parentheses.
 #[cycle(expr)]
-pub fn arguments(
-    alloc: Global,
-    r: Reader<'_>,
-) -> Parsed<'_, Inside<Option<CommaList<Boxed<Expr>>>>>
+pub fn arguments(alloc: Global, r: Reader<'_>) -> Parsed<'_, Inside<Option<CommaList<Boxed<Expr>>>>>
     ensures goes { Parses (part p.arguments) r.entry result }
     ensures reads { IfOk result (λ x. r.entry.tokens.now ≡ (t.Mark m.OpenParen at x.0.open) ∷ spell_arguments (arguments_view x.0.item) ((t.Mark m.CloseParen at x.0.close) ∷ x.1.tokens.now)) }
     ensures fits { IfOk result (λ x. FitsArguments (arguments_view x.0.item)) }

@@ -34,7 +34,11 @@ pub fn conditional(alloc: Global, condition: Expr, branches: Branches) -> Result
 
 /// Operands of one level, where there is more than one.
 #[tactic(auto, using(crate::proofs::Views::view_chain))]
-pub fn chain(alloc: Global, first: Expr, links: Items<Link<Boxed<Expr>>>) -> Result<Expr, AllocError>
+pub fn chain(
+    alloc: Global,
+    first: Expr,
+    links: Items<Link<Boxed<Expr>>>,
+) -> Result<Expr, AllocError>
     ensures none { links ≡ [] → IfOk result (λ x. x ≡ first) }
     ensures some { links ≢ [] → IfOk result (λ x. expr_view x ≡ tree.chain (expr_view first) (links_view links)) }
 {
@@ -44,4 +48,3 @@ pub fn chain(alloc: Global, first: Expr, links: Items<Link<Boxed<Expr>>>) -> Res
         Ok(Expr::Chain(Boxed::new(alloc, first)?, links))
     }
 }
-

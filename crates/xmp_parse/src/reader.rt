@@ -19,8 +19,8 @@ ghost use Rattle.xmp_parse.specs.Classes.{of_class, IsClass};
 use crate::depth::Depth;
 use crate::effect::{Effect, behind};
 use crate::kinds::{
-    is_close, is_finish, is_mark, is_name, is_number, is_of, is_pragma, is_spelled, is_word, mark_in, name_in, number_in,
-    text_in, type_in,
+    is_close, is_finish, is_mark, is_name, is_number, is_of, is_pragma, is_spelled, is_word,
+    mark_in, name_in, number_in, text_in, type_in,
 };
 use crate::marks::{Class, has};
 use std::alloc::{AllocError, Global};

@@ -289,11 +289,11 @@ level-loop-below-init n c =
 pub links-loop-alloc-preserved : goal.links-loop-alloc-preserved
 links-loop-alloc-preserved n c =
     links_longer c.args.n c.args.below c.args.colon c.args.r c.loop-alloc.rest c.in_ok-operator.r c.in_ok-right.r c.loop-alloc.links c.push.new.self c.in_ok-operator.operator c.in_ok-right.right c.in_ok-right-2.right
-      c.in_ok-push.ensures.ok c.in_ok-right-2.ensures c.loop-alloc.invariant
-      (λ s L K w. c.in_ok-right.ensures.goes s _ _ (c.in_ok-operator.ensures.goes s _ _ (again (sym c.loop-alloc-test.ensures) w)))
-      c.in_ok-operator.ensures.reads c.in_ok-right.ensures.reads c.in_ok-operator.ensures.kind c.in_ok-right.ensures.fits
-      (let l = c.in_ok-right.ensures.level in let b = c.requires.below in omega (arith, l, b))
-      (let a = c.in_ok-operator.ensures.shorter in let b = c.in_ok-right.ensures.shorter in omega (arith, a, b))
+    c.in_ok-push.ensures.ok c.in_ok-right-2.ensures c.loop-alloc.invariant
+    (λ s L K w. c.in_ok-right.ensures.goes s _ _ (c.in_ok-operator.ensures.goes s _ _ (again (sym c.loop-alloc-test.ensures) w)))
+    c.in_ok-operator.ensures.reads c.in_ok-right.ensures.reads c.in_ok-operator.ensures.kind c.in_ok-right.ensures.fits
+    (let l = c.in_ok-right.ensures.level in let b = c.requires.below in omega (arith, l, b))
+    (let a = c.in_ok-operator.ensures.shorter in let b = c.in_ok-right.ensures.shorter in omega (arith, a, b))
 
 pub links-loop-alloc-init : goal.links-loop-alloc-init
 links-loop-alloc-init n c = rw c.new-links.ensures (record { goes = λ s L K w. w; reads = refl; fits = tt; shorter = omega arith })
@@ -301,10 +301,10 @@ links-loop-alloc-init n c = rw c.new-links.ensures (record { goes = λ s L K w. 
 pub subscripts-loop-alloc-preserved : goal.subscripts-loop-alloc-preserved
 subscripts-loop-alloc-preserved n c =
     subscripts_longer c.args.r c.loop-alloc.rest c.in_ok-open.r c.in_ok-item.r c.in_ok-close.r c.loop-alloc.subscripts c.push.new.self c.in_ok-open.open c.in_ok-close.close c.in_ok-item.item
-      c.in_ok-push.ensures.ok c.loop-alloc.invariant
-      (λ s L K w. c.in_ok-close.ensures.goes s _ _ (c.in_ok-item.ensures.goes s _ _ (seq (c.in_ok-open.ensures.goes s _ _ (again (sym c.loop-alloc-test.ensures) w)))))
-      c.in_ok-open.ensures.reads c.in_ok-item.ensures.reads c.in_ok-close.ensures.reads c.in_ok-item.ensures.fits c.in_ok-close.ensures.deep
-      (let a = c.in_ok-open.ensures.shorter in let b = c.in_ok-item.ensures.shorter in let d = c.in_ok-close.ensures.shorter in omega (arith, a, b, d))
+    c.in_ok-push.ensures.ok c.loop-alloc.invariant
+    (λ s L K w. c.in_ok-close.ensures.goes s _ _ (c.in_ok-item.ensures.goes s _ _ (seq (c.in_ok-open.ensures.goes s _ _ (again (sym c.loop-alloc-test.ensures) w)))))
+    c.in_ok-open.ensures.reads c.in_ok-item.ensures.reads c.in_ok-close.ensures.reads c.in_ok-item.ensures.fits c.in_ok-close.ensures.deep
+    (let a = c.in_ok-open.ensures.shorter in let b = c.in_ok-item.ensures.shorter in let d = c.in_ok-close.ensures.shorter in omega (arith, a, b, d))
 
 pub subscripts-loop-alloc-init : goal.subscripts-loop-alloc-init
 subscripts-loop-alloc-init n c = rw c.new-subscripts.ensures (record { goes = λ s L K w. w; reads = refl; fits = tt; deep = c.requires; shorter = omega arith })
@@ -312,10 +312,10 @@ subscripts-loop-alloc-init n c = rw c.new-subscripts.ensures (record { goes = λ
 pub more_arguments-loop-alloc-preserved : goal.more_arguments-loop-alloc-preserved
 more_arguments-loop-alloc-preserved n c =
     rest_longer c.args.r c.loop-alloc.rest c.in_ok-comma.r c.in_ok-item.r c.loop-alloc.more c.push.new.self c.in_ok-comma.comma c.in_ok-item.item
-      c.in_ok-push.ensures.ok c.loop-alloc.invariant
-      (λ s L K w. c.in_ok-item.ensures.goes s _ _ (c.in_ok-comma.ensures.goes s _ _ (again (sym c.loop-alloc-test.ensures) w)))
-      c.in_ok-comma.ensures.reads c.in_ok-item.ensures.reads c.in_ok-item.ensures.fits
-      (let a = c.in_ok-comma.ensures.shorter in let b = c.in_ok-item.ensures.shorter in omega (arith, a, b))
+    c.in_ok-push.ensures.ok c.loop-alloc.invariant
+    (λ s L K w. c.in_ok-item.ensures.goes s _ _ (c.in_ok-comma.ensures.goes s _ _ (again (sym c.loop-alloc-test.ensures) w)))
+    c.in_ok-comma.ensures.reads c.in_ok-item.ensures.reads c.in_ok-item.ensures.fits
+    (let a = c.in_ok-comma.ensures.shorter in let b = c.in_ok-item.ensures.shorter in omega (arith, a, b))
 
 pub more_arguments-loop-alloc-init : goal.more_arguments-loop-alloc-init
 more_arguments-loop-alloc-init n c = rw c.new-more.ensures (record { goes = λ s L K w. w; reads = refl; fits = tt; shorter = omega arith })
@@ -323,7 +323,7 @@ more_arguments-loop-alloc-init n c = rw c.new-more.ensures (record { goes = λ s
 pub longer-returns-clause-fits : goal.longer-returns-clause-fits
 longer-returns-clause-fits n c =
     longer_fits (suc c.args.below) c.args.below refl c.args.first c.in_ok-chain.field-0 c.in_ok-links.links c.in_ok-chain.ensures.none c.in_ok-chain.ensures.some c.requires.first c.requires.fits
-      (subst (λ (k : ℕ). FitsLinks k (links_view c.in_ok-links.links)) (sym (plus_one c.args.below)) c.in_ok-links.ensures.fits)
+    (subst (λ (k : ℕ). FitsLinks k (links_view c.in_ok-links.links)) (sym (plus_one c.args.below)) c.in_ok-links.ensures.fits)
 
 pub parens_or_cast-returns-clause-reads : goal.parens_or_cast-returns-clause-reads
 parens_or_cast-returns-clause-reads n c =

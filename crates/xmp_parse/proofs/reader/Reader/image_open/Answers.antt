@@ -16,4 +16,4 @@ returns-in_err-open-clause-goes c = λ s L K w.
 pub returns-clause-goes : goal.returns-clause-goes
 returns-clause-goes c = λ s L K w.
     same_around c.in_ok-mark.ensures.depth.0 c.in_ok-mark.ensures.depth.1
-      (seq (c.in_ok-open.ensures.goes s _ _ (seq (c.in_ok-mark.ensures.goes s _ _ (image_alone c.args.colon c.if-colon.false c.requires.image w)))))
+    (seq (c.in_ok-open.ensures.goes s _ _ (seq (c.in_ok-mark.ensures.goes s _ _ (image_alone c.args.colon c.if-colon.false c.requires.image w)))))

@@ -13,7 +13,7 @@ pub returns-in_err-at-in-Some-clause-goes : goal.returns-in_err-at-in-Some-claus
 returns-in_err-at-in-Some-clause-goes c = λ s L K w.
     let p = err_from_is_err_and c.from_residual.result c.from_residual.ensures.1 in
     rw (p.1, p.2) (c.in_err-at-in-Some.ensures.goes (of_class c.args.class) (class_end c.args.class c.requires)
-      (class_some c.args.class _ _ _ (sym c.in-Some.ensures) (sym c.has.ensures)).1 s L K w)
+    (class_some c.args.class _ _ _ (sym c.in-Some.ensures) (sym c.has.ensures)).1 s L K w)
 
 pub returns-in_ok-at-in-Some-clause-reads : goal.returns-in_ok-at-in-Some-clause-reads
 returns-in_ok-at-in-Some-clause-reads c = c.in_ok-at-in-Some.ensures.reads (t.Mark c.in-Some.what) (λ q. (class_some c.args.class _ _ _ (sym c.in-Some.ensures) (sym c.has.ensures)).0)
