@@ -27,7 +27,7 @@ pub begins_step : (D : Depths) (K : List Rule) (ts : List Token) (ds : List ℕ)
     → step rule (reading D K ts) ≡ goes ds (reading E M us) → Begins E M us → Begins D K ts
 begins_step D K ts ds E M us e b = record { depths = ds ++ b.depths; now = b.now; left = b.left; reads = onward e b.reads }
 
-fronts_silent : (D : Depths) (K : List Rule) (t : Token) (vs : List Token) (ds : List ℕ) (E : Depths) (M : List Rule)
+pub fronts_silent : (D : Depths) (K : List Rule) (t : Token) (vs : List Token) (ds : List ℕ) (E : Depths) (M : List Rule)
     → ((f rest : List Token) → vs ≡ f ++ rest → step rule (reading D K (t ∷ f)) ≡ goes ds (reading E M (t ∷ f)))
     → ((f rest : List Token) → t ∷ vs ≡ f ++ rest → Begins E M f) → (f rest : List Token) → t ∷ vs ≡ f ++ rest → Begins D K f
 fronts_silent D K t vs ds E M h g [] rest w = begins_nothing D K
@@ -36,7 +36,7 @@ fronts_silent D K t vs ds E M h g (x ∷ f) rest w =
     let z : vs ≡ f ++ rest = cc in
     subst (λ (y : Token). Begins D K (y ∷ f)) q (begins_step D K (t ∷ f) ds E M (t ∷ f) (h f rest z) (g (t ∷ f) rest (ap (λ l. t ∷ l) z)))
 
-fronts_one : (D : Depths) (K : List Rule) (t : Token) (us : List Token) (ds : List ℕ) (E : Depths) (M : List Rule)
+pub fronts_one : (D : Depths) (K : List Rule) (t : Token) (us : List Token) (ds : List ℕ) (E : Depths) (M : List Rule)
     → ((f : List Token) → step rule (reading D K (t ∷ f)) ≡ goes ds (reading E M f))
     → ((f rest : List Token) → us ≡ f ++ rest → Begins E M f) → (f rest : List Token) → t ∷ us ≡ f ++ rest → Begins D K f
 fronts_one D K t us ds E M h g [] rest w = begins_nothing D K
@@ -45,7 +45,7 @@ fronts_one D K t us ds E M h g (x ∷ f) rest w =
     let z : us ≡ f ++ rest = cc in
     subst (λ (y : Token). Begins D K (y ∷ f)) q (begins_step D K (t ∷ f) ds E M f (h f) (g f rest z))
 
-fronts_two : (D : Depths) (K : List Rule) (t u : Token) (us : List Token) (ds : List ℕ) (E : Depths) (M : List Rule)
+pub fronts_two : (D : Depths) (K : List Rule) (t u : Token) (us : List Token) (ds : List ℕ) (E : Depths) (M : List Rule)
     → ((f : List Token) → step rule (reading D K (t ∷ u ∷ f)) ≡ goes ds (reading E M f)) → Begins D K (t ∷ [])
     → ((f rest : List Token) → us ≡ f ++ rest → Begins E M f) → (f rest : List Token) → t ∷ u ∷ us ≡ f ++ rest → Begins D K f
 fronts_two D K t u us ds E M h b g [] rest w = begins_nothing D K
@@ -142,14 +142,16 @@ take_token e p K t ts i n =
 
 pub take_pair : (p q : Test) (r : Rule) (K : List Rule) (t u : Token) (ts : List Token) → p t.kind && q u.kind ≡ true
     → ((D : Depths) → Begins D K (t ∷ [])) → Next (r ∷ K) ts → Next (pair p q r ∷ K) (t ∷ u ∷ ts)
-take_pair p q r K t u ts i b n = record { from = λ E. let d = n.from (behind opening E) in
-    let e : (f : List Token) → step rule (reading E (pair p q r ∷ K) (t ∷ u ∷ f)) ≡ goes (now E ∷ now (behind opening E) ∷ []) (reading (behind opening E) (r ∷ K) f) = (λ f. ap (λ b. pair_step b E r K t u f) i) in
-    record {
-      depths = (now E ∷ now (behind opening E) ∷ []) ++ d.depths;
-      now = d.now;
-      reads = onward (e ts) d.reads;
-      fronts = fronts_two E (pair p q r ∷ K) t u ts _ (behind opening E) (r ∷ K) e (begins_step E (pair p q r ∷ K) (t ∷ []) [] E K (t ∷ []) refl (b E)) d.fronts;
-    } }
+take_pair p q r K t u ts i b n = record {
+  from = λ E. let d = n.from (behind opening E) in
+      let e : (f : List Token) → step rule (reading E (pair p q r ∷ K) (t ∷ u ∷ f)) ≡ goes (now E ∷ now (behind opening E) ∷ []) (reading (behind opening E) (r ∷ K) f) = (λ f. ap (λ b. pair_step b E r K t u f) i) in
+      record {
+        depths = (now E ∷ now (behind opening E) ∷ []) ++ d.depths;
+        now = d.now;
+        reads = onward (e ts) d.reads;
+        fronts = fronts_two E (pair p q r ∷ K) t u ts _ (behind opening E) (r ∷ K) e (begins_step E (pair p q r ∷ K) (t ∷ []) [] E K (t ∷ []) refl (b E)) d.fronts;
+      };
+}
 
 -- what is read to its end has tokens
 done_none : (D E : Depths) (r : Rule) (K : List Rule) (ds : List ℕ) → Reads rule (reading D (r ∷ K) []) ds (reading E [] []) → ⊥

@@ -40,18 +40,18 @@ pub record Both (e : Expr) : Type 0 where
   pub all : ExprReads e
 
 -- the operators of a level with their operands, and the rest of a conditional
-abbrev tail : ℕ → Bool → Rule
+abbrev pub tail : ℕ → Bool → Rule
 tail n c = many (binary (suc n)) (tok operator (binary (suc n)) · part (p.level n c))
 
-abbrev question : Bool → Rule
+abbrev pub question : Bool → Rule
 question c = g.optional (is_mark m.Question) (tok operator (is_mark m.Question) · g.expr_colon · tok operator (is_mark m.Colon) · part (p.expression c))
 
-accepts_tail : (n : ℕ) (c : Bool) (K : List Rule) → Accepts c K → Accepts c (tail n c ∷ K)
+pub accepts_tail : (n : ℕ) (c : Bool) (K : List Rule) → Accepts c K → Accepts c (tail n c ∷ K)
 accepts_tail n false K a = tt
 accepts_tail n true K a = λ D q. begins_step D (tail n true ∷ K) (t.Mark m.Colon at q ∷ []) [] D K (t.Mark m.Colon at q ∷ [])
     (ap (λ b. goes [] (reading D (cond b ((tok operator (binary (suc n)) · part (p.level n true)) ∷ tail n true ∷ K) K) (t.Mark m.Colon at q ∷ []))) (no_operator n)) (a D q)
 
-accepts_question : (c : Bool) (K : List Rule) → Accepts c K → Accepts c (question c ∷ K)
+pub accepts_question : (c : Bool) (K : List Rule) → Accepts c K → Accepts c (question c ∷ K)
 accepts_question false K a = tt
 accepts_question true K a = λ D q. begins_step D (question true ∷ K) (t.Mark m.Colon at q ∷ []) [] D (nothing ∷ K) (t.Mark m.Colon at q ∷ []) refl
     (begins_step D (nothing ∷ K) (t.Mark m.Colon at q ∷ []) [] D K (t.Mark m.Colon at q ∷ []) refl (a D q))
@@ -163,8 +163,8 @@ arguments_read e es F X R = record {
       let r = R.all (tok closing (is_mark m.CloseParen) ∷ K) (t.Mark m.CloseParen at c ∷ us) ((refl, refl, refl, refl), refl) refl (fast 1 (λ E. go nx)) in
       let us' : List Token = spell_rest es (t.Mark m.CloseParen at c ∷ us) in
       fast 3 (λ E. go (silent 1 (λ E x xs. refl) (choice_first (λ k. not (is_mark m.CloseParen k)) (g.list g.expr) nothing (tok closing (is_mark m.CloseParen) ∷ K) (spell e us')
-        (not_true (is_mark m.CloseParen) (spell e us') (not_first m.CloseParen e F us' refl))
-        (silent 1 (λ E x xs. refl) (X.all false _ us' r.0 tt r.1)))));
+      (not_true (is_mark m.CloseParen) (spell e us') (not_first m.CloseParen e F us' refl))
+      (silent 1 (λ E x xs. refl) (X.all false _ us' r.0 tt r.1)))));
 }
 
 last_reads : (n : ℕ) → LinksRead n last
@@ -175,7 +175,7 @@ link_reads n op q e ls b h P L = record {
   all = λ c K us en ac nx. let l = L.all c K us en ac nx in (
     ends_operator op n c q (spell e (spell_links ls us)) b,
     many_more _ _ K _ (operator_is op (suc n) b) (silent 1 (λ E x xs. refl) (take_token operator _ _ _ _ (operator_is op (suc n) b)
-      ((raise n (level_of e) e h P).reads c (tail n c ∷ K) (spell_links ls us) l.0 (accepts_tail n c K ac) l.1)))
+        ((raise n (level_of e) e h P).reads c (tail n c ∷ K) (spell_links ls us) l.0 (accepts_tail n c K ac) l.1))),
   );
 }
 
@@ -183,7 +183,7 @@ link_reads n op q e ls b h P L = record {
 number_passes : (q : Place) (n : ℤ) (y : Ty) → Passes 0 (number q n y)
 number_passes q n y = record { reads = λ c K us en ac nx. fast 3 (λ E. go nx) }
 
-ref_first : (ds : Subscripts) (i : Image) (us : List Token) → Not (is_mark m.OpenParen) us → Not (is_mark m.OpenParen) (spell_subscripts ds (spell_image i us))
+pub ref_first : (ds : Subscripts) (i : Image) (us : List Token) → Not (is_mark m.OpenParen) us → Not (is_mark m.OpenParen) (spell_subscripts ds (spell_image i us))
 ref_first no_more no_image us h = h
 ref_first no_more (image q o e c) us h = refl
 ref_first (subscript o e c ds) i us h = refl
@@ -197,10 +197,15 @@ pub name_reads : (ds : Subscripts) (i : Image) → SubscriptsRead ds → ImageRe
     → Next (part p.subscripts ∷ part (p.image c) ∷ K) (spell_subscripts ds (spell_image i us))
 name_reads ds i S I c K us en ac nx = silent 1 (λ E x xs. refl) (S.all (part (p.image c) ∷ K) (spell_image i us) (image_first i us (ends_bracket 0 c us en)) (I.all c K us en ac nx))
 
+pub name_reads_before : (ds : Subscripts) (i : Image) → SubscriptsRead ds → ImageReads i → (r : Rule) (K : List Rule) (us : List Token) → Ends 0 false us → Next (r ∷ K) us
+    → Next (part p.subscripts ∷ (part (p.image false) · r) ∷ K) (spell_subscripts ds (spell_image i us))
+name_reads_before ds i S I r K us en nx = silent 1 (λ E x xs. refl) (S.all ((part (p.image false) · r) ∷ K) (spell_image i us) (image_first i us (ends_bracket 0 false us en))
+    (silent 1 (λ E x xs. refl) (I.all false (r ∷ K) us en tt nx)))
+
 read_passes : (v : Name) (ds : Subscripts) (i : Image) → SubscriptsRead ds → ImageReads i → Passes 0 (read (ref v ds i))
 read_passes v ds i S I = record {
   reads = λ c K us en ac nx. fast 4 (λ E. go (choice_second _ _ _ K _ (ref_first ds i us (ends_paren 0 c us en))
-    (silent 1 (λ E x xs. refl) (name_reads ds i S I c K us en ac nx))));
+      (silent 1 (λ E x xs. refl) (name_reads ds i S I c K us en ac nx))));
 }
 
 call_passes : (v : Name) (o : Place) (xs : Arguments) (z : Place) → ArgumentsRead xs → Passes 0 (call v o xs z)
@@ -209,13 +214,13 @@ call_passes v o xs z A = record { reads = λ c K us en ac nx. fast 5 (λ E. go (
 parens_passes : (o : Place) (e : Expr) (z : Place) → Fits e → ExprReads e → Passes 0 (parens o e z)
 parens_passes o e z F X = record {
   reads = λ c K us en ac nx. fast 4 (λ E. go (choice_second is_type _ _ K _ (no_type_first e F _)
-    (in_parens_reads e K z us X nx)));
+      (in_parens_reads e K z us X nx)));
 }
 
 unary_passes : (op : Mark) (q : Place) (e : Expr) → is_unary_mark op ≡ true → Passes 0 e → Passes 0 (unary op q e)
 unary_passes op q e h P = record {
   reads = λ c K us en ac nx. fast 1 (λ E. go (by_part (operand_of c) (p.unary c) K _ _ (unary_part op c h)
-    (silent 1 (λ E x xs. refl) (take_token operator is_unary _ _ _ h (P.reads c K us en ac nx)))));
+      (silent 1 (λ E x xs. refl) (take_token operator is_unary _ _ _ h (P.reads c K us en ac nx)))));
 }
 
 cast_passes : (o : Place) (y : Ty) (q z : Place) (e : Expr) → Passes 0 e → Passes 0 (cast o y q z e)
@@ -234,11 +239,12 @@ chain_passes (suc n) e ls h P L = record {
 conditional_reads : (x : Expr) (q : Place) (y : Expr) (r : Place) (z : Expr) → level_of x ≤ 10 → Fits z → Both x → ExprReads y → ExprReads z → ExprReads (conditional x q y r z)
 conditional_reads x q y r z h F X Y Z = record {
   all = λ c K us en ac nx. silent 2 (λ E x xs. refl) ((raise 10 (level_of x) x h (X.low h)).reads c (question c ∷ K) _ (refl, refl, refl, question_free c us) (accepts_question c K ac)
-    (fast 3 (λ E. go (silent 1 (λ E x xs. refl) (Y.all true ((tok operator (is_mark m.Colon) · part (p.expression c)) ∷ K) (t.Mark m.Colon at r ∷ spell z us) (ends_colon r z F us) (λ D v. begins_colon D c v K)
+      (fast 3 (λ E. go (silent 1 (λ E x xs. refl) (Y.all true ((tok operator (is_mark m.Colon) · part (p.expression c)) ∷ K) (t.Mark m.Colon at r ∷ spell z us) (ends_colon r z F us) (λ D v. begins_colon D c v K)
       (fast 2 (λ E. go (Z.all c K us en ac nx))))))));
 } where
   begins_colon : (D : Depths) (c : Bool) (v : Place) (K : List Rule) → Begins D ((tok operator (is_mark m.Colon) · part (p.expression c)) ∷ K) (t.Mark m.Colon at v ∷ [])
   begins_colon D c v K = record { depths = _; now = _; left = _; reads = onward refl (onward refl here) }
+
   question_free : (c : Bool) (us : List Token) → ColonFree c (t.Mark m.Question) (spell y (t.Mark m.Colon at r ∷ spell z us))
   question_free c us = colon_free c (t.Mark m.Question) _ refl
 

@@ -75,7 +75,7 @@ coarray_rule None K us e n = (no_bracket us e, skip _ _ K us (no_colon us e) n)
 coarray_rule (Some x) K us e n = (refl, fast 8 (λ E. go n))
 
 -- behind the name
-abbrev declarator_rest : Declarator → List Token → List Token
+abbrev pub declarator_rest : Declarator → List Token → List Token
 declarator_rest (d.Scalar v x) r = optional value x r
 declarator_rest (d.Array v ds c) r = dims expr ds (optional coarray c r)
 
@@ -95,10 +95,10 @@ declarator_first : (x : Declarator) (r : List Token) → Not (is_word w.Int) (de
 declarator_first (d.Scalar v x) r = refl
 declarator_first (d.Array v ds c) r = refl
 
-pub declaration_reads : (x : Declaration) → FitsDeclaration x → (K : List Rule) (us : List Token) → Next K us → Next (part p.declaration ∷ K) (spell_declaration x us)
-declaration_reads x F K us n = silent 2 (λ E x xs. refl) (type_reads x.ty _ (list declarator x.items (t.Mark m.Semicolon at x.end ∷ us)) (declarator_first x.items.first _)
+pub declaration_reads : (x : Declaration) → FitsDeclaration x → (K : List Rule) (us : List Token) → Next K us → Next (rule p.declaration ∷ K) (spell_declaration x us)
+declaration_reads x F K us n = silent 1 (λ E x xs. refl) (type_reads x.ty _ (list declarator x.items (t.Mark m.Semicolon at x.end ∷ us)) (declarator_first x.items.first _)
     (silent 1 (λ E x xs. refl) (list_reads declarator (part p.declarator) FitsDeclarator EndsDeclarator declarator_reads (λ q vs. (((refl, refl, refl, refl), refl), refl)) x.items F
-      (g.semicolon ∷ K) (t.Mark m.Semicolon at x.end ∷ us) (((refl, refl, refl, refl), refl), refl) refl (fast 1 (λ E. go n)))))
+    (g.semicolon ∷ K) (t.Mark m.Semicolon at x.end ∷ us) (((refl, refl, refl, refl), refl), refl) refl (fast 1 (λ E. go n)))))
 
 -- An optional number behind a colon, before a closing bracket.
 colon_begins : (r : Rule) (K : List Rule) → Accepts true (g.optional (is_mark m.Colon) (g.sign m.Colon · r) ∷ K)
@@ -110,9 +110,10 @@ closer = tok closing (is_mark m.CloseBracket)
 last_reads : (x : Option (Place × made.Expr)) → If FitsSecond x → (K : List Rule) (c : Place) (us : List Token) → Next K us
     → EndsExpr true (optional after_colon x (t.Mark m.CloseBracket at c ∷ us)) × Next (g.optional (is_mark m.Colon) (g.sign m.Colon · g.expr) ∷ closer ∷ K) (optional after_colon x (t.Mark m.CloseBracket at c ∷ us))
 last_reads None F K c us n = (((refl, refl, refl, colon_free true (t.Mark m.CloseBracket) us refl), refl), fast 3 (λ E. go n))
-last_reads (Some x) F K c us n =
-    (ends_colon x.0 (expr_view x.1) F (t.Mark m.CloseBracket at c ∷ us),
-      fast 3 (λ E. go ((expr_reads x.1 F).all false (closer ∷ K) (t.Mark m.CloseBracket at c ∷ us) ((refl, refl, refl, refl), refl) tt (fast 1 (λ E. go n)))))
+last_reads (Some x) F K c us n = (
+  ends_colon x.0 (expr_view x.1) F (t.Mark m.CloseBracket at c ∷ us),
+  fast 3 (λ E. go ((expr_reads x.1 F).all false (closer ∷ K) (t.Mark m.CloseBracket at c ∷ us) ((refl, refl, refl, refl), refl) tt (fast 1 (λ E. go n)))),
+)
 
 -- Each kind of item in brackets, with the closing one.
 width_reads : (x : made.Expr × Option (Place × made.Expr)) → FitsWidth x → (K : List Rule) (c : Place) (us : List Token) → Next K us
@@ -127,13 +128,14 @@ middle = g.expr_colon · g.optional (is_mark m.Colon) (g.sign m.Colon · g.expr)
 
 numbers_read : (x k : Option (Place × made.Expr)) (e : made.Expr) → FitsSection (s.Numbers e x k) → (K : List Rule) (c : Place) (us : List Token) → Next K us
     → EndsExpr true (optional after_colon x (optional after_colon k (t.Mark m.CloseBracket at c ∷ us)))
-      × Next (g.optional (is_mark m.Colon) (g.sign m.Colon · middle) ∷ closer ∷ K) (optional after_colon x (optional after_colon k (t.Mark m.CloseBracket at c ∷ us)))
+    × Next (g.optional (is_mark m.Colon) (g.sign m.Colon · middle) ∷ closer ∷ K) (optional after_colon x (optional after_colon k (t.Mark m.CloseBracket at c ∷ us)))
 numbers_read None None e F K c us n = (((refl, refl, refl, colon_free true (t.Mark m.CloseBracket) us refl), refl), fast 3 (λ E. go n))
 numbers_read None (Some y) e F K c us n = (let z : Some y ≡ None = F.1 in absurd (cc))
 numbers_read (Some x) k e F K c us n =
-    let a = last_reads k F.2 K c us n in
-    (ends_colon x.0 (expr_view x.1) F.1 (optional after_colon k (t.Mark m.CloseBracket at c ∷ us)),
-      fast 3 (λ E. go (silent 1 (λ E x xs. refl) ((expr_reads x.1 F.1).all true _ (optional after_colon k (t.Mark m.CloseBracket at c ∷ us)) a.0 (colon_begins g.expr (closer ∷ K)) a.1))))
+    let a = last_reads k F.2 K c us n in (
+      ends_colon x.0 (expr_view x.1) F.1 (optional after_colon k (t.Mark m.CloseBracket at c ∷ us)),
+      fast 3 (λ E. go (silent 1 (λ E x xs. refl) ((expr_reads x.1 F.1).all true _ (optional after_colon k (t.Mark m.CloseBracket at c ∷ us)) a.0 (colon_begins g.expr (closer ∷ K)) a.1))),
+    )
 
 abbrev section_rule : Rule
 section_rule = choice (is_mark m.Colon) (g.sign m.Colon) (g.expr_colon · g.optional (is_mark m.Colon) (g.sign m.Colon · middle))
@@ -149,7 +151,7 @@ section_reads (s.Numbers e x k) F K c us n =
     let r : List Token = optional after_colon x (optional after_colon k (t.Mark m.CloseBracket at c ∷ us)) in
     let G = section_first e x k F in
     silent 1 (λ E x xs. refl) (choice_second (is_mark m.Colon) _ _ (closer ∷ K) (spell (expr_view e) r) (not_first m.Colon (expr_view e) G r refl)
-      (silent 1 (λ E x xs. refl) ((expr_reads e G).all true _ r a.0 (colon_begins middle (closer ∷ K)) a.1)))
+    (silent 1 (λ E x xs. refl) ((expr_reads e G).all true _ r a.0 (colon_begins middle (closer ∷ K)) a.1)))
 
 abbrev set_rule : Rule
 set_rule = choice (is_mark m.Colon) (g.sign m.Colon) (g.expr_colon · g.optional (is_mark m.Colon) (g.sign m.Colon · g.expr))
@@ -161,7 +163,7 @@ set_section_reads (s.Numbers e x None) F K c us n =
     let a = last_reads x F.1 K c us n in
     let r : List Token = optional after_colon x (t.Mark m.CloseBracket at c ∷ us) in
     silent 1 (λ E x xs. refl) (choice_second (is_mark m.Colon) _ _ (closer ∷ K) (spell (expr_view e) r) (not_first m.Colon (expr_view e) F.0 r refl)
-      (silent 1 (λ E x xs. refl) ((expr_reads e F.0).all true _ r a.0 (colon_begins g.expr (closer ∷ K)) a.1)))
+    (silent 1 (λ E x xs. refl) ((expr_reads e F.0).all true _ r a.0 (colon_begins g.expr (closer ∷ K)) a.1)))
 
 pub sections_read : (x : Sections) → FitsSections x → (K : List Rule) (us : List Token) → Not (is_mark m.OpenBracket) us → Next K us → Next (part p.sections ∷ K) (sections x us)
 sections_read x F K us h n = fast 3 (λ E. go (any_read section section_rule FitsSection section_reads x.sections F K us h n))
@@ -190,7 +192,7 @@ point_reads (pt.Index v (Some x)) F K c us n =
     let e : Fits (expr_view x.1) = F.2 in
     let low = (reads (expr_view x.1) e).low (omega (arith, F.1)) in
     fast 5 (λ E. go (choice_first is_offset _ _ _ _ F.0 (silent 1 (λ E x xs. refl) (take_token operator is_offset _ _ _ F.0
-      ((raise 1 (level_of (expr_view x.1)) (expr_view x.1) F.1 low).reads false (closer ∷ K) (t.Mark m.CloseBracket at c ∷ us) (refl, refl, refl, refl) tt (fast 1 (λ E. go n)))))))
+    ((raise 1 (level_of (expr_view x.1)) (expr_view x.1) F.1 low).reads false (closer ∷ K) (t.Mark m.CloseBracket at c ∷ us) (refl, refl, refl, refl) tt (fast 1 (λ E. go n)))))))
 
 expr_closer : (x : made.Expr) → FitsExpr x → (K : List Rule) (c : Place) (us : List Token) → Next K us → Next ((g.expr · closer) ∷ K) (expr x (t.Mark m.CloseBracket at c ∷ us))
 expr_closer x F K c us n = in_brackets_reads (expr_view x) K c us (expr_reads x F) n
@@ -210,7 +212,7 @@ nodes_reads l v (x ∷ ds) F K us n =
     let r : List Token = t.Mark m.CloseBracket at x.close ∷ dims expr ds (t.Close at l.end ∷ us) in
     let more = any_read expr g.expr FitsExpr expr_closer ds F.1.1 (g.line_end ∷ K) (t.Close at l.end ∷ us) refl (fast 1 (λ E. go n)) in
     fast 6 (λ E. go (choice_second (is_mark m.Star) _ _ K (spell (expr_view x.item) r) (not_first m.Star (expr_view x.item) F.1.0 r refl)
-      (silent 1 (λ E x xs. refl) ((expr_reads x.item F.1.0).all false _ r ((refl, refl, refl, refl), refl) tt (fast 2 (λ E. go (silent 1 (λ E x xs. refl) more)))))))
+    (silent 1 (λ E x xs. refl) ((expr_reads x.item F.1.0).all false _ r ((refl, refl, refl, refl), refl) tt (fast 2 (λ E. go (silent 1 (λ E x xs. refl) more)))))))
 
 template_reads : (l : DirectiveLine) (v : Name) (ds : List (Inside made.Expr)) → FitsSomeDims FitsExpr ds → (K : List Rule) (us : List Token) → Next K us
     → Next (rule p.template ∷ K) (from_word (codes "template") (λ r. name v (dims expr ds r)) l us)
@@ -226,7 +228,7 @@ align_line_reads : (l : DirectiveLine) (v : Name) (xs : List (Inside AlignDimens
     → Next (rule p.align ∷ K) (from_word (codes "align") (λ r. name v (dims align_dimension xs (t.Name (codes "with") at q ∷ name o (dims point ps r)))) l us)
 align_line_reads l v xs q o ps F K us n = fast 4 (λ E. go (silent 1 (λ E x xs. refl)
     (dims_read align_dimension _ (λ y. ⊤) align_reads xs (F.0, all_dims xs) _ (t.Name (codes "with") at q ∷ name o (dims point ps (t.Close at l.end ∷ us))) refl
-      (fast 4 (λ E. go (silent 1 (λ E x xs. refl) (dims_read point (part p.point) FitsPoint point_reads ps F.1 (g.line_end ∷ K) (t.Close at l.end ∷ us) refl (fast 1 (λ E. go n)))))))))
+    (fast 4 (λ E. go (silent 1 (λ E x xs. refl) (dims_read point (part p.point) FitsPoint point_reads ps F.1 (g.line_end ∷ K) (t.Close at l.end ∷ us) refl (fast 1 (λ E. go n)))))))))
 
 shadow_reads : (l : DirectiveLine) (v : Name) (ws : List (Inside (made.Expr × Option (Place × made.Expr)))) → FitsSomeDims FitsWidth ws → (K : List Rule) (us : List Token) → Next K us
     → Next (rule p.shadow ∷ K) (from_word (codes "shadow") (λ r. name v (dims width ws r)) l us)
@@ -252,7 +254,7 @@ mapping_item_reads (mp.Shadow l v ws) F K us n = fast 5 (λ E. go (shadow_reads 
 -- Reductions.
 operator_reads : (x : ReductionOperator) (q : Place) (ns : CommaList Name) (c : Place) → FitsOperator x → (K : List Rule) (us : List Token) → Next K us
     → Next (((choice is_reduction (tok plain is_reduction) (tok plain g.is_max_or_min) · g.sign m.Colon · part p.names) · tok closing (is_mark m.CloseParen)) ∷ K)
-      (reduction_operator x (t.Mark m.Colon at q ∷ names ns (t.Mark m.CloseParen at c ∷ us)))
+    (reduction_operator x (t.Mark m.Colon at q ∷ names ns (t.Mark m.CloseParen at c ∷ us)))
 operator_reads (ro.Mark x) q ns c F K us n = fast 2 (λ E. go (choice_first is_reduction _ _ _ _ F (take_token plain is_reduction _ _ _ F
     (fast 2 (λ E. go (names_read ns (tok closing (is_mark m.CloseParen) ∷ K) (t.Mark m.CloseParen at c ∷ us) refl (fast 1 (λ E. go n))))))))
 operator_reads (ro.Max r) q ns c F K us n = fast 6 (λ E. go (names_read ns (tok closing (is_mark m.CloseParen) ∷ K) (t.Mark m.CloseParen at c ∷ us) refl (fast 1 (λ E. go n))))

@@ -18,12 +18,12 @@ use Rattle.xmp_tree.specs.Fits.{Each, FitsList, FitsDims, NotEmpty, FitsSomeDims
 use Rattle.xmp_tree.proofs.Done.{Next, fast, go, silent, Is, Not, many_stop, many_more}
 
 -- there is a token
-abbrev pub Some : List Token → Type 0
-Some [] = ⊥
-Some (x ∷ xs) = ⊤
+abbrev pub NonEmpty : List Token → Type 0
+NonEmpty [] = ⊥
+NonEmpty (x ∷ xs) = ⊤
 
 -- the end of a counted statement
-pub leave_reads : (K : List Rule) (us : List Token) → Some us → Next K us → Next (mark leave ∷ K) us
+pub leave_reads : (K : List Rule) (us : List Token) → NonEmpty us → Next K us → Next (mark leave ∷ K) us
 leave_reads K [] h n = absurd h
 leave_reads K (x ∷ xs) h n = fast 1 (λ E. go n)
 

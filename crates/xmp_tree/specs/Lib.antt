@@ -7,3 +7,4 @@ pub mod Spell
 pub mod Fits
 pub mod Refused
 pub mod Steps
+pub mod Seen

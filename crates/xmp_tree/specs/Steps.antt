@@ -53,7 +53,7 @@ both_of false D r K p q t u ts ds E M us h e =
         let k : p t.kind && q v.kind ≡ false = subst (λ (x : Token). p t.kind && q x.kind ≡ false) z h in
         ap (λ b. pair_step b D r K t v f) k ∙ cc
 
-took : (b : Bool) (x : List ℕ) (s t : State) (ds : List ℕ) → cond b (goes x s) halts ≡ goes ds t → (b ≡ true) × (x ≡ ds) × (s ≡ t)
+pub took : (b : Bool) (x : List ℕ) (s t : State) (ds : List ℕ) → cond b (goes x s) halts ≡ goes ds t → (b ≡ true) × (x ≡ ds) × (s ≡ t)
 took true x s t ds e = (refl, cc, cc)
 took false x s t ds e = cc
 
@@ -65,8 +65,8 @@ local D (nothing ∷ K) (t ∷ ts) ds E M us e = quiet D _ t ts ds E M us _ _ (�
 local D (tok x p ∷ K) (t ∷ ts) ds E M us e =
     let w = took (p t.kind) (now (behind x D) ∷ []) (reading (behind x D) K ts) (reading E M us) ds e in
     one_token t (now (behind x D)) (let z : reading (behind x D) K ts ≡ reading E M us = w.2 in let y : ts ≡ us = cc in ap (λ l. t ∷ l) y) (sym w.1)
-        (λ f. ap (λ b. cond b (goes (now (behind x D) ∷ []) (reading (behind x D) K f)) halts) w.0
-            ∙ (let z : reading (behind x D) K ts ≡ reading E M us = w.2 in let y : now (behind x D) ∷ [] ≡ ds = w.1 in cc))
+    (λ f. ap (λ b. cond b (goes (now (behind x D) ∷ []) (reading (behind x D) K f)) halts) w.0
+    ∙ (let z : reading (behind x D) K ts ≡ reading E M us = w.2 in let y : now (behind x D) ∷ [] ≡ ds = w.1 in cc))
 local D (mark x ∷ K) (t ∷ ts) ds E M us e = quiet D _ t ts ds E M us _ _ (λ f. refl) e
 local D (part P ∷ K) (t ∷ ts) ds E M us e = quiet D _ t ts ds E M us _ _ (λ f. refl) e
 local D (by g ∷ K) (t ∷ ts) ds E M us e = quiet D _ t ts ds E M us _ _ (λ f. refl) e
@@ -140,9 +140,9 @@ stuck_tokens D K t u ds E M us left h w s =
       ends = λ b. s.ends (begins_behind D K t (u ∷ s.front ++ s.bad ∷ []) ds E M (s.front ++ s.bad ∷ []) (h (s.front ++ s.bad ∷ [])) b);
     }
 
-split : (a : List Token) (x : Token) (b : List Token) → a ++ x ∷ b ≡ (a ++ x ∷ []) ++ b
-split [] x b = refl
-split (y ∷ a) x b = ap (λ l. y ∷ l) (split a x b)
+pub regroup : (a : List Token) (x : Token) (b : List Token) → a ++ x ∷ b ≡ (a ++ x ∷ []) ++ b
+regroup [] x b = refl
+regroup (y ∷ a) x b = ap (λ l. y ∷ l) (regroup a x b)
 
 -- the front of a refusal, taken apart
 stuck_silent : (D : Depths) (K : List Rule) (t : Token) (vs : List Token) (E : Depths) (M : List Rule) (left : ℕ)
@@ -175,7 +175,7 @@ stuck_silent D K t vs E M left h (x ∷ front) bad after w k b g =
       begins = a.0;
       shallow = a.1;
       ends = λ c. g (subst (λ (y : Token). Begins E M (y ∷ front ++ bad ∷ [])) q
-          (begins_behind D K t (front ++ bad ∷ []) [] E M (t ∷ front ++ bad ∷ []) (h (front ++ bad ∷ []) after (z ∙ split front bad after)) c));
+          (begins_behind D K t (front ++ bad ∷ []) [] E M (t ∷ front ++ bad ∷ []) (h (front ++ bad ∷ []) after (z ∙ regroup front bad after)) c));
     }
 
 -- A refusal behind a step is one before it.
@@ -183,8 +183,8 @@ pub stuck_before : (D : Depths) (K : List Rule) (ts : List Token) (ds : List ℕ
     → Local D K ts ds E M us → All (λ d. d ≤ 128) ds → Stuck E M us left → Stuck D K ts left
 stuck_before D K ts ds E M us left (no_token t vs p q n h) w s =
     subst (λ (l : List Token). Stuck D K l left) (sym p)
-      (stuck_silent D K t vs E M left (λ f rest z. subst (λ (l : List ℕ). step rule (reading D K (t ∷ f)) ≡ goes l (reading E M (t ∷ f))) n (h f rest z))
-        s.front s.bad s.after (sym q ∙ s.whole) s.count (s.begins, s.shallow) s.ends)
+    (stuck_silent D K t vs E M left (λ f rest z. subst (λ (l : List ℕ). step rule (reading D K (t ∷ f)) ≡ goes l (reading E M (t ∷ f))) n (h f rest z))
+    s.front s.bad s.after (sym q ∙ s.whole) s.count (s.begins, s.shallow) s.ends)
 stuck_before D K ts ds E M us left (one_token t d p n h) w s =
     subst (λ (l : List Token). Stuck D K l left) (sym p) (stuck_token D K t ds E M us left h w s)
 stuck_before D K ts ds E M us left (two_tokens t u d e p n h) w s =

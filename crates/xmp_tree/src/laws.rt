@@ -1,11 +1,21 @@
 // Laws of the grammar and of trees.
-ghost use Rattle.std.specs.Prelude.{◌≡◌, ℕ, List};
+ghost use Rattle.std.specs.Prelude.{◌≡◌, ◌++◌, ℕ, List};
 ghost use Rattle.xmp_lex.specs.declared.token.Token.{Token};
 ghost use Rattle.xmp_tree.specs.declared.program.Tree.{Tree};
-ghost use Rattle.xmp_tree.specs.Refused.{IsProgram, Stuck, TooDeep, start, program_rules};
+ghost use Rattle.xmp_tree.specs.Refused.{Begins, IsProgram, Stuck, TooDeep, start, program_rules};
 
 /// No tokens are both a program and refused.
 pub fn program_or_refused()
     ensures stuck { (ts : List Token) (x : Tree) (left : ℕ) → IsProgram ts x → Stuck start program_rules ts left → ⊥ }
     ensures deep { (ts : List Token) (x : Tree) (left : ℕ) → IsProgram ts x → TooDeep start program_rules ts left → ⊥ }
+{}
+
+/// What begins the spelling of a program does so without its last tokens.
+pub fn shorter_begins()
+    ensures { (ts us : List Token) → Begins start program_rules (ts ++ us) → Begins start program_rules ts }
+{}
+
+/// There is one token at most from which on tokens begin no program: the least.
+pub fn one_stuck_token()
+    ensures { (ts : List Token) (left other : ℕ) → Stuck start program_rules ts left → Stuck start program_rules ts other → left ≡ other }
 {}

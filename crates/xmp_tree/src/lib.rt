@@ -7,7 +7,14 @@ mod expression;
 mod laws;
 mod parts;
 mod program;
+mod rest;
+mod spelling;
+mod spelling_lines;
+mod spelling_program;
+mod spelling_statements;
 mod statement;
+#[cfg(test)]
+mod tests;
 
 pub use declaration::{Declaration, Declarator};
 pub use directive::{
@@ -15,9 +22,10 @@ pub use directive::{
     ReductionOperator, Section, Sections, TaskLine,
 };
 pub use expression::Expr;
-pub use laws::program_or_refused;
+pub use laws::{one_stuck_token, program_or_refused, shorter_begins};
 pub use parts::{
     Call, CommaList, Format, Image, Inside, Link, Name, Next, Placed, Reference, TypeWords,
 };
 pub use program::{Function, Parameters, TopItem, Tree};
+pub use spelling_program::tokens_of;
 pub use statement::{BlockItem, ForFirst, ForHead, Plain, Simple, Stmt};
