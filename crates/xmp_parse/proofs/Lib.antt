@@ -5,3 +5,6 @@ pub mod Whole
 pub mod Views
 pub mod Levels
 pub mod Longer
+pub mod Listing
+pub mod Dispatch
+pub mod MaxOrMin

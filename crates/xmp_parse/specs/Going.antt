@@ -42,3 +42,7 @@ After s L K (Err e) = Refused s e
 -- The part is read by the rule, whatever comes before and after.
 abbrev pub Parses : {A : Type 0} → Rule → Reader → Result (A × Reader) Stop → Type 0
 Parses R r result = (s : State) (L : List (ℕ × ℕ)) (K : List Rule) → Comes s (stands L (R ∷ K) r) → After s L K result
+
+-- The parts are read by the rules, one after another.
+abbrev pub ParsesAll : {A : Type 0} → List Rule → Reader → Result (A × Reader) Stop → Type 0
+ParsesAll Rs r result = (s : State) (L : List (ℕ × ℕ)) (K : List Rule) → Comes s (stands L (Rs ++ K) r) → After s L K result

@@ -1,7 +1,7 @@
 use Rattle.std.proofs.Common.{length, ◌+◌, ◌*◌, ◌≤◌}
 use Rattle.xmp_parse.specs.SoFar.{LevelSoFar, LinksSoFar, SubscriptsSoFar, RestSoFar}
 use Rattle.xmp_tree.specs.View.{expr_view, links_view, subscripts_view, rest_view}
-use Rattle.xmp_parse.proofs.expression.+expr.Given as goal
+use Rattle.xmp_parse.proofs.expressions.+expr.Given as goal
 
 abbrev pub decreases-expression : goal.decreases-expression
 decreases-expression l = 16 * length l.r.tokens.now + 4

@@ -11,7 +11,7 @@ use Rattle.xmp_parse.proofs.Opening.{seq, into, skip, first, second, again, no_m
 use Rattle.xmp_parse.proofs.Levels.{plus_one, level_start, level_next, level_end, more_links, same_levels}
 use Rattle.xmp_tree.specs.Grammar as g
 use Rattle.xmp_lex.specs.declared.token.Mark.TheVariants as m
-use Rattle.xmp_parse.proofs.expression.+expr.Goals as goal
+use Rattle.xmp_parse.proofs.expressions.+expr.Goals as goal
 
 pub arguments-returns-in_err-open-clause-goes : goal.arguments-returns-in_err-open-clause-goes
 arguments-returns-in_err-open-clause-goes n c = λ s L K w.
