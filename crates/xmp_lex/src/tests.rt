@@ -258,18 +258,27 @@ fn limits(rt: HostRuntime) -> Result<(), Fail> {
         let row = show_lexed(rt.alloc(), text.as_bytes())?;
         assert_eq!(rt; row.as_str(), expected, "{count} {end}");
     }
-    // so many names, each defined by so many of the one before, and so many uses of the last, one a line
+    // so many names, each defined by so many of the one before, and so many uses of the last, one a line, with spaces
+    // behind them up to the greatest size of a source
     let expanded = [
         (31, 2, 1, "E2 at 32:1"),
-        (60000, 1, 1, ";@60001:1 Finish@60001:4"),
+        (60000, 1, 1, ";@60001:1 Finish@60001:88579"),
         (60000, 1, 4, "E2 at 60004:1"),
-        (60000, 1, 3, ";@60001:1 ;@60002:1 ;@60003:1 Finish@60003:4"),
+        (
+            60000,
+            1,
+            3,
+            ";@60001:1 ;@60002:1 ;@60003:1 Finish@60003:88571",
+        ),
     ];
     for (names, each, uses, expected) in expanded {
         let mut text = defined(rt.alloc(), names, each)?;
         for _ in 0..uses {
             text.push('\n')?;
             push_name(&mut text, names - 1)?;
+        }
+        for _ in text.len()..1048576 {
+            text.push(' ')?;
         }
         let row = show_expanded(rt.alloc(), text.as_bytes())?;
         assert_eq!(rt; row.as_str(), expected, "{names} {each} {uses}");

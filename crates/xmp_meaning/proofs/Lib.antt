@@ -1,0 +1,17 @@
+pub mod Keeps
+pub mod RelatedExpressions
+pub mod RelatedStatements
+pub mod Sequences
+pub mod Preorders
+pub mod Stays
+pub mod Notes
+pub mod Wholes
+pub mod Images
+pub mod MoreSteps
+pub mod Forms
+pub mod TenTurns
+pub mod Unrolled
+pub mod Talks
+pub mod FormatLaws
+pub mod Counting
+pub mod CountedTurns

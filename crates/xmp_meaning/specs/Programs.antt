@@ -1,0 +1,90 @@
+-- A whole program.
+use Rattle.std.specs.Prelude.{ℕ, ◌*◌, if◌then◌else◌, List, [], ◌∷◌, ◌++◌, length, map, replicate, ℤ, pos, take, drop, zero, suc}
+use Rattle.xmp_map.specs.RowMajor.{product}
+use Rattle.xmp_prog.specs.declared.parts.ProgParts.{ProgParts}
+use Rattle.xmp_prog.specs.declared.parts.Array.{Array}
+use Rattle.xmp_prog.specs.declared.parts.Home.{Home}
+use Rattle.xmp_prog.specs.declared.parts.Home.TheVariants as home
+use Rattle.xmp_prog.specs.declared.parts.Start.{Start}
+use Rattle.xmp_meaning.specs.declared.location.Location.TheVariants as location
+use Rattle.xmp_meaning.specs.declared.ends.End.TheVariants as end
+use Rattle.xmp_meaning.specs.declared.ends.Flow.{Flow}
+use Rattle.xmp_meaning.specs.declared.ends.Flow.TheVariants.{Next}
+use Rattle.xmp_meaning.specs.declared.outcome.Outcome.{Outcome}
+use Rattle.xmp_meaning.specs.declared.outcome.Outcome.TheVariants as outcome
+use Rattle.xmp_meaning.specs.Runs.{State, Step, Gave, Ended, Run, ◌>>=◌, pure}
+use Rattle.xmp_meaning.specs.Context.{Context}
+use Rattle.xmp_prog.specs.Fits.{node_count}
+use Rattle.xmp_prog.specs.Tests.{is_image}
+use Rattle.xmp_meaning.specs.Expressions.{expr_of}
+use Rattle.xmp_meaning.specs.Assignments.{store}
+use Rattle.xmp_meaning.specs.Loops.{then_run}
+use Rattle.xmp_meaning.specs.Directives.{Directives, erased}
+use Rattle.xmp_meaning.specs.Statements.{stmt_of}
+use Rattle.xmp_meaning.specs.Calls.{main_context}
+
+-- how many cells an array has, those of all images together
+abbrev pub cell_count : ProgParts → Array → ℕ
+cell_count p a = (if is_image a.home then node_count p else 1) * product a.extents
+
+-- every cell is 0 at first
+abbrev pub no_writes : ProgParts → List (List ℤ)
+no_writes p = map (λ a. replicate (cell_count p a) (pos 0)) p.arrays
+
+-- what a program begins with: every scalar and every cell is 0, and nothing is printed or read
+abbrev pub beginning : {X : Type 0} → ProgParts → ℕ → X → State X
+beginning p steps extra = record {
+  scalars = replicate (length p.scalars) (pos 0);
+  arrays = no_writes p;
+  out = [];
+  taken = 0;
+  steps = steps;
+  extra = extra;
+}
+
+-- the initialisers at file scope, in order
+abbrev pub starts : {X : Type 0} → Context → List Start → Run X Flow
+starts cx [] = pure Next
+starts cx (s ∷ ss) = do
+  v ← expr_of cx s.value
+  _ ← store cx (location.Scalar s.slot) v
+  starts cx ss
+
+-- the initialisers at file scope, and then main's statement
+abbrev pub program : {X : Type 0} → Directives X → Context → Run X Flow
+program d cx = then_run (starts cx cx.program.start) (stmt_of d cx cx.program.body)
+
+-- ---- what it comes to
+
+-- the rows of the images' cells, `many` for each of so many images
+abbrev pub cut : ℕ → ℕ → List ℤ → List (List ℤ)
+cut zero many cells = []
+cut (suc n) many cells = take many cells ∷ cut n many (drop many cells)
+
+-- which rows of an array are told: those of each image of a coarray, and that of a distributed array
+abbrev pub told_of : ProgParts → Array → Home → List ℤ → List (List ℤ)
+told_of p a home.Copy cells = []
+told_of p a (home.Spread t m) cells = cells ∷ []
+told_of p a home.Image cells = cut (node_count p) (product a.extents) cells
+
+-- the same for all arrays in the order of their declarations
+abbrev pub told : ProgParts → List Array → List (List ℤ) → List (List ℤ)
+told p (a ∷ all) (cells ∷ rows) = told_of p a a.home cells ++ told p all rows
+told p [] rows = []
+told p (a ∷ all) [] = []
+
+-- what a run comes to, with the output and the arrays at its end; what main returns isn't used
+abbrev pub outcome_of : {X : Type 0} → ProgParts → Step X Flow → Outcome
+outcome_of p (Gave flow s) = outcome.Ended s.out (told p p.arrays s.arrays)
+outcome_of p (Ended (end.Trapped kind at) s) = outcome.Trapped s.out kind at
+outcome_of p (Ended end.OutOfSteps s) = outcome.OutOfSteps s.out
+outcome_of p (Ended end.PhaseEnd s) = outcome.Ended s.out (told p p.arrays s.arrays)
+
+-- ---- the serial meaning: the program with its directives erased, on an input, with so many steps for the turns of uncounted loops
+
+abbrev pub serial_end : ProgParts → List ℕ → ℕ → Step (Unit {0}) Flow
+serial_end p input steps = program erased (main_context p 0 input) (beginning p steps tt)
+
+-- what the program comes to
+abbrev pub serial : ProgParts → List ℕ → ℕ → Outcome
+serial p input steps = outcome_of p (serial_end p input steps)

@@ -1,0 +1,7 @@
+/// What an assignment writes: a scalar by its slot, or a cell of an array by its row-major number. The cells of a coarray are those of all
+/// images, laid end to end in the order of the images.
+#[derive(Clone, Copy, Debug, PartialEq, Eq)]
+pub enum Location {
+    Scalar(u32),
+    Cell(u32, usize),
+}

@@ -1,0 +1,3 @@
+pub mod Rolls
+mod ExampleLaws
+mod SquareLaws
