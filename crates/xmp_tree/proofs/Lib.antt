@@ -7,3 +7,4 @@ pub mod Statements
 pub mod Blocks
 pub mod Programs
 pub mod Shorter
+pub mod OneExpr
