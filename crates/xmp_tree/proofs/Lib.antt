@@ -8,3 +8,5 @@ pub mod Blocks
 pub mod Programs
 pub mod Shorter
 pub mod OneExpr
+pub mod OneLine
+pub mod OneDirective

@@ -135,7 +135,7 @@ ends_rest (comma p e es) r en = ((refl, refl, refl, refl), refl)
 
 -- f bounds the tokens and the level
 mutual
-  same : (f n : ℕ) (c : Bool) (x y : Expr) (r s : List Token) → 16 * length (spell x r) + n < f → Fits x → Fits y → level_of x ≤ n → level_of y ≤ n → n ≤ 10 → Ends n c r → Ends n c s
+  pub same : (f n : ℕ) (c : Bool) (x y : Expr) (r s : List Token) → 16 * length (spell x r) + n < f → Fits x → Fits y → level_of x ≤ n → level_of y ≤ n → n ≤ 10 → Ends n c r → Ends n c s
       → kinds (spell x r) ≡ kinds (spell y s) → (shape x ≡ shape y) × (kinds r ≡ kinds s)
   same zero n c x y r s b F G h i k en em e = absurd (omega arith)
   same (suc f) zero c x y r s b F G h i k en em e = same_operand f c x y r s (omega arith) F G h i en em e
