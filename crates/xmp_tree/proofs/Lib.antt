@@ -10,3 +10,5 @@ pub mod Shorter
 pub mod OneExpr
 pub mod OneLine
 pub mod OneDirective
+pub mod OneStmt
+pub mod OneBlock

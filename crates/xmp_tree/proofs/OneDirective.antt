@@ -130,7 +130,7 @@ same_width_of (Some x) (Some y) F G c b r s e =
     let a = same_expr x.item y.item F G (t.Mark m.CloseParen at x.close ∷ t.Mark m.CloseBracket at c ∷ r) (t.Mark m.CloseParen at y.close ∷ t.Mark m.CloseBracket at b ∷ s) ((refl, refl, refl, refl), refl) ((refl, refl, refl, refl), refl) (cc) in
     (λ q. ap (λ u. token (t.Mark m.OpenParen) ▸ u) (a.0 (token (t.Mark m.CloseParen) ▸ q)), (let k = a.1 in cc))
 
-abbrev first_of : List TokenKind → TokenKind
+abbrev pub first_of : List TokenKind → TokenKind
 first_of [] = t.Finish
 first_of (k ∷ ks) = k
 
@@ -185,7 +185,7 @@ same_target bytes a b v u r s e = let k : t.Name v.text ≡ t.Name u.text = cc i
 abbrev starting : List ℕ → Outline
 starting bytes r = token t.Pragma ▸ token (t.Name bytes) ▸ r
 
-abbrev second_of : List TokenKind → TokenKind
+abbrev pub second_of : List TokenKind → TokenKind
 second_of [] = t.Finish
 second_of (k ∷ []) = t.Finish
 second_of (k ∷ j ∷ ks) = j

@@ -145,7 +145,7 @@ same_declarator (d.Array n (x ∷ ds) c) (d.Scalar n' v) F G r s w u e =
     absurd (no_first (is_mark m.OpenBracket) (t.Mark m.OpenBracket) (optional value v s) (kinds (expr x.item (t.Mark m.CloseBracket at x.close ∷ dims expr ds (optional coarray c r)))) refl (value_first v s u)
       (let z : t.Mark m.OpenBracket ∷ kinds (expr x.item (t.Mark m.CloseBracket at x.close ∷ dims expr ds (optional coarray c r))) ≡ kinds (optional value v s) = cc in sym z))
 
-declarators_first : (x : CommaList Declarator) (r : List Token) → Not (is_word w.Int) (list declarator x r)
+pub declarators_first : (x : CommaList Declarator) (r : List Token) → Not (is_word w.Int) (list declarator x r)
 declarators_first x r = by_first x.first _
   where
     by_first : (y : Declarator) (r : List Token) → Not (is_word w.Int) (declarator y r)
