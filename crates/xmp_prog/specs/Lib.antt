@@ -1,0 +1,11 @@
+pub mod Terms
+pub mod Statements
+pub mod Numbers
+pub mod Counted
+pub mod NodeSets
+pub mod Scopes
+pub mod Formats
+pub mod Directives
+pub mod Tests
+pub mod Fits
+pub mod Examples
