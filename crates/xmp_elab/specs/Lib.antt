@@ -1,0 +1,4 @@
+pub mod Rules
+pub mod Typing
+pub mod Expressions
+pub mod Formats
