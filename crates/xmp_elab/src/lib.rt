@@ -6,13 +6,22 @@
 
 mod expressions;
 mod formats;
+mod mappings;
 mod names;
 mod operators;
 mod rules;
 mod typed;
+mod world;
 
 pub use formats::{Mode, fits_format, is_scan_format};
+pub use mappings::{
+    Align, AlignPoint, Distribution, Form, LoopUse, Mappings, NodesLine, Shadow, TemplateLine,
+};
 pub use names::{Array, Environment, Meaning, Region, Signature};
 pub use operators::Operator;
 pub use rules::{Broken, Notes, Rule};
 pub use typed::{Operand, Parts, Typed, Value};
+pub use world::World;
+
+#[cfg(test)]
+mod tests;
