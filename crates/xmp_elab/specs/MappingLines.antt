@@ -1,5 +1,5 @@
 -- The mapping directives where they stand: their names are resolved there, and their numbers kept (XcalableMP 1.4, section 4.3).
-use Rattle.std.specs.Prelude.{⊤, ◌++◌, ◌∷◌, [], ℕ, ◌+◌, ◌==◌, List, ℤ, pos, Bool, true, false, not, ◌&&◌, ◌||◌, if◌then◌else◌, Option, Some, None, length, map, slice_get}
+use Rattle.std.specs.Prelude.{⊤, ◌++◌, ◌∷◌, [], ℕ, ◌+◌, ◌==◌, List, ℤ, pos, Bool, true, false, not, ◌&&◌, ◌||◌, if◌then◌else◌, Option, Some, None, is_some, length, map, slice_get}
 use Rattle.std.specs.Option.{unwrap_or, option_map}
 use Rattle.std.specs.List.{list_any}
 use Rattle.xmp_base.specs.declared.place.Place.{Place}
@@ -103,10 +103,6 @@ abbrev pub is_dummy : scope.Name → Option named.Name → Bool
 is_dummy n None = false
 is_dummy n (Some m) = scope.is_same n m.text
 
-abbrev pub is_there : {A : Type 0} → Option A → Bool
-is_there None = false
-is_there (Some a) = true
-
 abbrev pub dummy_once : List (Option named.Name) → Option named.Name → Run ⊤
 dummy_once before None = pure tt
 dummy_once before (Some n) = judge (not (list_any (is_dummy n.text) before)) N2 n.at
@@ -165,7 +161,7 @@ align_line at a dimensions t points = do
   template ← name_of a_template t
   kept ← each (align_point dummies) (inner points)
   _ ← match_template template (length kept) t.at
-  keep_align at array template (map is_there dummies) kept
+  keep_align at array template (map is_some dummies) kept
 
 -- ---- shadow
 

@@ -1,5 +1,5 @@
 -- The walk over a program: each part of it is a step from what was known before it to what is known after it. No rule ends the walk.
-use Rattle.std.specs.Prelude.{◌≡◌, ⊤, ◌++◌, ◌∷◌, [], ℕ, ◌+◌, ◌==◌, List, ℤ, pos, Bool, true, false, not, ◌&&◌, ◌||◌, if◌then◌else◌, Option, Some, None, length, map, codes, nat_lt, nat_le, Result, Ok, Err, drop}
+use Rattle.std.specs.Prelude.{◌≡◌, ⊤, ◌++◌, ◌∷◌, [], ℕ, ◌+◌, ◌==◌, List, ℤ, pos, Bool, true, false, not, ◌&&◌, ◌||◌, if◌then◌else◌, Option, Some, None, is_some, length, map, codes, nat_lt, nat_le, Result, Ok, Err, drop}
 use Rattle.xmp_base.specs.declared.place.Place.{Place}
 use Rattle.xmp_num.specs.declared.types.Ty.{Ty}
 use Rattle.xmp_num.specs.declared.types.Ty.TheVariants.{Int, Long}
@@ -195,16 +195,12 @@ meaning_of n = λ w. Gave (scope.nearest n.text w.names.scopes) (record w {
   })
 
 -- A name has to be of one kind: what is asked of its meaning, or nothing, and the name breaks a rule.
-abbrev pub is_there : {A : Type 0} → Option A → Bool
-is_there None = false
-is_there (Some a) = true
-
 abbrev pub of_kind : {A : Type 0} → (Meaning → Option A) → named.Name → Option Meaning → Run (Option A)
 of_kind kind n None = do
   _ ← judge false N1 n.at
   pure None
 of_kind kind n (Some meaning) = do
-  _ ← judge (is_there (kind meaning)) N3 n.at
+  _ ← judge (is_some (kind meaning)) N3 n.at
   pure (kind meaning)
 
 abbrev pub name_of : {A : Type 0} → (Meaning → Option A) → named.Name → Run (Option A)

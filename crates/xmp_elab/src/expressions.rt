@@ -145,7 +145,7 @@ impl Environment {
         }
     }
 
-    fn may_name(&self, name: &Name, meaning: Option<Meaning>) -> bool
+    pub(crate) fn may_name(&self, name: &Name, meaning: Option<Meaning>) -> bool
         ensures { result ≡ may_name self.now name.now meaning }
     {
         match self.region {

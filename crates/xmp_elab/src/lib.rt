@@ -11,6 +11,7 @@ mod names;
 mod operators;
 mod rules;
 mod typed;
+mod walk;
 mod world;
 
 pub use formats::{Mode, fits_format, is_scan_format};
