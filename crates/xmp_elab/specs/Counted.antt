@@ -118,4 +118,4 @@ added_to i (target.Cell a) value = None
 abbrev pub is_counted : ℕ → Expr → Bool → Bool → Stmt → Bool
 is_counted i to inclusive by_one body =
     is_bound to && (not (reads to i) && (not (writes_any (λ slot. (slot == i) || reads to slot) body)
-      && ((by_one && not inclusive) || is_small_constant to)))
+    && ((by_one && not inclusive) || is_small_constant to)))

@@ -71,9 +71,11 @@ extent_of (Known v) = extent_or_one v
 
 -- An array takes the next number, and is known from the end of its declarator on (6.2.1).
 abbrev pub new_array : Ty → List ℕ → Bool → Place → Run ℕ
-new_array ty extents coarray at = λ w. Gave (length w.names.arrays) (record w { names = record w.names {
-    arrays = w.names.arrays ++ record { ty = ty; extents = extents; coarray = coarray; at = at } ∷ []
-  } })
+new_array ty extents coarray at = λ w. Gave (length w.names.arrays) (record w {
+  names = record w.names {
+    arrays = w.names.arrays ++ record { ty = ty; extents = extents; coarray = coarray; at = at } ∷ [];
+  };
+})
 
 abbrev pub declare_array : Ty → named.Name → List Expr → Bool → Run ⊤
 declare_array ty n extents coarray = do

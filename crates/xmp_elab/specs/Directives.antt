@@ -215,9 +215,11 @@ is_indexed (Some x) = true
 -- A loop directive is kept, since its template may be distributed later in the text.
 abbrev pub use_template : Option ℕ → Place → List Bool → Run ⊤
 use_template None at indexed = pure tt
-use_template (Some k) at indexed = λ w. Gave tt (record w { mappings = record w.mappings {
-    loops = w.mappings.loops ++ record { at = at; template = k; indexed = indexed } ∷ []
-  } })
+use_template (Some k) at indexed = λ w. Gave tt (record w {
+  mappings = record w.mappings {
+    loops = w.mappings.loops ++ record { at = at; template = k; indexed = indexed } ∷ [];
+  };
+})
 
 abbrev pub made_loop : ℕ → List (Option (ℕ × ℤ)) → Nest → List made_reduction.Reduction → Place → made.Stmt
 made_loop template points nest reductions at =

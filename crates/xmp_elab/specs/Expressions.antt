@@ -79,7 +79,7 @@ abbrev pub cell_of : Option array.Array → ℕ → Place → List prog.Expr →
 cell_of None k at subscripts image notes = unknown notes N3 at
 cell_of (Some of) k at subscripts image notes =
     of_type of.ty (e.Cell (roll-Access (record { array = k; subscripts = subscripts; image = image; at = at })))
-      (noted notes ((length subscripts == length of.extents) && (of.coarray || is_none image)) N3 at)
+    (noted notes ((length subscripts == length of.extents) && (of.coarray || is_none image)) N3 at)
 
 abbrev pub cell : Environment → ℕ → Place → List prog.Expr → Option prog.Expr → Notes → Typed
 cell env k = cell_of (slice_get env.arrays k) k
@@ -100,7 +100,7 @@ abbrev pub read : Environment → named.Name → Parts → Option Typed → Type
 read env name p image =
     let meaning : Option Meaning = nearest name.text env.scopes in
     read_as env meaning name.at p.made (option_map (λ x. x.made) image)
-      (noted (image_notes image p.notes) (may_name env name meaning) N5 name.at)
+    (noted (image_notes image p.notes) (may_name env name meaning) N5 name.at)
 
 -- ---- calls
 
@@ -121,7 +121,7 @@ abbrev pub call_of : Option Signature → ℕ → Ty → Place → Parts → Typ
 call_of None k result at p = unknown p.notes N3 at
 call_of (Some f) k result at p =
     of_type result (e.Call k p.made at)
-      (called f.depth (noted (noted p.notes (length p.made == f.parameters) N3 at) (nat_lt f.depth 33) N10 at))
+    (called f.depth (noted (noted p.notes (length p.made == f.parameters) N3 at) (nat_lt f.depth 33) N10 at))
 
 abbrev pub call_as : Environment → Option Meaning → named.Name → Parts → Typed
 call_as env (Some (Function k result)) name p = call_of (slice_get env.functions k) k result name.at p

@@ -43,9 +43,11 @@ abbrev pub constants : List (Inside Expr) → Run (List ℤ)
 constants xs = each constant (inner xs)
 
 abbrev pub new_nodes : Place → Option (List ℤ) → Run ℕ
-new_nodes at sizes = λ w. Gave (length w.mappings.nodes) (record w { mappings = record w.mappings {
-    nodes = w.mappings.nodes ++ record { at = at; sizes = sizes } ∷ []
-  } })
+new_nodes at sizes = λ w. Gave (length w.mappings.nodes) (record w {
+  mappings = record w.mappings {
+    nodes = w.mappings.nodes ++ record { at = at; sizes = sizes } ∷ [];
+  };
+})
 
 abbrev pub nodes_line : Place → named.Name → Option (List ℤ) → Run ⊤
 nodes_line at n sizes = do
@@ -53,9 +55,11 @@ nodes_line at n sizes = do
   declare n (Nodes number)
 
 abbrev pub new_template : Place → List ℤ → Run ℕ
-new_template at sizes = λ w. Gave (length w.mappings.templates) (record w { mappings = record w.mappings {
-    templates = w.mappings.templates ++ record { at = at; sizes = sizes } ∷ []
-  } })
+new_template at sizes = λ w. Gave (length w.mappings.templates) (record w {
+  mappings = record w.mappings {
+    templates = w.mappings.templates ++ record { at = at; sizes = sizes } ∷ [];
+  };
+})
 
 abbrev pub template_line : Place → named.Name → List ℤ → Run ⊤
 template_line at n sizes = do
@@ -80,9 +84,11 @@ form_of (dist.Gblock at lengths) = do
 
 abbrev pub keep_distribution : Place → Option ℕ → List Form → Run ⊤
 keep_distribution at None forms = pure tt
-keep_distribution at (Some k) forms = λ w. Gave tt (record w { mappings = record w.mappings {
-    distributions = w.mappings.distributions ++ record { at = at; template = k; forms = forms } ∷ []
-  } })
+keep_distribution at (Some k) forms = λ w. Gave tt (record w {
+  mappings = record w.mappings {
+    distributions = w.mappings.distributions ++ record { at = at; template = k; forms = forms } ∷ [];
+  };
+})
 
 abbrev pub distribute_line : Place → named.Name → List (Inside DistForm) → named.Name → Run ⊤
 distribute_line at t forms onto = do
@@ -147,9 +153,11 @@ match_array None count at = pure tt
 match_array (Some k) count at = λ w. judge (count == length (extents_in (slice_get w.names.arrays k))) N3 at w
 
 abbrev pub keep_align : Place → Option ℕ → Option ℕ → List Bool → List AlignPoint → Run ⊤
-keep_align at (Some a) (Some t) dummies points = λ w. Gave tt (record w { mappings = record w.mappings {
-    aligns = w.mappings.aligns ++ record { at = at; array = a; template = t; dummies = dummies; points = points } ∷ []
-  } })
+keep_align at (Some a) (Some t) dummies points = λ w. Gave tt (record w {
+  mappings = record w.mappings {
+    aligns = w.mappings.aligns ++ record { at = at; array = a; template = t; dummies = dummies; points = points } ∷ [];
+  };
+})
 keep_align at _ _ dummies points = pure tt
 
 abbrev pub align_line : Place → named.Name → List (Inside AlignDimension) → named.Name → List (Inside Point) → Run ⊤
@@ -178,9 +186,11 @@ widths_of x = do
 
 abbrev pub keep_shadow : Place → Option ℕ → List (ℤ × ℤ) → Run ⊤
 keep_shadow at None widths = pure tt
-keep_shadow at (Some k) widths = λ w. Gave tt (record w { mappings = record w.mappings {
-    shadows = w.mappings.shadows ++ record { at = at; array = k; widths = widths } ∷ []
-  } })
+keep_shadow at (Some k) widths = λ w. Gave tt (record w {
+  mappings = record w.mappings {
+    shadows = w.mappings.shadows ++ record { at = at; array = k; widths = widths } ∷ [];
+  };
+})
 
 abbrev pub shadow_line : Place → named.Name → List (Inside (Expr × Option (Place × Expr))) → Run ⊤
 shadow_line at a widths = do

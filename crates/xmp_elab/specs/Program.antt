@@ -116,9 +116,11 @@ parameter_of x = declare_scalar x.1 (type_of x.0)
 
 -- A function takes the next number, and is known from its name on; up to its end it has the call depth 0.
 abbrev pub new_function : ℕ → Run ℕ
-new_function count = λ w. Gave (length w.names.functions) (record w { names = record w.names {
-    functions = w.names.functions ++ record { parameters = count; depth = 0 } ∷ []
-  } })
+new_function count = λ w. Gave (length w.names.functions) (record w {
+  names = record w.names {
+    functions = w.names.functions ++ record { parameters = count; depth = 0 } ∷ [];
+  };
+})
 
 abbrev pub enter : Region → Run ⊤
 enter r = λ w. Gave tt (record w { names = record w.names { region = r } })
@@ -130,12 +132,12 @@ with_depth depth (Some f) = record { parameters = f.parameters; depth = depth }
 
 abbrev pub leave : ℕ → Run ⊤
 leave k = λ w. Gave tt (record w {
-    names = record w.names {
-      region = region.File;
-      functions = slice_set w.names.functions k (with_depth (deeper w.deepest) (slice_get w.names.functions k))
-    };
-    deepest = 0
-  })
+  names = record w.names {
+    region = region.File;
+    functions = slice_set w.names.functions k (with_depth (deeper w.deepest) (slice_get w.names.functions k));
+  };
+  deepest = 0;
+})
 
 abbrev pub head_of : Region → Function → Run ℕ
 head_of r f = do
@@ -268,10 +270,15 @@ no_mappings = record { nodes = []; templates = []; distributions = []; aligns = 
 
 abbrev pub start_world : Option ℕ → Bool → World
 start_world given coarray = record {
-    given = given;
-    names = record { coarray = coarray; region = region.File; scopes = [] ∷ []; arrays = []; functions = [] };
-    scalars = []; mappings = no_mappings; deepest = 0; functions = []; start = []; broken = []
-  }
+  given = given;
+  names = record { coarray = coarray; region = region.File; scopes = [] ∷ []; arrays = []; functions = [] };
+  scalars = [];
+  mappings = no_mappings;
+  deepest = 0;
+  functions = [];
+  start = [];
+  broken = [];
+}
 
 -- The walk over a program, for a number of nodes or none: the body of main, and the world after it.
 abbrev pub program_of : Tree → Option ℕ → Step made.Stmt

@@ -174,9 +174,9 @@ is_reserved n = scope.is_same n (codes "xmp_node_num") || scope.is_same n (codes
 -- A name is declared in the innermost scope, also where that has it already.
 abbrev pub declare : named.Name → Meaning → Run ⊤
 declare n meaning = λ w. Gave tt (record w {
-    names = record w.names { scopes = scope.declare n.text meaning w.names.scopes };
-    broken = w.broken ++ unless (not (scope.is_declared_here n.text w.names.scopes || is_reserved n.text)) N2 n.at
-  })
+  names = record w.names { scopes = scope.declare n.text meaning w.names.scopes };
+  broken = w.broken ++ unless (not (scope.is_declared_here n.text w.names.scopes || is_reserved n.text)) N2 n.at;
+})
 
 -- A scalar takes the next slot, and is known from here on.
 abbrev pub new_slot : Ty → Run ℕ
@@ -191,8 +191,8 @@ declare_scalar n ty = do
 -- What a name means where it stands.
 abbrev pub meaning_of : named.Name → Run (Option Meaning)
 meaning_of n = λ w. Gave (scope.nearest n.text w.names.scopes) (record w {
-    broken = w.broken ++ unless (may_name w.names n (scope.nearest n.text w.names.scopes)) N5 n.at
-  })
+  broken = w.broken ++ unless (may_name w.names n (scope.nearest n.text w.names.scopes)) N5 n.at;
+})
 
 -- A name has to be of one kind: what is asked of its meaning, or nothing, and the name breaks a rule.
 abbrev pub of_kind : {A : Type 0} → (Meaning → Option A) → named.Name → Option Meaning → Run (Option A)
@@ -237,9 +237,9 @@ first_of_two (Some first) at = Some first
 
 abbrev pub directive_at : Place → Run ⊤
 directive_at at = λ w. Gave tt (record w {
-    mappings = record w.mappings { first_directive = first_of_two w.mappings.first_directive at };
-    broken = w.broken ++ unless (not (is_function w.names.region)) N5 at
-  })
+  mappings = record w.mappings { first_directive = first_of_two w.mappings.first_directive at };
+  broken = w.broken ++ unless (not (is_function w.names.region)) N5 at;
+})
 
 -- What stands only at file scope or directly in main's body: an array and a mapping directive.
 abbrev pub stands_outermost : Place → Run ⊤

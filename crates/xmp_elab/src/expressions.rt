@@ -281,13 +281,7 @@ impl Environment {
     }
 
     // A call of a function by its number.
-    fn call_of(
-        &self,
-        number: u32,
-        ty: Ty,
-        at: Place,
-        arguments: Parts,
-    ) -> Result<Typed, AllocError>
+    fn call_of(&self, number: u32, ty: Ty, at: Place, arguments: Parts) -> Result<Typed, AllocError>
         ensures { IfOk result (λ t. t ≡ call_of (slice_get self.now.functions number) number ty at arguments) }
     {
         let Parts {

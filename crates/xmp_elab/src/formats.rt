@@ -50,7 +50,11 @@ fn after_byte(mode: Mode, byte: u8) -> Mode
 {
     match mode {
         Mode::Outside => {
-            if byte == b'%' { Mode::Percent } else { Mode::Outside }
+            if byte == b'%' {
+                Mode::Percent
+            } else {
+                Mode::Outside
+            }
         }
         Mode::Percent => {
             if byte == b'%' {
@@ -62,10 +66,18 @@ fn after_byte(mode: Mode, byte: u8) -> Mode
             }
         }
         Mode::Width(n) => {
-            if is_digit(byte) { wider(n, byte) } else { letter(byte) }
+            if is_digit(byte) {
+                wider(n, byte)
+            } else {
+                letter(byte)
+            }
         }
         Mode::Letter => {
-            if byte == b'd' { Mode::Outside } else { Mode::Wrong }
+            if byte == b'd' {
+                Mode::Outside
+            } else {
+                Mode::Wrong
+            }
         }
         Mode::Wrong => Mode::Wrong,
     }
@@ -140,7 +152,11 @@ fn is_done(left: &[Option<Ty>]) -> bool
 }
 
 /// Whether a format is built as it should be, with conversions of the arguments' types.
-pub fn fits_format(alloc: Global, bytes: &[u8], arguments: &[Option<Ty>]) -> Result<bool, AllocError>
+pub fn fits_format(
+    alloc: Global,
+    bytes: &[u8],
+    arguments: &[Option<Ty>],
+) -> Result<bool, AllocError>
     ensures { IfOk result (λ r. r ≡ fits_format bytes.now arguments.now) }
 {
     match conversions(alloc, bytes)? {

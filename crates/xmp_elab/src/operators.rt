@@ -259,12 +259,7 @@ fn shift(
     Ok(finish(ty, value, made, notes))
 }
 
-fn both(
-    alloc: Global,
-    left: Operand,
-    right: Operand,
-    notes: Notes,
-) -> Result<Typed, AllocError>
+fn both(alloc: Global, left: Operand, right: Operand, notes: Notes) -> Result<Typed, AllocError>
     ensures { IfOk result (λ t. t
         ≡ typed (Some Ty.Int) (both_value left.value right.value) (Expr.Both left.made right.made) notes) }
 {
@@ -274,12 +269,7 @@ fn both(
     Ok(finish(Some(Ty::Int), value, Expr::Both(left, right), notes))
 }
 
-fn either(
-    alloc: Global,
-    left: Operand,
-    right: Operand,
-    notes: Notes,
-) -> Result<Typed, AllocError>
+fn either(alloc: Global, left: Operand, right: Operand, notes: Notes) -> Result<Typed, AllocError>
     ensures { IfOk result (λ t. t
         ≡ typed (Some Ty.Int) (either_value left.value right.value) (Expr.Either left.made right.made) notes) }
 {
@@ -358,12 +348,7 @@ pub(crate) fn unary(alloc: Global, mark: Mark, at: Place, x: Typed) -> Result<Ty
 }
 
 /// `test ? yes : no`
-pub(crate) fn choose(
-    alloc: Global,
-    test: Typed,
-    yes: Typed,
-    no: Typed,
-) -> Result<Typed, AllocError>
+pub(crate) fn choose(alloc: Global, test: Typed, yes: Typed, no: Typed) -> Result<Typed, AllocError>
     ensures { IfOk result (λ t. t ≡ choose test yes no) }
 {
     let Typed {

@@ -85,12 +85,7 @@ pub(crate) fn joined(first: Notes, more: Notes) -> Result<Notes, AllocError>
 }
 
 /// The notes, and that a rule breaks unless the test holds.
-pub(crate) fn noted(
-    notes: Notes,
-    test: bool,
-    rule: Rule,
-    at: Place,
-) -> Result<Notes, AllocError>
+pub(crate) fn noted(notes: Notes, test: bool, rule: Rule, at: Place) -> Result<Notes, AllocError>
     ensures { IfOk result (λ n. n ≡ noted notes test rule at) }
 {
     let Notes {

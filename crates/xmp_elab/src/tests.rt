@@ -107,12 +107,7 @@ fn conditional(alloc: Global, stack: &mut Vec<Expr>, at: Place) -> Result<Expr, 
     Ok(Expr::Conditional(test, at, yes, at, no))
 }
 
-fn part(
-    alloc: Global,
-    stack: &mut Vec<Expr>,
-    piece: Piece,
-    at: Place,
-) -> Result<Expr, AllocError> {
+fn part(alloc: Global, stack: &mut Vec<Expr>, piece: Piece, at: Place) -> Result<Expr, AllocError> {
     match piece {
         Piece::Int(v) => Ok(Expr::Number(at, v, Ty::Int)),
         Piece::Long(v) => Ok(Expr::Number(at, v, Ty::Long)),
@@ -202,29 +197,61 @@ type Constant = (&'static [Piece], Ty, Value);
 
 const CONSTANTS: [Constant; 18] = [
     (&[Piece::Int(7)], Ty::Int, Value::Known(7)),
-    (&[Piece::Long(7), Piece::Unary(Mark::Plus)], Ty::Long, Value::Known(7)),
-    (&[Piece::Int(7), Piece::Unary(Mark::Minus)], Ty::Int, Value::Known(-7)),
-    (&[Piece::Int(7), Piece::Unary(Mark::Tilde)], Ty::Int, Value::Known(-8)),
-    (&[Piece::Long(7), Piece::Unary(Mark::Bang)], Ty::Int, Value::Known(0)),
+    (
+        &[Piece::Long(7), Piece::Unary(Mark::Plus)],
+        Ty::Long,
+        Value::Known(7),
+    ),
+    (
+        &[Piece::Int(7), Piece::Unary(Mark::Minus)],
+        Ty::Int,
+        Value::Known(-7),
+    ),
+    (
+        &[Piece::Int(7), Piece::Unary(Mark::Tilde)],
+        Ty::Int,
+        Value::Known(-8),
+    ),
+    (
+        &[Piece::Long(7), Piece::Unary(Mark::Bang)],
+        Ty::Int,
+        Value::Known(0),
+    ),
     // 2147483647 + 1 wraps as an int, and doesn't beside a long
     (
-        &[Piece::Int(2147483647), Piece::Int(1), Piece::Binary(Mark::Plus)],
+        &[
+            Piece::Int(2147483647),
+            Piece::Int(1),
+            Piece::Binary(Mark::Plus),
+        ],
         Ty::Int,
         Value::Known(-2147483648),
     ),
     (
-        &[Piece::Int(2147483647), Piece::Long(1), Piece::Binary(Mark::Plus)],
+        &[
+            Piece::Int(2147483647),
+            Piece::Long(1),
+            Piece::Binary(Mark::Plus),
+        ],
         Ty::Long,
         Value::Known(2147483648),
     ),
     // a shift has the type of its left operand
     (
-        &[Piece::Int(1), Piece::Long(31), Piece::Binary(Mark::ShiftLeft)],
+        &[
+            Piece::Int(1),
+            Piece::Long(31),
+            Piece::Binary(Mark::ShiftLeft),
+        ],
         Ty::Int,
         Value::Known(-2147483648),
     ),
     (
-        &[Piece::Int(1), Piece::Int(32), Piece::Binary(Mark::ShiftLeft)],
+        &[
+            Piece::Int(1),
+            Piece::Int(32),
+            Piece::Binary(Mark::ShiftLeft),
+        ],
         Ty::Int,
         Value::Trapping,
     ),
@@ -268,19 +295,36 @@ const CONSTANTS: [Constant; 18] = [
         Ty::Int,
         Value::Named,
     ),
-    (&[Piece::Long(4294967297), Piece::Cast(Ty::Int)], Ty::Int, Value::Known(1)),
+    (
+        &[Piece::Long(4294967297), Piece::Cast(Ty::Int)],
+        Ty::Int,
+        Value::Known(1),
+    ),
     // `1 ? 2 : 3L` is long
     (
-        &[Piece::Int(1), Piece::Int(2), Piece::Long(3), Piece::Conditional],
+        &[
+            Piece::Int(1),
+            Piece::Int(2),
+            Piece::Long(3),
+            Piece::Conditional,
+        ],
         Ty::Long,
         Value::Known(2),
     ),
     (
-        &[Piece::Read(b"x"), Piece::Read(b"y"), Piece::Binary(Mark::Star)],
+        &[
+            Piece::Read(b"x"),
+            Piece::Read(b"y"),
+            Piece::Binary(Mark::Star),
+        ],
         Ty::Long,
         Value::Named,
     ),
-    (&[Piece::Int(0), Piece::Element(b"a")], Ty::Int, Value::Named),
+    (
+        &[Piece::Int(0), Piece::Element(b"a")],
+        Ty::Int,
+        Value::Named,
+    ),
 ];
 
 #[test]
@@ -302,20 +346,44 @@ type Breaking = (&'static [Piece], Region, &'static [(Rule, u32)]);
 
 const BREAKING: [Breaking; 14] = [
     (&[Piece::Read(b"z")], Region::Main, &[(Rule::N1, 1)]),
-    (&[Piece::Read(b"xmp_node_num")], Region::Main, &[(Rule::N1, 1)]),
+    (
+        &[Piece::Read(b"xmp_node_num")],
+        Region::Main,
+        &[(Rule::N1, 1)],
+    ),
     (&[Piece::Read(b"p")], Region::Main, &[(Rule::N3, 1)]),
     (&[Piece::Read(b"a")], Region::Main, &[(Rule::N3, 1)]),
-    (&[Piece::Int(0), Piece::Element(b"x")], Region::Main, &[(Rule::N3, 2)]),
-    (&[Piece::Int(0), Piece::Call(b"x")], Region::Main, &[(Rule::N3, 2)]),
+    (
+        &[Piece::Int(0), Piece::Element(b"x")],
+        Region::Main,
+        &[(Rule::N3, 2)],
+    ),
+    (
+        &[Piece::Int(0), Piece::Call(b"x")],
+        Region::Main,
+        &[(Rule::N3, 2)],
+    ),
     (&[Piece::Int(0), Piece::Call(b"f")], Region::Main, &[]),
-    (&[Piece::Int(0), Piece::Call(b"deep")], Region::Main, &[(Rule::N10, 2)]),
-    (&[Piece::Int(0), Piece::Call(b"main")], Region::Main, &[(Rule::N5, 2)]),
+    (
+        &[Piece::Int(0), Piece::Call(b"deep")],
+        Region::Main,
+        &[(Rule::N10, 2)],
+    ),
+    (
+        &[Piece::Int(0), Piece::Call(b"main")],
+        Region::Main,
+        &[(Rule::N5, 2)],
+    ),
     (&[Piece::Read(b"x")], Region::Function, &[(Rule::N5, 1)]),
     (&[Piece::Read(b"n")], Region::Function, &[]),
     (&[Piece::Int(0), Piece::Call(b"f")], Region::Function, &[]),
     // each operand is looked at, from the left
     (
-        &[Piece::Read(b"z"), Piece::Read(b"w"), Piece::Binary(Mark::Plus)],
+        &[
+            Piece::Read(b"z"),
+            Piece::Read(b"w"),
+            Piece::Binary(Mark::Plus),
+        ],
         Region::Main,
         &[(Rule::N1, 1), (Rule::N1, 2)],
     ),
