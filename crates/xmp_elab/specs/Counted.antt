@@ -1,9 +1,8 @@
 -- Counted loops on typed parts: `for (i = e1; i < e2; i++)` (this project). Scalars are slots here.
-use Rattle.std.specs.Prelude.{ℕ, suc, Bool, true, false, not, ◌==◌, ◌&&◌, ◌||◌, nat_le, if◌then◌else◌, List, ℤ, pos, negsuc, int_le, Option, Some, None}
+use Rattle.std.specs.Prelude.{ℕ, suc, Bool, true, false, not, ◌==◌, ◌&&◌, ◌||◌, nat_le, if◌then◌else◌, List, pos, Option, Some, None}
 use Rattle.std.specs.List.{list_any}
 use Rattle.xmp_num.specs.declared.types.Ty.{Ty}
 use Rattle.xmp_num.specs.declared.types.Ty.TheVariants.{Int, Long}
-use Rattle.xmp_num.specs.declared.types.BinOp.{BinOp}
 use Rattle.xmp_num.specs.declared.types.BinOp.TheVariants as op
 use Rattle.xmp_prog.specs.declared.expressions.Expr.{Expr, out-Expr}
 use Rattle.xmp_prog.specs.declared.expressions.Expr.TheOpen.{Expr-F, Access-F}
@@ -15,7 +14,7 @@ use Rattle.xmp_prog.specs.declared.statements.MoveSide.{MoveSide}
 use Rattle.xmp_prog.specs.declared.statements.MoveSide.TheVariants as side
 use Rattle.xmp_prog.specs.declared.statements.Plain.{Plain}
 use Rattle.xmp_prog.specs.declared.statements.Plain.TheVariants as plain
-use Rattle.xmp_prog.specs.declared.statements.Stmt.{Stmt, out-Stmt}
+use Rattle.xmp_prog.specs.declared.statements.Stmt.{Stmt}
 use Rattle.xmp_prog.specs.declared.statements.Stmt.TheOpen.{Stmt-F, Task-F}
 use Rattle.xmp_prog.specs.declared.statements.Stmt.TheFolds.{fold-Stmt}
 use Rattle.xmp_prog.specs.Counted.{most_counted, is_bound_operator, is_small_constant}

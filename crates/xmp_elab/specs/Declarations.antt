@@ -1,5 +1,5 @@
 -- Declarations of scalars and arrays (ISO C11 6.7; coarrays are this project's).
-use Rattle.std.specs.Prelude.{⊤, ◌++◌, ◌∷◌, [], ℕ, List, ℤ, pos, negsuc, Bool, true, false, not, ◌&&◌, ◌||◌, nat_le, if◌then◌else◌, Option, Some, None, is_some, length, map}
+use Rattle.std.specs.Prelude.{⊤, ◌++◌, ◌∷◌, [], ℕ, List, ℤ, pos, negsuc, Bool, true, false, ◌&&◌, nat_le, if◌then◌else◌, Option, Some, None, is_some, length, map}
 use Rattle.std.specs.List.{list_all}
 use Rattle.xmp_base.specs.declared.place.Place.{Place}
 use Rattle.xmp_num.specs.declared.types.Ty.{Ty}
@@ -8,10 +8,8 @@ use Rattle.xmp_prog.specs.declared.expressions.Expr as prog
 use Rattle.xmp_prog.specs.declared.statements.Stmt as made
 use Rattle.xmp_prog.specs.declared.statements.Stmt.TheVariants as s
 use Rattle.xmp_prog.specs.declared.statements.Plain.TheVariants as p
-use Rattle.xmp_prog.specs.declared.parts.Start.{Start}
 use Rattle.xmp_tree.specs.declared.parts.Name as named
 use Rattle.xmp_tree.specs.declared.parts.Inside.{Inside}
-use Rattle.xmp_tree.specs.declared.parts.Next.{Next}
 use Rattle.xmp_tree.specs.declared.parts.CommaList.{CommaList}
 use Rattle.xmp_tree.specs.declared.parts.TypeWords.{TypeWords}
 use Rattle.xmp_tree.specs.declared.parts.TypeWords.TheVariants as words
@@ -20,13 +18,10 @@ use Rattle.xmp_tree.specs.declared.declaration.Declarator.{Declarator}
 use Rattle.xmp_tree.specs.declared.declaration.Declarator.TheVariants as declarator
 use Rattle.xmp_tree.specs.declared.declaration.Declaration.{Declaration}
 use Rattle.xmp_elab.specs.declared.names.Meaning.TheVariants.{Array}
-use Rattle.xmp_elab.specs.declared.names.Array as array
-use Rattle.xmp_elab.specs.declared.rules.Rule.TheVariants.{N4, N5, N8}
-use Rattle.xmp_elab.specs.declared.typed.Operand.{Operand}
+use Rattle.xmp_elab.specs.declared.rules.Rule.TheVariants.{N8}
 use Rattle.xmp_elab.specs.declared.typed.Value.{Value}
 use Rattle.xmp_elab.specs.declared.typed.Value.TheVariants.{Named, Trapping, Known}
-use Rattle.xmp_elab.specs.declared.world.World.{World}
-use Rattle.xmp_elab.specs.Walk.{Gave, Run, ◌>>=◌, pure, each, all, judge, typed, typed_constant, constant, declare, declare_scalar, stands_outermost, not_in_function}
+use Rattle.xmp_elab.specs.Walk.{Gave, Run, ◌>>=◌, pure, each, all, judge, typed, typed_constant, declare, declare_scalar, stands_outermost, not_in_function}
 
 -- ---- lists of the grammar
 

@@ -50,10 +50,8 @@ use Rattle.xmp_tree.specs.declared.statement.ForHead.{ForHead}
 use Rattle.xmp_elab.specs.declared.names.Meaning.{Meaning}
 use Rattle.xmp_elab.specs.declared.names.Meaning.TheVariants.{Scalar, Array}
 use Rattle.xmp_elab.specs.declared.names.Array as array
-use Rattle.xmp_elab.specs.declared.mappings.Mappings.{Mappings}
 use Rattle.xmp_elab.specs.declared.mappings.NodesLine.{NodesLine}
 use Rattle.xmp_elab.specs.declared.mappings.TemplateLine.{TemplateLine}
-use Rattle.xmp_elab.specs.declared.mappings.LoopUse.{LoopUse}
 use Rattle.xmp_elab.specs.declared.rules.Rule.TheVariants.{N1, N3, M7, M8, M9}
 use Rattle.xmp_elab.specs.declared.world.World.{World}
 use Rattle.xmp_elab.specs.Expressions.{is_nothing}

@@ -1,6 +1,6 @@
 -- Formats of `printf`, read byte by byte (ISO C11 7.21.6.1, of which this project has `%%`, and `%d` and `%ld` with a width of 1 to 255 or none),
 -- and of `scanf`, which has one conversion alone.
-use Rattle.std.specs.Prelude.{◌≡◌, ◌+◌, ◌*◌, ◌-◌, ◌++◌, ◌∷◌, [], ℕ, List, Bool, true, false, ◌&&◌, ◌||◌, if◌then◌else◌, Option, Some, None, nat_eq, nat_lt, codes}
+use Rattle.std.specs.Prelude.{◌+◌, ◌*◌, ◌-◌, ◌++◌, ◌∷◌, [], ℕ, List, Bool, true, false, ◌&&◌, ◌||◌, if◌then◌else◌, Option, Some, None, nat_eq, nat_lt, codes}
 use Rattle.xmp_scopes.specs.Names.{is_same}
 use Rattle.xmp_num.specs.declared.types.Ty.{Ty}
 use Rattle.xmp_num.specs.declared.types.Ty.TheVariants.{Int, Long}

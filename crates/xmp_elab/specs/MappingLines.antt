@@ -1,11 +1,8 @@
 -- The mapping directives where they stand: their names are resolved there, and their numbers kept (XcalableMP 1.4, section 4.3).
-use Rattle.std.specs.Prelude.{⊤, ◌++◌, ◌∷◌, [], ℕ, ◌+◌, ◌==◌, List, ℤ, pos, Bool, true, false, not, ◌&&◌, ◌||◌, if◌then◌else◌, Option, Some, None, is_some, length, map, slice_get}
-use Rattle.std.specs.Option.{unwrap_or, option_map}
+use Rattle.std.specs.Prelude.{⊤, ◌++◌, ◌∷◌, [], ℕ, ◌+◌, ◌==◌, List, ℤ, pos, Bool, false, not, if◌then◌else◌, Option, Some, None, is_some, length, map, slice_get}
 use Rattle.std.specs.List.{list_any}
 use Rattle.xmp_base.specs.declared.place.Place.{Place}
-use Rattle.xmp_lex.specs.declared.token.Mark.{Mark}
 use Rattle.xmp_tree.specs.declared.parts.Name as named
-use Rattle.xmp_tree.specs.declared.parts.Placed.{Placed}
 use Rattle.xmp_tree.specs.declared.parts.Inside.{Inside}
 use Rattle.xmp_tree.specs.declared.expression.Expr.{Expr}
 use Rattle.xmp_tree.specs.declared.directive.DirectiveLine.{DirectiveLine}
@@ -24,10 +21,8 @@ use Rattle.xmp_elab.specs.declared.mappings.Form.{Form}
 use Rattle.xmp_elab.specs.declared.mappings.Form.TheVariants as form
 use Rattle.xmp_elab.specs.declared.mappings.AlignPoint.{AlignPoint}
 use Rattle.xmp_elab.specs.declared.mappings.AlignPoint.TheVariants as ap
-use Rattle.xmp_elab.specs.declared.mappings.Mappings.{Mappings}
 use Rattle.xmp_elab.specs.declared.rules.Rule.TheVariants.{N1, N2, N3}
-use Rattle.xmp_elab.specs.declared.world.World.{World}
-use Rattle.xmp_elab.specs.Walk.{Gave, Run, ◌>>=◌, pure, each, all, judge, constant, declare, meaning_of, name_of, an_array, a_nodes, a_template, directive_at, stands_outermost}
+use Rattle.xmp_elab.specs.Walk.{Gave, Run, ◌>>=◌, pure, each, judge, constant, declare, meaning_of, name_of, an_array, a_nodes, a_template, directive_at, stands_outermost}
 use Rattle.xmp_elab.specs.Declarations.{listed, inner}
 use Rattle.xmp_elab.specs.Directives.{offset_of, match_template, extents_in}
 

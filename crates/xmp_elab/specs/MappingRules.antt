@@ -1,8 +1,8 @@
 -- The rules of mappings, over the whole program: a mapping holds wherever it stands (XcalableMP 1.4, section 4.3).
-use Rattle.std.specs.Prelude.{◌++◌, ◌∷◌, [], ℕ, suc, ◌+◌, ◌-◌, ◌*◌, ◌==◌, List, ℤ, pos, negsuc, ◌+ℤ◌, int_le, int_lt, nat_lt, nat_le, Bool, true, false, not, ◌&&◌, ◌||◌, if◌then◌else◌, Option, Some, None, length, map, filter, slice_get}
+use Rattle.std.specs.Prelude.{◌++◌, ◌∷◌, [], ℕ, ◌+◌, ◌*◌, ◌==◌, List, ℤ, pos, ◌+ℤ◌, int_le, nat_lt, nat_le, Bool, true, false, not, ◌&&◌, ◌||◌, if◌then◌else◌, Option, Some, None, length, map, filter, slice_get}
 use Rattle.std.specs.Option.{unwrap_or}
 use Rattle.std.specs.Ordering.{int_eq}
-use Rattle.std.specs.List.{list_all, list_any, flat_map, count_by, enumerate_from}
+use Rattle.std.specs.List.{list_all, flat_map, count_by, enumerate_from}
 use Rattle.xmp_base.specs.declared.place.Place.{Place}
 use Rattle.xmp_map.specs.RowMajor.{product}
 use Rattle.xmp_elab.specs.declared.names.Array.{Array}
@@ -16,7 +16,6 @@ use Rattle.xmp_elab.specs.declared.mappings.Distribution.{Distribution}
 use Rattle.xmp_elab.specs.declared.mappings.Align.{Align}
 use Rattle.xmp_elab.specs.declared.mappings.Shadow.{Shadow}
 use Rattle.xmp_elab.specs.declared.mappings.LoopUse.{LoopUse}
-use Rattle.xmp_elab.specs.declared.mappings.Mappings.{Mappings}
 use Rattle.xmp_elab.specs.declared.rules.Rule.{Rule}
 use Rattle.xmp_elab.specs.declared.rules.Rule.TheVariants.{M1, M2, M3, M4, M5, M6, M7, M10}
 use Rattle.xmp_elab.specs.declared.rules.Broken.{Broken}

@@ -1,21 +1,16 @@
 -- The walk over statements, functions and the whole program.
-use Rattle.std.specs.Prelude.{⊤, ◌++◌, ◌∷◌, [], ℕ, ◌+◌, ◌==◌, List, Bool, true, false, not, ◌&&◌, ◌||◌, if◌then◌else◌, Option, Some, None, is_some, length, map, codes, slice_get, slice_set}
+use Rattle.std.specs.Prelude.{⊤, ◌++◌, ◌∷◌, [], ℕ, List, Bool, true, false, ◌&&◌, ◌||◌, Option, Some, None, is_some, length, map, codes, slice_get, slice_set}
 use Rattle.std.specs.List.{list_any}
 use Rattle.xmp_base.specs.declared.place.Place.{Place}
-use Rattle.xmp_num.specs.declared.types.Ty.{Ty}
 use Rattle.xmp_prog.specs.declared.statements.Stmt as made
 use Rattle.xmp_prog.specs.declared.statements.Stmt.TheVariants as s
 use Rattle.xmp_prog.specs.declared.parts.Function as made_function
 use Rattle.xmp_tree.specs.declared.parts.Name as named
-use Rattle.xmp_tree.specs.declared.parts.Inside.{Inside}
 use Rattle.xmp_tree.specs.declared.parts.TypeWords.{TypeWords}
 use Rattle.xmp_tree.specs.declared.parts.TypeWords.TheVariants as words
-use Rattle.xmp_tree.specs.declared.parts.CommaList.{CommaList}
-use Rattle.xmp_tree.specs.declared.expression.Expr.{Expr}
 use Rattle.xmp_tree.specs.declared.declaration.Declarator.{Declarator}
 use Rattle.xmp_tree.specs.declared.declaration.Declarator.TheVariants as declarator
 use Rattle.xmp_tree.specs.declared.declaration.Declaration.{Declaration}
-use Rattle.xmp_tree.specs.declared.directive.TaskLine.{TaskLine}
 use Rattle.xmp_tree.specs.declared.statement.Plain.{Plain}
 use Rattle.xmp_tree.specs.declared.statement.Plain.TheVariants as plain
 use Rattle.xmp_tree.specs.declared.statement.BlockItem.{BlockItem}
@@ -31,10 +26,8 @@ use Rattle.xmp_tree.specs.declared.program.Tree.{Tree}
 use Rattle.xmp_scopes.specs.Names as scope
 use Rattle.xmp_elab.specs.declared.names.Region.{Region}
 use Rattle.xmp_elab.specs.declared.names.Region.TheVariants as region
-use Rattle.xmp_elab.specs.declared.names.Meaning as meant
 use Rattle.xmp_elab.specs.declared.names.Meaning.TheVariants as meaning
 use Rattle.xmp_elab.specs.declared.names.Signature.{Signature}
-use Rattle.xmp_elab.specs.declared.names.Environment.{Environment}
 use Rattle.xmp_elab.specs.declared.mappings.Mappings.{Mappings}
 use Rattle.xmp_elab.specs.declared.rules.Rule.TheVariants.{N7}
 use Rattle.xmp_elab.specs.declared.world.World.{World}

@@ -1,9 +1,8 @@
 -- Statements: what each becomes, and what it declares and breaks.
-use Rattle.std.specs.Prelude.{⊤, ◌++◌, ◌∷◌, [], ℕ, List, ℤ, pos, Bool, true, false, not, ◌&&◌, ◌||◌, if◌then◌else◌, Option, Some, None, is_some, length, map}
-use Rattle.std.specs.Option.{option_map}
+use Rattle.std.specs.Prelude.{◌++◌, ◌∷◌, [], ℕ, List, pos, Bool, true, false, not, ◌||◌, if◌then◌else◌, Option, Some, None}
 use Rattle.xmp_base.specs.declared.place.Place.{Place}
 use Rattle.xmp_num.specs.declared.types.Ty.{Ty}
-use Rattle.xmp_num.specs.declared.types.Ty.TheVariants.{Int, Long}
+use Rattle.xmp_num.specs.declared.types.Ty.TheVariants.{Int}
 use Rattle.xmp_num.specs.declared.types.BinOp.{BinOp}
 use Rattle.xmp_num.specs.declared.types.BinOp.TheVariants as op
 use Rattle.xmp_prog.specs.declared.expressions.Expr as prog
@@ -13,8 +12,6 @@ use Rattle.xmp_prog.specs.declared.expressions.Access.{Access}
 use Rattle.xmp_prog.specs.declared.statements.Name as made_name
 use Rattle.xmp_prog.specs.declared.statements.Target.{Target}
 use Rattle.xmp_prog.specs.declared.statements.Target.TheVariants as target
-use Rattle.xmp_prog.specs.declared.statements.Compound.{Compound}
-use Rattle.xmp_prog.specs.declared.statements.LoopHead.{LoopHead}
 use Rattle.xmp_prog.specs.declared.statements.Plain as made_plain
 use Rattle.xmp_prog.specs.declared.statements.Plain.TheVariants as p
 use Rattle.xmp_prog.specs.declared.statements.Stmt as made
@@ -25,10 +22,8 @@ use Rattle.xmp_lex.specs.declared.token.Mark.{Mark}
 use Rattle.xmp_lex.specs.declared.token.Mark.TheVariants as m
 use Rattle.xmp_tree.specs.declared.parts.Name as named
 use Rattle.xmp_tree.specs.declared.parts.Format.{Format}
-use Rattle.xmp_tree.specs.declared.parts.Inside.{Inside}
 use Rattle.xmp_tree.specs.declared.parts.Next.{Next}
 use Rattle.xmp_tree.specs.declared.parts.Reference.{Reference}
-use Rattle.xmp_tree.specs.declared.parts.Call.{Call}
 use Rattle.xmp_tree.specs.declared.expression.Expr.{Expr, out-Expr}
 use Rattle.xmp_tree.specs.declared.expression.Expr.TheOpen as Expr-G
 use Rattle.xmp_tree.specs.declared.statement.Simple.{Simple}
@@ -36,17 +31,13 @@ use Rattle.xmp_tree.specs.declared.statement.Simple.TheVariants as simple
 use Rattle.xmp_tree.specs.declared.statement.ForFirst.{ForFirst}
 use Rattle.xmp_tree.specs.declared.statement.ForFirst.TheVariants as for_first
 use Rattle.xmp_tree.specs.declared.statement.ForHead.{ForHead}
-use Rattle.xmp_elab.specs.declared.names.Region.{Region}
-use Rattle.xmp_elab.specs.declared.rules.Rule.TheVariants.{N1, N3, N4, N5, N6, N7}
+use Rattle.xmp_elab.specs.declared.rules.Rule.TheVariants.{N1, N3, N4, N6, N7}
 use Rattle.xmp_elab.specs.declared.typed.Operand.{Operand}
-use Rattle.xmp_elab.specs.declared.typed.Parts.{Parts}
 use Rattle.xmp_elab.specs.declared.operators.Operator.{Operator}
-use Rattle.xmp_elab.specs.declared.operators.Operator.TheVariants.{Arithmetic, Compare, Shift, Both, Either}
-use Rattle.xmp_elab.specs.declared.world.World.{World}
-use Rattle.xmp_elab.specs.Rules.{unless}
+use Rattle.xmp_elab.specs.declared.operators.Operator.TheVariants.{Arithmetic, Shift}
 use Rattle.xmp_elab.specs.Typing.{operand, operand_of, number, joint, value_type, is_of}
 use Rattle.xmp_elab.specs.Formats.{fits_format, is_scan_format}
-use Rattle.xmp_elab.specs.Counted.{is_counted, bound_of, added_to, is_int}
+use Rattle.xmp_elab.specs.Counted.{is_counted, bound_of, added_to}
 use Rattle.xmp_elab.specs.Walk.{Gave, Run, ◌>>=◌, pure, if_there, judge, typed, typed_reference, typed_call, typed_all, first_place, is_known, region_of, is_main, open_scope, close_scope, declare_scalar, not_in_function}
 
 -- ---- assignments and calls

@@ -1,5 +1,5 @@
 -- What is made of an expression, and its type, from those of its operands (ISO C11 6.5; constant expressions 6.6).
-use Rattle.std.specs.Prelude.{ℕ, List, [], ℤ, pos, negsuc, zero, Bool, true, false, ◌||◌, if◌then◌else◌, Option, Some, None, Result, Ok, Err}
+use Rattle.std.specs.Prelude.{ℤ, pos, negsuc, zero, Bool, true, false, ◌||◌, if◌then◌else◌, Option, Some, None, Result, Ok, Err}
 use Rattle.xmp_base.specs.declared.place.Place.{Place}
 use Rattle.xmp_num.specs.declared.types.TrapKind.{TrapKind}
 use Rattle.xmp_num.specs.declared.types.Ty.{Ty}

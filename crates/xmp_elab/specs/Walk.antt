@@ -1,8 +1,8 @@
 -- The walk over a program: each part of it is a step from what was known before it to what is known after it. No rule ends the walk.
-use Rattle.std.specs.Prelude.{◌≡◌, ⊤, ◌++◌, ◌∷◌, [], ℕ, ◌+◌, ◌==◌, List, ℤ, pos, Bool, true, false, not, ◌&&◌, ◌||◌, if◌then◌else◌, Option, Some, None, is_some, length, map, codes, nat_lt, nat_le, Result, Ok, Err, drop}
+use Rattle.std.specs.Prelude.{◌≡◌, ⊤, ◌++◌, ◌∷◌, [], ℕ, ◌==◌, List, ℤ, pos, Bool, true, false, not, ◌&&◌, ◌||◌, Option, Some, None, is_some, length, map, codes, nat_lt, Result, Ok, Err, drop}
 use Rattle.xmp_base.specs.declared.place.Place.{Place}
 use Rattle.xmp_num.specs.declared.types.Ty.{Ty}
-use Rattle.xmp_num.specs.declared.types.Ty.TheVariants.{Int, Long}
+use Rattle.xmp_num.specs.declared.types.Ty.TheVariants.{Int}
 use Rattle.xmp_tree.specs.declared.parts.Name as named
 use Rattle.xmp_tree.specs.declared.parts.Call.{Call}
 use Rattle.xmp_tree.specs.declared.parts.Next.{Next}
@@ -14,11 +14,9 @@ use Rattle.xmp_elab.specs.declared.names.Region.{Region}
 use Rattle.xmp_elab.specs.declared.names.Region.TheVariants as region
 use Rattle.xmp_elab.specs.declared.names.Meaning.{Meaning}
 use Rattle.xmp_elab.specs.declared.names.Meaning.TheVariants.{Scalar, Array, Nodes, Template}
-use Rattle.xmp_elab.specs.declared.names.Environment.{Environment}
 use Rattle.xmp_elab.specs.declared.rules.Rule.{Rule}
 use Rattle.xmp_elab.specs.declared.rules.Rule.TheVariants.{N1, N2, N3, N4, N5, N8}
 use Rattle.xmp_elab.specs.declared.rules.Notes.{Notes}
-use Rattle.xmp_elab.specs.declared.mappings.Mappings.{Mappings}
 use Rattle.xmp_elab.specs.declared.typed.Value.{Value}
 use Rattle.xmp_elab.specs.declared.typed.Value.TheVariants.{Named, Trapping, Known}
 use Rattle.xmp_elab.specs.declared.typed.Typed.{Typed}
@@ -27,7 +25,7 @@ use Rattle.xmp_elab.specs.declared.typed.Parts.{Parts}
 use Rattle.xmp_elab.specs.declared.world.World.{World}
 use Rattle.xmp_elab.specs.Rules.{unless, greater, no_notes}
 use Rattle.xmp_elab.specs.Typing.{operand_of}
-use Rattle.xmp_elab.specs.Expressions.{expr_of, reference_of, call, arguments_of, each_next, next_of, no_parts, is_function, is_first, may_name}
+use Rattle.xmp_elab.specs.Expressions.{expr_of, reference_of, call, arguments_of, each_next, next_of, no_parts, is_function, may_name}
 
 -- ---- steps
 
