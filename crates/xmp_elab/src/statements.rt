@@ -1,7 +1,9 @@
 // Statements with no statement inside.
 ghost use Rattle.std.specs.Prelude.{◌≡◌, IfOk, map};
+ghost use Rattle.xmp_prog.specs.declared.statements.Stmt.TheVariants as stmt;
+ghost use Rattle.xmp_prog.specs.declared.statements.Plain.TheVariants as plain;
 ghost use Rattle.xmp_elab.specs.Walk.{Does, finished_all, typed_all};
-ghost use Rattle.xmp_elab.specs.Statements.{call_statement, compound_of, is_scalar_target, one, print_of, return_of, scan_of, set, simple_of, sync_of, target_name, target_of};
+ghost use Rattle.xmp_elab.specs.Statements.{call_statement, compound_of, is_scalar_target, one, print_of, return_of, returned, scan_of, set, simple_of, sync_of, target_name, target_of};
 
 use crate::constants::first_place;
 use crate::formats::{fits_format, is_scan_format};
@@ -50,7 +52,7 @@ fn compound_of(mark: Mark) -> Option<Operator>
 }
 
 fn assigned(target: prog::Expr, compound: Option<prog::Compound>, value: prog::Expr) -> prog::Stmt
-    ensures { result ≡ Stmt.Plain (Plain.Set (target_of target) compound value) }
+    ensures { result ≡ stmt.Plain (plain.Set (target_of target) compound value) }
 {
     prog::Stmt::Plain(prog::Plain::Set {
         target: target_of(target),
@@ -182,9 +184,18 @@ impl World {
     {
         let main = is_main(self.names.region);
         self.judge(!main || is_last, Rule::N7, at)?;
-        let Operand { made, value, .. } = self.typed(alloc, x)?;
-        self.judge(!main || is_known(value), Rule::N4, first_place(x))?;
+        let Operand { made, .. } = self.returned(alloc, x)?;
         Ok(prog::Stmt::Plain(prog::Plain::Return(made)))
+    }
+
+    // The value of a `return`.
+    fn returned(&mut self, alloc: Global, x: &Expr) -> Result<Operand, AllocError>
+        ensures { Does (returned x.now self.old) result self.new }
+    {
+        let main = is_main(self.names.region);
+        let typed = self.typed(alloc, x)?;
+        self.judge(!main || is_known(typed.value), Rule::N4, first_place(x))?;
+        Ok(typed)
     }
 
     // The arguments of a `printf`.
