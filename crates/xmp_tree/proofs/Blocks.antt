@@ -112,7 +112,7 @@ simple_inner (si.Postfix x op) F r = (refl, refl)
 simple_inner (si.Prefix op x) F r = (refl, ap not (step_statement op.what F.0).3)
 simple_inner (si.Call x) F r = (refl, refl)
 
-plain_inner : (x : Plain) → FitsPlain x → (r : List Token) → Inner (spell_plain x r)
+pub plain_inner : (x : Plain) → FitsPlain x → (r : List Token) → Inner (spell_plain x r)
 plain_inner (pl.Simple x z) F r = simple_inner x F (t.Mark m.Semicolon at z ∷ r)
 plain_inner (pl.Empty z) F r = (refl, refl)
 plain_inner (pl.Return q e z) F r = (refl, refl)
@@ -124,7 +124,7 @@ plain_inner (pl.Barrier l) F r = (refl, refl)
 plain_inner (pl.Bcast l ns q x) F r = (refl, refl)
 plain_inner (pl.Gmove l a q x z) F r = (refl, refl)
 
-stmt_inner : (s : Stmt) → FitsStmt s → (r : List Token) → Inner (spell_stmt s r)
+pub stmt_inner : (s : Stmt) → FitsStmt s → (r : List Token) → Inner (spell_stmt s r)
 stmt_inner (tr.plain x) F r = plain_inner x F r
 stmt_inner (tr.block o xs c) F r = (refl, refl)
 stmt_inner (tr.if_then q e s) F r = (refl, refl)
@@ -135,7 +135,7 @@ stmt_inner (tr.loop l h s) F r = (refl, refl)
 stmt_inner (tr.task l s) F r = (refl, refl)
 stmt_inner (tr.tasks l o xs c) F r = (refl, refl)
 
-mapping_inner : (x : Mapping) (r : List Token) → Inner (spell_mapping x r)
+pub mapping_inner : (x : Mapping) (r : List Token) → Inner (spell_mapping x r)
 mapping_inner (mp.Nodes l v ds) r = (refl, refl)
 mapping_inner (mp.NodesStar l v x) r = (refl, refl)
 mapping_inner (mp.Template l v ds) r = (refl, refl)
@@ -148,7 +148,7 @@ type_inner (tw.Int q) r = (refl, refl)
 type_inner (tw.Long q) r = (refl, refl)
 type_inner (tw.LongInt q z) r = (refl, refl)
 
-declaration_inner : (x : Declaration) (r : List Token) → Inner (spell_declaration x r)
+pub declaration_inner : (x : Declaration) (r : List Token) → Inner (spell_declaration x r)
 declaration_inner x r = type_inner x.ty _
 
 -- a declaration among the items of a block
@@ -165,7 +165,7 @@ abbrev pub Quiet : Bool → List Token → Type 0
 Quiet b [] = ⊥
 Quiet b (x ∷ us) = b && is_word w.Else x.kind ≡ false
 
-quiet_some : (b : Bool) (us : List Token) → Quiet b us → NonEmpty us
+pub quiet_some : (b : Bool) (us : List Token) → Quiet b us → NonEmpty us
 quiet_some b [] h = h
 quiet_some b (x ∷ us) h = tt
 
@@ -173,11 +173,11 @@ and_false : (b c : Bool) → c ≡ false → b && c ≡ false
 and_false true c h = h
 and_false false c h = refl
 
-no_else_quiet : (b : Bool) (us : List Token) → Not (is_word w.Else) us → Quiet b us
+pub no_else_quiet : (b : Bool) (us : List Token) → Not (is_word w.Else) us → Quiet b us
 no_else_quiet b [] h = h
 no_else_quiet b (x ∷ us) h = and_false b (is_word w.Else x.kind) h
 
-quiet_no_else : (us : List Token) → Quiet true us → Not (is_word w.Else) us
+pub quiet_no_else : (us : List Token) → Quiet true us → Not (is_word w.Else) us
 quiet_no_else [] h = h
 quiet_no_else (x ∷ us) h = h
 

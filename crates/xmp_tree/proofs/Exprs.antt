@@ -188,7 +188,7 @@ ref_first no_more no_image us h = h
 ref_first no_more (image q o e c) us h = refl
 ref_first (subscript o e c ds) i us h = refl
 
-image_first : (i : Image) (us : List Token) → Not (is_mark m.OpenBracket) us → Not (is_mark m.OpenBracket) (spell_image i us)
+pub image_first : (i : Image) (us : List Token) → Not (is_mark m.OpenBracket) us → Not (is_mark m.OpenBracket) (spell_image i us)
 image_first no_image us h = h
 image_first (image q o e c) us h = refl
 
@@ -249,7 +249,7 @@ conditional_reads x q y r z h F X Y Z = record {
   question_free c us = colon_free c (t.Mark m.Question) _ refl
 
 -- what stands between the brackets of an expression that fits ends it
-links_low : (ls : Links) → links_level ls ≤ 10
+pub links_low : (ls : Links) → links_level ls ≤ 10
 links_low last = omega arith
 links_low (link op q e ls) = binds_low op
 

@@ -7,3 +7,10 @@ pub mod Statements
 pub mod Blocks
 pub mod Programs
 pub mod Shorter
+pub mod OneExpr
+pub mod OneLine
+pub mod OneDirective
+pub mod OneStmt
+pub mod OnePlain
+pub mod OneBlock
+pub mod OneProgram

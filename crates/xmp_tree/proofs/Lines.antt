@@ -61,11 +61,11 @@ type_reads (tw.LongInt q r) K us h n = fast 6 (λ E. go n)
 abbrev pub EndsDeclarator : List Token → Type 0
 EndsDeclarator us = EndsPlain us × Not (is_mark m.Assign) us
 
-no_bracket : (us : List Token) → EndsPlain us → Not (is_mark m.OpenBracket) us
+pub no_bracket : (us : List Token) → EndsPlain us → Not (is_mark m.OpenBracket) us
 no_bracket [] e = e.0
 no_bracket (x ∷ us) e = e.0.1
 
-no_colon : (us : List Token) → EndsPlain us → Not (is_mark m.Colon) us
+pub no_colon : (us : List Token) → EndsPlain us → Not (is_mark m.Colon) us
 no_colon [] e = e.0
 no_colon (x ∷ us) e = e.0.3
 

@@ -45,7 +45,7 @@ use Rattle.xmp_tree.proofs.Lists.{NonEmpty, leave_reads, names_read, dims_read}
 use Rattle.xmp_tree.proofs.Lines.{expr_reads, EndsPlain, declaration_reads, mapping_item_reads, set_reads, sections_read, point_reads, reductions_read}
 
 -- an assignment or a step goes on with no reference
-assign_ends : (op : Mark) → is_assign_mark op ≡ true → (mark_code m.OpenParen == mark_code op ≡ false) × (mark_code m.OpenBracket == mark_code op ≡ false) × (nat_le 1 (mark_binds op) && nat_le (mark_binds op) 0 ≡ false) × (mark_code m.Colon == mark_code op ≡ false) × (is_step_mark op ≡ false)
+pub assign_ends : (op : Mark) → is_assign_mark op ≡ true → (mark_code m.OpenParen == mark_code op ≡ false) × (mark_code m.OpenBracket == mark_code op ≡ false) × (nat_le 1 (mark_binds op) && nat_le (mark_binds op) 0 ≡ false) × (mark_code m.Colon == mark_code op ≡ false) × (is_step_mark op ≡ false)
 assign_ends m.OpenParen h = cc
 assign_ends m.OpenBracket h = cc
 assign_ends m.Colon h = cc
@@ -53,7 +53,7 @@ assign_ends m.Increment h = cc
 assign_ends m.Decrement h = cc
 assign_ends _ h = (refl, refl, refl, refl, refl)
 
-step_ends : (op : Mark) → is_step_mark op ≡ true → (mark_code m.OpenParen == mark_code op ≡ false) × (mark_code m.OpenBracket == mark_code op ≡ false) × (nat_le 1 (mark_binds op) && nat_le (mark_binds op) 0 ≡ false) × (mark_code m.Colon == mark_code op ≡ false)
+pub step_ends : (op : Mark) → is_step_mark op ≡ true → (mark_code m.OpenParen == mark_code op ≡ false) × (mark_code m.OpenBracket == mark_code op ≡ false) × (nat_le 1 (mark_binds op) && nat_le (mark_binds op) 0 ≡ false) × (mark_code m.Colon == mark_code op ≡ false)
 step_ends m.OpenParen h = cc
 step_ends m.OpenBracket h = cc
 step_ends m.Colon h = cc
@@ -67,7 +67,7 @@ step_statement _ h = cc
 low_level : (b : ℕ) → nat_le 1 b && nat_le b 10 ≡ false → nat_le 1 b && nat_le b 0 ≡ false
 low_level b h = grind (arith, nat_tests)
 
-ends_plain : (us : List Token) → EndsPlain us → Ends 0 false us
+pub ends_plain : (us : List Token) → EndsPlain us → Ends 0 false us
 ends_plain [] e = e.0
 ends_plain (x ∷ us) e = (e.0.0, e.0.1, low_level (g.binds x.kind) e.0.2, e.0.3)
 
@@ -84,7 +84,7 @@ behind_name_before x F r K us e n =
 pub reference_reads : (x : Reference made.Expr) → FitsRef (ref_view x) → (K : List Rule) (us : List Token) → Ends 0 false us → Next K us → Next (part (p.reference false) ∷ K) (spell_ref (ref_view x) us)
 reference_reads x F K us e n = fast 3 (λ E. go (silent 1 (λ E x xs. refl) (behind_name x F K us e n)))
 
-no_call : (x : Reference made.Expr) (us : List Token) → Ends 0 false us → Not (is_mark m.OpenParen) (spell_subscripts (subscripts_view x.subscripts) (spell_image (image_view x.image) us))
+pub no_call : (x : Reference made.Expr) (us : List Token) → Ends 0 false us → Not (is_mark m.OpenParen) (spell_subscripts (subscripts_view x.subscripts) (spell_image (image_view x.image) us))
 no_call x us e = ref_first (subscripts_view x.subscripts) (image_view x.image) us (ends_paren 0 false us e)
 
 pub simple_reads : (x : Simple) → FitsSimple x → (K : List Rule) (us : List Token) → EndsPlain us → Next K us → Next (part p.simple ∷ K) (spell_simple x us)

@@ -8,3 +8,4 @@ pub mod Fits
 pub mod Refused
 pub mod Steps
 pub mod Seen
+pub mod Shape

@@ -2,6 +2,9 @@
 ghost use Rattle.std.specs.Prelude.{◌≡◌, ◌++◌, ℕ, List};
 ghost use Rattle.xmp_lex.specs.declared.token.Token.{Token};
 ghost use Rattle.xmp_tree.specs.declared.program.Tree.{Tree};
+ghost use Rattle.xmp_tree.specs.Fits.{FitsTree};
+ghost use Rattle.xmp_tree.specs.Shape.{tree_shape};
+ghost use Rattle.xmp_tree.specs.Spell.{spelling};
 ghost use Rattle.xmp_tree.specs.Refused.{Begins, IsProgram, Stuck, TooDeep, start, program_rules};
 
 /// No tokens are both a program and refused.
@@ -18,4 +21,9 @@ pub fn shorter_begins()
 /// There is one token at most from which on tokens begin no program: the least.
 pub fn one_stuck_token()
     ensures { (ts : List Token) (left other : ℕ) → Stuck start program_rules ts left → Stuck start program_rules ts other → left ≡ other }
+{}
+
+/// Two trees that fit and have one spelling are equal, places apart.
+pub fn one_tree()
+    ensures { (x y : Tree) → FitsTree x → FitsTree y → spelling x ≡ spelling y → tree_shape x ≡ tree_shape y }
 {}

@@ -1,11 +1,12 @@
 // The tokens of statements.
 ghost use Rattle.std.specs.Prelude.{◌≡◌, OnOk, codes};
+ghost use Rattle.xmp_tree.specs.declared.statement.Plain.TheVariants.{Bcast, Gmove, Print, Reflect, Scan, Sync};
 ghost use Rattle.xmp_tree.specs.View.{call_view, items_view, rest_view, stmt_view, tasks_view};
 ghost use Rattle.xmp_tree.specs.Spell.{directive_line, expr, for_first, for_head, format, in_parens, optional, spell, spell_items, spell_plain, spell_rest, spell_simple, spell_stmt, spell_tasks};
 
-use crate::directive::{DirectiveLine, TaskLine};
+use crate::directive::{DirectiveLine, Sections, TaskLine};
 use crate::expression::Expr;
-use crate::parts::{Call, Format, Inside, Next};
+use crate::parts::{Call, CommaList, Format, Inside, Name, Next, Reference};
 use crate::rest::Rest;
 use crate::spelling::{put_arguments, put_expr, put_name, put_reference};
 use crate::spelling_lines::{
@@ -13,7 +14,7 @@ use crate::spelling_lines::{
     put_start, put_task_line,
 };
 use crate::statement::{BlockItem, ForFirst, ForHead, Plain, Simple, Stmt};
-use sqlite_items::Boxed;
+use sqlite_items::{Boxed, Items};
 use std::alloc::Global;
 use xmp_base::{NoMemory, Place};
 use xmp_lex::{Mark, Reserved};
@@ -121,6 +122,107 @@ fn put_print_list(
     rest.put_text(alloc, text.text.as_slice(), text.at)
 }
 
+fn put_print(
+    rest: &mut Rest,
+    alloc: Global,
+    place: Place,
+    list: &Inside<(Format, Items<Next<Expr>>)>,
+    end: Place,
+) -> Result<(), NoMemory>
+    ensures { OnOk result (rest.new ≡ spell_plain (Print place list.now end) rest.old) }
+{
+    rest.put_sign(Mark::Semicolon, end)?;
+    rest.put_sign(Mark::CloseParen, list.close)?;
+    put_print_list(rest, alloc, &list.item.0, list.item.1.as_slice())?;
+    rest.put_sign(Mark::OpenParen, list.open)?;
+    rest.put_word(Reserved::Printf, place)
+}
+
+fn put_scan(
+    rest: &mut Rest,
+    alloc: Global,
+    place: Place,
+    list: &Inside<(Format, Place, Place, Reference<Boxed<Expr>>)>,
+    end: Place,
+) -> Result<(), NoMemory>
+    ensures { OnOk result (rest.new ≡ spell_plain (Scan place list.now end) rest.old) }
+{
+    rest.put_sign(Mark::Semicolon, end)?;
+    rest.put_sign(Mark::CloseParen, list.close)?;
+    put_reference(rest, alloc, &list.item.3)?;
+    rest.put_sign(Mark::And, list.item.2)?;
+    rest.put_sign(Mark::Comma, list.item.1)?;
+    rest.put_text(alloc, list.item.0.text.as_slice(), list.item.0.at)?;
+    rest.put_sign(Mark::OpenParen, list.open)?;
+    rest.put_word(Reserved::Scanf, place)
+}
+
+fn put_sync(
+    rest: &mut Rest,
+    alloc: Global,
+    place: Place,
+    list: &Inside<(Place, Reference<Boxed<Expr>>)>,
+    end: Place,
+) -> Result<(), NoMemory>
+    ensures { OnOk result (rest.new ≡ spell_plain (Sync place list.now end) rest.old) }
+{
+    rest.put_sign(Mark::Semicolon, end)?;
+    rest.put_sign(Mark::CloseParen, list.close)?;
+    put_reference(rest, alloc, &list.item.1)?;
+    rest.put_sign(Mark::And, list.item.0)?;
+    rest.put_sign(Mark::OpenParen, list.open)?;
+    rest.put_word(Reserved::SyncAll, place)
+}
+
+fn put_reflect(
+    rest: &mut Rest,
+    alloc: Global,
+    line: DirectiveLine,
+    names: &Inside<CommaList<Name>>,
+) -> Result<(), NoMemory>
+    ensures { OnOk result (rest.new ≡ spell_plain (Reflect line names.now) rest.old) }
+{
+    put_end(rest, line)?;
+    put_names_inside(rest, alloc, names)?;
+    put_start(rest, alloc, b"reflect", line)
+}
+
+fn put_bcast(
+    rest: &mut Rest,
+    alloc: Global,
+    line: DirectiveLine,
+    names: &Inside<CommaList<Name>>,
+    from: Place,
+    set: &Sections,
+) -> Result<(), NoMemory>
+    ensures { OnOk result (rest.new ≡ spell_plain (Bcast line names.now from set.now) rest.old) }
+{
+    put_end(rest, line)?;
+    put_sections(rest, alloc, set)?;
+    rest.put_spelled(alloc, b"from", from)?;
+    put_names_inside(rest, alloc, names)?;
+    put_start(rest, alloc, b"bcast", line)
+}
+
+fn put_gmove(
+    rest: &mut Rest,
+    alloc: Global,
+    line: DirectiveLine,
+    target: &Sections,
+    place: Place,
+    source: &Sections,
+    end: Place,
+) -> Result<(), NoMemory>
+    ensures { OnOk result (rest.new ≡ spell_plain (Gmove line target.now place source.now end) rest.old) }
+{
+    rest.put_sign(Mark::Semicolon, end)?;
+    put_sections(rest, alloc, source)?;
+    rest.put_sign(Mark::Assign, place)?;
+    put_sections(rest, alloc, target)?;
+    put_end(rest, line)?;
+    put_start(rest, alloc, b"gmove", line)
+}
+
 fn put_plain(rest: &mut Rest, alloc: Global, x: &Plain) -> Result<(), NoMemory>
     ensures { OnOk result (rest.new ≡ spell_plain x.now rest.old) }
 {
@@ -135,54 +237,17 @@ fn put_plain(rest: &mut Rest, alloc: Global, x: &Plain) -> Result<(), NoMemory>
             put_expr(rest, alloc, number)?;
             rest.put_word(Reserved::Return, *place)
         }
-        Plain::Print(place, list, end) => {
-            rest.put_sign(Mark::Semicolon, *end)?;
-            rest.put_sign(Mark::CloseParen, list.close)?;
-            put_print_list(rest, alloc, &list.item.0, list.item.1.as_slice())?;
-            rest.put_sign(Mark::OpenParen, list.open)?;
-            rest.put_word(Reserved::Printf, *place)
-        }
-        Plain::Scan(place, list, end) => {
-            rest.put_sign(Mark::Semicolon, *end)?;
-            rest.put_sign(Mark::CloseParen, list.close)?;
-            put_reference(rest, alloc, &list.item.3)?;
-            rest.put_sign(Mark::And, list.item.2)?;
-            rest.put_sign(Mark::Comma, list.item.1)?;
-            rest.put_text(alloc, list.item.0.text.as_slice(), list.item.0.at)?;
-            rest.put_sign(Mark::OpenParen, list.open)?;
-            rest.put_word(Reserved::Scanf, *place)
-        }
-        Plain::Sync(place, list, end) => {
-            rest.put_sign(Mark::Semicolon, *end)?;
-            rest.put_sign(Mark::CloseParen, list.close)?;
-            put_reference(rest, alloc, &list.item.1)?;
-            rest.put_sign(Mark::And, list.item.0)?;
-            rest.put_sign(Mark::OpenParen, list.open)?;
-            rest.put_word(Reserved::SyncAll, *place)
-        }
-        Plain::Reflect(line, names) => {
-            put_end(rest, *line)?;
-            put_names_inside(rest, alloc, names)?;
-            put_start(rest, alloc, b"reflect", *line)
-        }
+        Plain::Print(place, list, end) => put_print(rest, alloc, *place, list, *end),
+        Plain::Scan(place, list, end) => put_scan(rest, alloc, *place, list, *end),
+        Plain::Sync(place, list, end) => put_sync(rest, alloc, *place, list, *end),
+        Plain::Reflect(line, names) => put_reflect(rest, alloc, *line, names),
         Plain::Barrier(line) => {
             put_end(rest, *line)?;
             put_start(rest, alloc, b"barrier", *line)
         }
-        Plain::Bcast(line, names, from, set) => {
-            put_end(rest, *line)?;
-            put_sections(rest, alloc, set)?;
-            rest.put_spelled(alloc, b"from", *from)?;
-            put_names_inside(rest, alloc, names)?;
-            put_start(rest, alloc, b"bcast", *line)
-        }
+        Plain::Bcast(line, names, from, set) => put_bcast(rest, alloc, *line, names, *from, set),
         Plain::Gmove(line, target, place, source, end) => {
-            rest.put_sign(Mark::Semicolon, *end)?;
-            put_sections(rest, alloc, source)?;
-            rest.put_sign(Mark::Assign, *place)?;
-            put_sections(rest, alloc, target)?;
-            put_end(rest, *line)?;
-            put_start(rest, alloc, b"gmove", *line)
+            put_gmove(rest, alloc, *line, target, *place, source, *end)
         }
     }
 }
@@ -218,10 +283,10 @@ pub fn put_stmt(rest: &mut Rest, alloc: Global, x: &Stmt) -> Result<(), NoMemory
             put_condition(rest, alloc, condition)?;
             rest.put_word(Reserved::If, *place)
         }
-        Stmt::If(place, condition, body, Some((word, other))) => {
-            put_stmt(rest, alloc, other.get())?;
+        Stmt::If(place, condition, yes, Some((word, no))) => {
+            put_stmt(rest, alloc, no.get())?;
             rest.put_word(Reserved::Else, *word)?;
-            put_stmt(rest, alloc, body.get())?;
+            put_stmt(rest, alloc, yes.get())?;
             put_condition(rest, alloc, condition)?;
             rest.put_word(Reserved::If, *place)
         }
