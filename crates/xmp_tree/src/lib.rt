@@ -1,10 +1,14 @@
 //! The syntax tree of a program, its spelling and its grammar.
 #![tactic(auto)]
 
+#[cfg(test)]
+mod builders;
 mod declaration;
 mod directive;
 mod expression;
 mod laws;
+#[cfg(test)]
+mod makers;
 mod parts;
 mod program;
 mod rest;
