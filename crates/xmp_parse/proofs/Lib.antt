@@ -1,0 +1,10 @@
+pub mod Taking
+pub mod Held
+pub mod Opening
+pub mod Whole
+pub mod Views
+pub mod Levels
+pub mod Longer
+pub mod Listing
+pub mod Dispatch
+pub mod MaxOrMin

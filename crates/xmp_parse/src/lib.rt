@@ -1,0 +1,29 @@
+//! The parser: from the tokens of a text to its tree, or to the first token that no program has there. As yet it reads
+//! expressions, declarations, the lines of mappings, and the lines of directives that hold no statement.
+//!
+//! Each function reads one part of the grammar at the front of the tokens that are left: `goes` says that every reading
+//! of a program that comes to it goes on behind the part, or that the first bad token is the one that it answers.
+#![tactic(auto)]
+
+mod declarations;
+mod depth;
+mod effect;
+mod expressions;
+mod joined;
+mod kinds;
+mod lines;
+mod mappings;
+mod marks;
+mod parts;
+mod reader;
+mod refusals;
+#[cfg(test)]
+mod tests;
+mod words;
+
+pub use declarations::declaration;
+pub use depth::Depth;
+pub use expressions::{expression, level};
+pub use mappings::mapping;
+pub use reader::{Parsed, Reader, Stop};
+pub use refusals::refusal;
