@@ -8,3 +8,6 @@ pub mod Longer
 pub mod Listing
 pub mod Dispatch
 pub mod MaxOrMin
+pub mod ItemsRead
+pub mod PartsRead
+pub mod FirstBreak

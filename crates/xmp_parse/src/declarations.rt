@@ -8,6 +8,7 @@ ghost use Rattle.xmp_tree.specs.Grammar as g;
 ghost use Rattle.xmp_tree.specs.Spell as sp;
 ghost use Rattle.xmp_tree.specs.Fits as f;
 ghost use Rattle.xmp_parse.specs.Going.{Parses, ParsesAll};
+ghost use Rattle.xmp_parse.specs.Programs.{Declares};
 
 use crate::effect::Effect;
 use crate::expressions::expression;
@@ -105,6 +106,7 @@ pub fn declaration_rest(
     name: Name,
     r: Reader<'_>,
 ) -> Parsed<'_, Declaration>
+    ensures before { Declares r.entry result }
     ensures goes { ParsesAll (part p.declarator_rest ∷ many (g.is_mark m.Comma) (g.comma · part p.declarator) ∷ g.semicolon ∷ []) r.entry result }
     ensures reads { IfOk result (λ x. sp.type_words ty (sp.name name r.entry.tokens.now) ≡ sp.spell_declaration x.0 x.1.tokens.now) }
     ensures fits { IfOk result (λ x. f.FitsDeclaration x.0) }

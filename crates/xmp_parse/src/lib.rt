@@ -5,16 +5,19 @@
 //! of a program that comes to it goes on behind the part, or that the first bad token is the one that it answers.
 #![tactic(auto)]
 
+mod blocks;
 mod declarations;
 mod depth;
 mod effect;
 mod expressions;
+mod functions;
 mod joined;
 mod kinds;
 mod lines;
 mod mappings;
 mod marks;
 mod parts;
+mod programs;
 mod reader;
 mod refusals;
 #[cfg(test)]
@@ -25,5 +28,6 @@ pub use declarations::declaration;
 pub use depth::Depth;
 pub use expressions::{expression, level};
 pub use mappings::mapping;
+pub use programs::parse;
 pub use reader::{Parsed, Reader, Stop};
 pub use refusals::refusal;

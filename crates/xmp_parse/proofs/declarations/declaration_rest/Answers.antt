@@ -21,3 +21,21 @@ returns-in_err-end-clause-goes c = λ s L K w.
 
 pub returns-clause-goes : goal.returns-clause-goes
 returns-clause-goes c = λ s L K w. c.in_ok-end.ensures.goes s _ _ ((c.in_ok-more.ensures.goes s _ _ ((c.in_ok-first.ensures.goes s _ _ (w)))))
+
+pub returns-in_err-first-clause-before : goal.returns-in_err-first-clause-before
+returns-in_err-first-clause-before c = λ s L N K w.
+    let p = err_from_is_err_and c.from_residual.result c.from_residual.ensures.1 in
+    rw (p.1, p.2) (c.in_err-first.ensures.goes s _ _ (split w))
+
+pub returns-in_err-more-clause-before : goal.returns-in_err-more-clause-before
+returns-in_err-more-clause-before c = λ s L N K w.
+    let p = err_from_is_err_and c.from_residual-in_err-more.result c.from_residual-in_err-more.ensures.1 in
+    rw (p.1, p.2) (c.in_err-more.ensures.goes s _ _ (split (c.in_ok-first.ensures.goes s _ _ (split w))))
+
+pub returns-in_err-end-clause-before : goal.returns-in_err-end-clause-before
+returns-in_err-end-clause-before c = λ s L N K w.
+    let p = err_from_is_err_and c.from_residual-in_err-end.result c.from_residual-in_err-end.ensures.1 in
+    rw (p.1, p.2) (c.in_err-end.ensures.goes s _ _ (split (c.in_ok-more.ensures.goes s _ _ (split (c.in_ok-first.ensures.goes s _ _ (split w))))))
+
+pub returns-clause-before : goal.returns-clause-before
+returns-clause-before c = λ s L N K w. c.in_ok-end.ensures.goes s _ _ (split (c.in_ok-more.ensures.goes s _ _ (split (c.in_ok-first.ensures.goes s _ _ (split w)))))
