@@ -8,3 +8,4 @@ pub mod Longer
 pub mod Listing
 pub mod Dispatch
 pub mod MaxOrMin
+pub mod Statements

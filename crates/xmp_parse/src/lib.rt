@@ -5,16 +5,21 @@
 //! of a program that comes to it goes on behind the part, or that the first bad token is the one that it answers.
 #![tactic(auto)]
 
+mod changes;
 mod declarations;
 mod depth;
 mod effect;
 mod expressions;
+mod for_heads;
+mod heads;
 mod joined;
 mod kinds;
 mod lines;
 mod mappings;
 mod marks;
+mod parameter_lists;
 mod parts;
+mod plain_statements;
 mod reader;
 mod refusals;
 #[cfg(test)]
