@@ -11,7 +11,7 @@ use Rattle.xmp_tree.specs.Spell.{each, spell_mapping, spell_declaration, spell_s
 use Rattle.xmp_tree.specs.Fits.{Each, FitsItems}
 use Rattle.xmp_parse.specs.Going.{Comes}
 use Rattle.xmp_parse.specs.Kinds.{next_is}
-use Rattle.xmp_parse.specs.Programs.{spell_item, FitsItem}
+use Rattle.xmp_parse.specs.Blocks.{spell_item, FitsItem}
 use Rattle.xmp_parse.proofs.Listing.{once_more}
 use Rattle.xmp_parse.proofs.Opening.{no_more}
 

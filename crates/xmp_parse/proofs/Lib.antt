@@ -11,3 +11,6 @@ pub mod MaxOrMin
 pub mod ItemsRead
 pub mod PartsRead
 pub mod FirstBreak
+pub mod Statements
+pub mod Passing
+pub mod BlockParts

@@ -3,7 +3,7 @@ use Rattle.std.proofs.Common.{◌≡◌, ◌≤◌, ◌<◌, ℕ, Bool, true, fa
 use Rattle.std.specs.Prelude.{⊤}
 use Rattle.xmp_lex.specs.declared.token.Token.{Token}
 use Rattle.xmp_tree.specs.Parts.{Part}
-use Rattle.xmp_tree.specs.Reading.{Test, Rule, part, ◌·◌, choice, many, Depths, State, reading, goes, step}
+use Rattle.xmp_tree.specs.Reading.{Test, Effect, Rule, mark, behind, part, ◌·◌, choice, many, Depths, State, reading, goes, step}
 use Rattle.xmp_tree.specs.Grammar.{rule}
 use Rattle.xmp_tree.specs.Spell.{each}
 use Rattle.xmp_tree.specs.Fits.{Each}
@@ -71,3 +71,8 @@ pub if_not : {s : State} {D : Depths} {q : Test} {a b : Rule} {K : List Rule} {t
 if_not {s = s} {D = D} {q = q} {a = a} {b = b} {K = K} {ts = []} h c = let f = c.finish in cc
 if_not {s = s} {D = D} {q = q} {a = a} {b = b} {K = K} {ts = k ∷ ts} h c =
     silent s _ _ (ap (λ (x : Bool). goes [] (reading D (cond x a b ∷ K) (k ∷ ts))) h) refl c
+
+-- a counted statement begins, or ends
+pub entered : {s : State} {D : Depths} {e : Effect} {K : List Rule} {ts : List Token} → Comes s (reading D (mark e ∷ K) ts) → Comes s (reading (behind e D) K ts)
+entered {s = s} {D = D} {e = e} {K = K} {ts = []} c = let f = c.finish in cc
+entered {s = s} {D = D} {e = e} {K = K} {ts = k ∷ ts} c = silent s _ _ refl refl c

@@ -15,7 +15,7 @@ use Rattle.xmp_parse.specs.Depths.{now_behind, base_behind}
 use Rattle.xmp_parse.specs.Going.{has_finish, left_at, Comes}
 use Rattle.xmp_parse.specs.Kinds.{next_is, next_kind}
 use Rattle.xmp_tree.specs.Spell.{◌at◌}
-use Rattle.xmp_parse.specs.Effects.{taking, around, around_behind}
+use Rattle.xmp_parse.specs.Effects.{taking, now_before, base_before, around, around_behind}
 
 -- what passes a test that the end of the text does not pass is not the end of the text
 pub not_finish : (p : Test) (k : TokenKind) → p t.Finish ≡ false → p k ≡ true → is_finish k ≡ false
@@ -73,15 +73,10 @@ one_stuck x p D K k ts s h c =
 pub same_depths : (n b m c : ℕ) (L : List (ℕ × ℕ)) (K : List Rule) (ts : List Token) (s : State) → n ≡ m → b ≡ c → Comes s (reading (depths m c L) K ts) → Comes s (reading (depths n b L) K ts)
 same_depths n b m c L K ts s p q w = subst (λ (x : ℕ). Comes s (reading (depths x b L) K ts)) (sym p) (subst (λ (x : ℕ). Comes s (reading (depths m x L) K ts)) (sym q) w)
 
-entered : (p : Test) (d : Depth) (L : List (ℕ × ℕ)) (K : List Rule) (ks : List Token) (s : State) → has_finish ks ≡ true
-    → Comes s (reading (depths d.now d.base L) (mark enter ∷ tok plain p ∷ K) ks) → Comes s (reading (depths (suc d.now) (suc d.base) ((d.now, d.base) ∷ L)) (tok plain p ∷ K) ks)
-entered p d L K [] s f c = cc
-entered p d L K (k ∷ ts) s f c = silent s _ _ refl refl c
-
 -- The token is taken, for each effect.
 pub taken : (x : code.Effect) (p : Test) (d n : Depth) (k : Token) (ts : List Token) (s : State) (L : List (ℕ × ℕ)) (K : List Rule)
     → p k.kind ≡ true → p t.Finish ≡ false → n.now ≡ now_behind d x → n.base ≡ base_behind d x → n.now ≤ 128
-    → Comes s (reading (depths d.now d.base (around x L)) (taking x p K) (k ∷ ts)) → Comes s (reading (depths n.now n.base (around_behind d x L)) K ts)
+    → Comes s (reading (depths (now_before d x) (base_before d x) (around d x L)) (taking x p K) (k ∷ ts)) → Comes s (reading (depths n.now n.base (around_behind d x L)) K ts)
 taken e.Plain p d n k ts s L K h f a b w c = same_depths _ _ _ _ L K ts s a b (one plain p _ K k ts s h f (subst (λ (z : ℕ). z ≤ 128) a w) c)
 taken e.Operator p d n k ts s L K h f a b w c = same_depths _ _ _ _ L K ts s a b (one operator p _ K k ts s h f (subst (λ (z : ℕ). z ≤ 128) a w) c)
 taken e.Separator p d n k ts s L K h f a b w c = same_depths _ _ _ _ L K ts s a b (one separator p _ K k ts s h f (subst (λ (z : ℕ). z ≤ 128) a w) c)
@@ -89,50 +84,50 @@ taken e.Opening p d n k ts s L K h f a b w c = same_depths _ _ _ _ _ K ts s a b 
 taken (e.Closing o) p d n k ts s L K h f a b w c = same_depths _ _ _ _ L K ts s a b (one closing p _ K k ts s h f (subst (λ (z : ℕ). z ≤ 128) a w) c)
 taken (e.Cast o) p d n k ts s L K h f a b w c = same_depths _ _ _ _ L K ts s a b (one cast p _ K k ts s h f (subst (λ (z : ℕ). z ≤ 128) a w) c)
 taken e.Entering p d n k ts s L K h f a b w c =
-    same_depths _ _ _ _ _ K ts s a b (one plain p _ K k ts s h f (subst (λ (z : ℕ). z ≤ 128) a w) (entered p d L K (k ∷ ts) s c.finish c))
+    same_depths _ _ _ _ _ K ts s a b (one plain p _ K k ts s h f (subst (λ (z : ℕ). z ≤ 128) a w) c)
 
 pub taken_deep : (x : code.Effect) (p : Test) (d : Depth) (k : Token) (ts : List Token) (s : State) (L : List (ℕ × ℕ)) (K : List Rule)
     → p k.kind ≡ true → 128 < now_behind d x
-    → Comes s (reading (depths d.now d.base (around x L)) (taking x p K) (k ∷ ts)) → TooDeepAt s (suc (length ts))
+    → Comes s (reading (depths (now_before d x) (base_before d x) (around d x L)) (taking x p K) (k ∷ ts)) → TooDeepAt s (suc (length ts))
 taken_deep e.Plain p d k ts s L K h w c = one_deep plain p _ K k ts s h w c
 taken_deep e.Operator p d k ts s L K h w c = one_deep operator p _ K k ts s h w c
 taken_deep e.Separator p d k ts s L K h w c = one_deep separator p _ K k ts s h w c
 taken_deep e.Opening p d k ts s L K h w c = one_deep opening p _ K k ts s h w c
 taken_deep (e.Closing o) p d k ts s L K h w c = one_deep closing p _ K k ts s h w c
 taken_deep (e.Cast o) p d k ts s L K h w c = one_deep cast p _ K k ts s h w c
-taken_deep e.Entering p d k ts s L K h w c = one_deep plain p _ K k ts s h w (entered p d L K (k ∷ ts) s c.finish c)
+taken_deep e.Entering p d k ts s L K h w c = one_deep plain p _ K k ts s h w c
 
 stuck_entering : (x : code.Effect) (p : Test) (d : Depth) (k : Token) (ts : List Token) (s : State) (L : List (ℕ × ℕ)) (K : List Rule)
     → p k.kind ≡ false
-    → Comes s (reading (depths d.now d.base (around x L)) (taking x p K) (k ∷ ts)) → StuckAt s (suc (length ts))
+    → Comes s (reading (depths (now_before d x) (base_before d x) (around d x L)) (taking x p K) (k ∷ ts)) → StuckAt s (suc (length ts))
 stuck_entering e.Plain p d k ts s L K h c = one_stuck plain p _ K k ts s h c
 stuck_entering e.Operator p d k ts s L K h c = one_stuck operator p _ K k ts s h c
 stuck_entering e.Separator p d k ts s L K h c = one_stuck separator p _ K k ts s h c
 stuck_entering e.Opening p d k ts s L K h c = one_stuck opening p _ K k ts s h c
 stuck_entering (e.Closing o) p d k ts s L K h c = one_stuck closing p _ K k ts s h c
 stuck_entering (e.Cast o) p d k ts s L K h c = one_stuck cast p _ K k ts s h c
-stuck_entering e.Entering p d k ts s L K h c = one_stuck plain p _ K k ts s h (entered p d L K (k ∷ ts) s c.finish c)
+stuck_entering e.Entering p d k ts s L K h c = one_stuck plain p _ K k ts s h c
 
 -- The next token doesn't pass the test.
 pub taken_stuck : (x : code.Effect) (p : Test) (d : Depth) (ks : List Token) (s : State) (L : List (ℕ × ℕ)) (K : List Rule)
     → next_is p ks ≡ false
-    → Comes s (reading (depths d.now d.base (around x L)) (taking x p K) ks) → StuckAt s (length ks)
+    → Comes s (reading (depths (now_before d x) (base_before d x) (around d x L)) (taking x p K) ks) → StuckAt s (length ks)
 taken_stuck x p d [] s L K h c = let f = c.finish in cc
 taken_stuck x p d (k ∷ ts) s L K h c = stuck_entering x p d k ts s L K h c
 
 -- The same of a reader.
 pub past_ok : (x : code.Effect) (p : Test) (d n : Depth) (ks : List Token) (k : Token) (ts : List Token) (s : State) (L : List (ℕ × ℕ)) (K : List Rule)
     → ks ≡ k ∷ ts → next_is p ks ≡ true → p t.Finish ≡ false → (n.now ≡ now_behind d x) × (n.base ≡ base_behind d x) × (n.now ≤ 128)
-    → Comes s (reading (depths d.now d.base (around x L)) (taking x p K) ks) → Comes s (reading (depths n.now n.base (around_behind d x L)) K ts)
+    → Comes s (reading (depths (now_before d x) (base_before d x) (around d x L)) (taking x p K) ks) → Comes s (reading (depths n.now n.base (around_behind d x L)) K ts)
 past_ok x p d n ks k ts s L K q h f a c =
-    taken x p d n k ts s L K (subst (λ (l : List Token). next_is p l ≡ true) q h) f a.0 a.1 a.2 (subst (λ (l : List Token). Comes s (reading (depths d.now d.base (around x L)) (taking x p K) l)) q c)
+    taken x p d n k ts s L K (subst (λ (l : List Token). next_is p l ≡ true) q h) f a.0 a.1 a.2 (subst (λ (l : List Token). Comes s (reading (depths (now_before d x) (base_before d x) (around d x L)) (taking x p K) l)) q c)
 
 pub past_deep : (x : code.Effect) (p : Test) (d : Depth) (ks : List Token) (k : Token) (ts : List Token) (s : State) (L : List (ℕ × ℕ)) (K : List Rule)
     → ks ≡ k ∷ ts → next_is p ks ≡ true → 128 < now_behind d x
-    → Comes s (reading (depths d.now d.base (around x L)) (taking x p K) ks) → TooDeepAt s (length ks)
+    → Comes s (reading (depths (now_before d x) (base_before d x) (around d x L)) (taking x p K) ks) → TooDeepAt s (length ks)
 past_deep x p d ks k ts s L K q h w c =
     subst (λ (l : List Token). TooDeepAt s (length l)) (sym q)
-    (taken_deep x p d k ts s L K (subst (λ (l : List Token). next_is p l ≡ true) q h) w (subst (λ (l : List Token). Comes s (reading (depths d.now d.base (around x L)) (taking x p K) l)) q c))
+    (taken_deep x p d k ts s L K (subst (λ (l : List Token). next_is p l ≡ true) q h) w (subst (λ (l : List Token). Comes s (reading (depths (now_before d x) (base_before d x) (around d x L)) (taking x p K) l)) q c))
 
 pub past_none : (p : Test) (ks : List Token) → ks ≡ [] → next_is p ks ≡ true → ⊥
 past_none p [] q h = cc

@@ -23,8 +23,8 @@ use Rattle.xmp_tree.specs.declared.expression.Expr.TheVariants as e
 use Rattle.xmp_tree.specs.Trees.{Expr, number, read, call, parens, unary, cast, chain, conditional, Ref, ref, Subscripts, no_more, subscript, Image, no_image, image, Arguments, no_arguments, arguments, Rest, end, comma, Links, last, link}
 use Rattle.xmp_tree.specs.View.{expr_view, expr_step, ref_view, subscripts_view, image_view, arguments_view, rest_view, links_view, call_view}
 use Rattle.xmp_tree.specs.Grammar.{mark_binds}
-use Rattle.xmp_tree.specs.Spell.{◌at◌, spell, spell_links, spell_subscripts, spell_rest}
-use Rattle.xmp_tree.specs.Fits.{Fits, FitsLinks, FitsSubscripts, FitsRest, level_of, links_level}
+use Rattle.xmp_tree.specs.Spell.{◌at◌, spell, spell_links, spell_subscripts, spell_rest, each, next, expr}
+use Rattle.xmp_tree.specs.Fits.{Fits, FitsExpr, FitsLinks, FitsSubscripts, FitsRest, Each, level_of, links_level}
 
 pub view_number : (p : Place) (v : ℤ) (ty : Ty) → expr_view (e.Number p v ty) ≡ number p v ty
 view_number p v ty = ap expr_view (sym (e.rolls-Number p v ty)) ∙ fold-roll-Expr Expr expr_step (Expr-F.Number p v ty)
@@ -90,3 +90,12 @@ pub longer_fits : (n b : ℕ) → n ≡ suc b → (first x : made.Expr) (xs : Li
 longer_fits n b e first x [] f g l h k = subst (λ (y : made.Expr). Fits (expr_view y)) (sym (f refl)) h
 longer_fits n b e first x (y ∷ ys) f g l h k =
     subst (λ (z : Expr). Fits z) (sym (g (λ q. cc))) (chain_fits n first (y ∷ ys) (λ q. cc) (omega (arith, e, l)) h k).0
+
+-- expressions behind commas
+pub rest_spelled : (xs : List (Next made.Expr)) (r : List Token) → each (next expr) xs r ≡ spell_rest (rest_view xs) r
+rest_spelled [] r = refl
+rest_spelled (x ∷ xs) r = ap (λ (l : List Token). (t.Mark m.Comma at x.comma) ∷ spell (expr_view x.item) l) (rest_spelled xs r)
+
+pub rest_fits : (xs : List (Next made.Expr)) → Each (λ y. FitsExpr y.item) xs → FitsRest (rest_view xs)
+rest_fits [] f = tt
+rest_fits (x ∷ xs) f = (f.0, rest_fits xs f.1)

@@ -1,10 +1,10 @@
 -- What the tokens do to the depths of a reading. Source: this project.
-use Rattle.std.specs.Prelude.{◌≤◌, ℕ, List, ◌∷◌, All, Result, Ok, Err}
+use Rattle.std.specs.Prelude.{◌≤◌, ℕ, suc, List, ◌∷◌, All, Result, Ok, Err}
 use Rattle.std.specs.Prelude.{Bool}
 use Rattle.xmp_lex.specs.declared.token.Mark.TheVariants as m
 use Rattle.xmp_tree.specs.Parts as p
 use Rattle.xmp_tree.specs.Grammar.{expr, is_mark, is_finish, rule}
-use Rattle.xmp_tree.specs.Reading.{part, Reads, Test, Rule, State, Depths, depths, tok, mark, plain, operator, separator, opening, closing, cast, enter}
+use Rattle.xmp_tree.specs.Reading.{part, Reads, Test, Rule, State, reading, Depths, depths, tok, plain, operator, separator, opening, closing, cast}
 use Rattle.xmp_parse.specs.declared.reader.Reader.{Reader}
 use Rattle.xmp_parse.specs.declared.reader.Stop.{Stop}
 use Rattle.xmp_parse.specs.declared.depth.Depth.{Depth}
@@ -20,13 +20,22 @@ taking e.Separator p K = tok separator p ∷ K
 taking e.Opening p K = tok opening p ∷ K
 taking (e.Closing o) p K = tok closing p ∷ K
 taking (e.Cast o) p K = tok cast p ∷ K
-taking e.Entering p K = mark enter ∷ tok plain p ∷ K
+taking e.Entering p K = tok plain p ∷ K
 
--- the depths around, before and behind it
-abbrev pub around : Effect → List (ℕ × ℕ) → List (ℕ × ℕ)
-around (e.Closing o) L = (o.now, o.base) ∷ L
-around (e.Cast o) L = (o.now, o.base) ∷ L
-around _ L = L
+-- The depths before it, and around, before and behind it. The first token of a statement that is counted stands inside it.
+abbrev pub now_before : Depth → Effect → ℕ
+now_before d e.Entering = suc d.now
+now_before d _ = d.now
+
+abbrev pub base_before : Depth → Effect → ℕ
+base_before d e.Entering = suc d.base
+base_before d _ = d.base
+
+abbrev pub around : Depth → Effect → List (ℕ × ℕ) → List (ℕ × ℕ)
+around d (e.Closing o) L = (o.now, o.base) ∷ L
+around d (e.Cast o) L = (o.now, o.base) ∷ L
+around d e.Entering L = (d.now, d.base) ∷ L
+around d _ L = L
 
 abbrev pub around_behind : Depth → Effect → List (ℕ × ℕ) → List (ℕ × ℕ)
 around_behind d e.Opening L = (d.now, d.base) ∷ L
@@ -35,7 +44,7 @@ around_behind d _ L = L
 
 -- A token is taken that passes the test.
 abbrev pub Takes : {A : Type 0} → Effect → Test → Reader → Result (A × Reader) Stop → Type 0
-Takes x p r result = (s : State) (L : List (ℕ × ℕ)) (K : List Rule) → Comes s (stands (around x L) (taking x p K) r) → After s (around_behind r.depth x L) K result
+Takes x p r result = (s : State) (L : List (ℕ × ℕ)) (K : List Rule) → Comes s (reading (depths (now_before r.depth x) (base_before r.depth x) (around r.depth x L)) (taking x p K) r.tokens.now) → After s (around_behind r.depth x L) K result
 
 -- The colon and the bracket of an image are taken.
 abbrev pub OpensImage : {A : Type 0} → Bool → Reader → Result (A × Reader) Stop → Type 0

@@ -1,6 +1,7 @@
 -- The words of directives' lines, and lines that are read. Source: XcalableMP 1.4, sections 4 to 6.
-use Rattle.std.specs.Prelude.{◌≡◌, ℕ, List, ◌∷◌, Bool, cond, codes, Option, None, Some, Result}
+use Rattle.std.specs.Prelude.{◌≡◌, ℕ, List, [], ◌∷◌, Bool, cond, codes, Option, None, Some, Result, ⊤}
 use Rattle.xmp_lex.specs.declared.token.Token.{Token}
+use Rattle.xmp_lex.specs.declared.token.TokenKind.{TokenKind}
 use Rattle.xmp_lex.specs.declared.token.Mark.TheVariants as m
 use Rattle.xmp_tree.specs.Parts as p
 use Rattle.xmp_tree.specs.Parts.{Part}
@@ -53,6 +54,18 @@ directive_word_next ts =
     cond (next_is (is_spelled (codes "gmove")) ts) (Some dw.Gmove) (
     cond (next_is (is_spelled (codes "task")) ts) (Some dw.Task) (
     cond (next_is (is_spelled (codes "tasks")) ts) (Some dw.Tasks) None))))))
+
+-- its directive holds no statement
+abbrev pub IsPlainWord : DirectiveWord → Type 0
+IsPlainWord dw.Loop = ⊥
+IsPlainWord dw.Task = ⊥
+IsPlainWord dw.Tasks = ⊥
+IsPlainWord _ = ⊤
+
+-- Both give the same part at the next token.
+abbrev pub Agree : (TokenKind → Part) → (TokenKind → Part) → List Token → Type 0
+Agree f g [] = ⊤
+Agree f g (t ∷ ts) = f t.kind ≡ g t.kind
 
 -- What is between an opening bracket and its closing one is read, and the closing one.
 abbrev pub Closes : {A : Type 0} → Rule → Depth → Reader → Result (A × Reader) Stop → Type 0

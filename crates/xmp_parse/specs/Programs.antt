@@ -1,4 +1,4 @@
--- Parts of blocks and of programs, and what `parse` answers. Source: this project.
+-- Parts of programs, and what `parse` answers. Source: this project.
 use Rattle.std.specs.Prelude.{◌≡◌, ℕ, List, [], ◌∷◌, ◌++◌, Bool, true, false, length, Result, Ok, Err, ⊤, ◌⊎◌}
 use Rattle.xmp_base.specs.declared.place.Place.{Place}
 use Rattle.xmp_base.specs.declared.refusal.Refusal.{Refusal}
@@ -7,28 +7,17 @@ use Rattle.xmp_base.specs.declared.refusal.Fault.TheVariants as fault
 use Rattle.xmp_base.specs.declared.refusal.Phase.TheVariants as phase
 use Rattle.xmp_lex.specs.declared.token.Token.{Token}
 use Rattle.xmp_lex.specs.declared.token.Mark.TheVariants as m
-use Rattle.xmp_tree.specs.declared.statement.BlockItem.{BlockItem}
-use Rattle.xmp_tree.specs.declared.statement.Stmt as made
 use Rattle.xmp_tree.specs.declared.program.TopItem.{TopItem}
 use Rattle.xmp_tree.specs.declared.program.TopItem.TheVariants as top
 use Rattle.xmp_tree.specs.Parts as p
 use Rattle.xmp_tree.specs.Reading.{Rule, State, tok, part, plain, many, choice, ◌·◌}
 use Rattle.xmp_tree.specs.Grammar.{is_mark, is_finish, name, comma, semicolon}
-use Rattle.xmp_tree.specs.View.{items_view}
-use Rattle.xmp_tree.specs.Spell.{Text, spell_items}
-use Rattle.xmp_tree.specs.Fits.{FitsItems, EndsInFunction}
+use Rattle.xmp_tree.specs.Fits.{EndsInFunction}
 use Rattle.xmp_tree.specs.Refused.{Stuck, TooDeep, start, program_rules}
 use Rattle.xmp_parse.specs.declared.reader.Reader.{Reader}
 use Rattle.xmp_parse.specs.declared.reader.Stop.{Stop}
 use Rattle.xmp_parse.specs.Effects.{Ended}
 use Rattle.xmp_parse.specs.Going.{Comes, After, Refused, stands}
-
--- one item of a block
-abbrev pub spell_item : BlockItem made.Stmt → Text
-spell_item x r = spell_items (items_view (x ∷ [])) r
-
-abbrev pub FitsItem : BlockItem made.Stmt → Type 0
-FitsItem x = FitsItems (items_view (x ∷ []))
 
 -- A function or a declaration, and the parts behind it.
 abbrev pub definition_rule : Rule

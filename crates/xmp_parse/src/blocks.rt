@@ -3,7 +3,7 @@ ghost use Rattle.std.specs.Prelude.{◌≡◌, ◌≤◌, ◌<◌, IfOk, length}
 ghost use Rattle.xmp_tree.specs.Parts as p;
 ghost use Rattle.xmp_tree.specs.Reading.{part};
 ghost use Rattle.xmp_parse.specs.Going.{Parses};
-ghost use Rattle.xmp_parse.specs.Programs.{spell_item, FitsItem};
+ghost use Rattle.xmp_parse.specs.Blocks.{spell_item, FitsItem};
 
 use crate::reader::{Parsed, Reader, Stop};
 use std::alloc::Global;

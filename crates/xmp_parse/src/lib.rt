@@ -6,17 +6,22 @@
 #![tactic(auto)]
 
 mod blocks;
+mod changes;
 mod declarations;
 mod depth;
 mod effect;
 mod expressions;
+mod for_heads;
 mod functions;
+mod heads;
 mod joined;
 mod kinds;
 mod lines;
 mod mappings;
 mod marks;
+mod parameter_lists;
 mod parts;
+mod plain_statements;
 mod programs;
 mod reader;
 mod refusals;

@@ -11,6 +11,7 @@ ghost use Rattle.xmp_tree.specs.Spell as sp;
 ghost use Rattle.xmp_tree.specs.Spell.{◌at◌};
 ghost use Rattle.xmp_tree.specs.Fits as f;
 ghost use Rattle.xmp_parse.specs.Going.{Parses};
+ghost use Rattle.xmp_parse.specs.Lines.{IsPlainWord, part_of_directive};
 
 use crate::effect::Effect;
 use crate::expressions::expression;
@@ -18,6 +19,7 @@ use crate::mappings::after_colon;
 use crate::marks::Class;
 use crate::parts::{Part, any_dims, comma_list, dims, names};
 use crate::reader::{Parsed, Reader};
+use crate::words::DirectiveWord;
 use sqlite_items::Items;
 use std::alloc::Global;
 use xmp_base::Place;
@@ -184,7 +186,7 @@ fn reduction(alloc: Global, r: Reader<'_>) -> Parsed<'_, Reduction>
     Ok((Reduction { word, list }, r))
 }
 
-fn reductions(alloc: Global, r: Reader<'_>) -> Parsed<'_, Items<Reduction>>
+pub fn reductions(alloc: Global, r: Reader<'_>) -> Parsed<'_, Items<Reduction>>
     ensures goes { Parses (many (g.is_spelled (codes "reduction")) (part p.reduction)) r.entry result }
     ensures reads { IfOk result (λ x. r.entry.tokens.now ≡ sp.each sp.reduction x.0 x.1.tokens.now) }
     ensures fits { IfOk result (λ x. f.Each f.FitsReduction x.0) }
@@ -261,4 +263,25 @@ pub fn gmove(alloc: Global, start: Place, r: Reader<'_>) -> Parsed<'_, Plain>
         end: close,
     };
     Ok((Plain::Gmove(line, target, assign, source, end), r))
+}
+
+/// The line of a directive that holds no statement, from its word on.
+pub fn plain_line(
+    alloc: Global,
+    word: DirectiveWord,
+    start: Place,
+    r: Reader<'_>,
+) -> Parsed<'_, Plain>
+    ensures goes { IsPlainWord word → Parses (g.rule (part_of_directive word)) r.entry result }
+    ensures reads { IfOk result (λ x. (t.Pragma at start) ∷ r.entry.tokens.now ≡ sp.spell_plain x.0 x.1.tokens.now) }
+    ensures fits { IfOk result (λ x. f.FitsPlain x.0) }
+    ensures shorter { IfOk result (λ x. length x.1.tokens.now < length r.entry.tokens.now) }
+{
+    match word {
+        DirectiveWord::Reflect => reflect(alloc, start, r),
+        DirectiveWord::Barrier => barrier(start, r),
+        DirectiveWord::Bcast => bcast(alloc, start, r),
+        DirectiveWord::Gmove => gmove(alloc, start, r),
+        DirectiveWord::Loop | DirectiveWord::Task | DirectiveWord::Tasks => Err(r.unexpected()),
+    }
 }
