@@ -116,7 +116,8 @@ statement_refused s D K (k ∷ ts) e h g c n =
 -- A counted statement ends.
 pub left_behind : {s : State} {L : List (ℕ × ℕ)} {K : List Rule} (r q : Reader) (o : Depth) → q.tokens ≡ r.tokens → q.depth ≡ o → Comes s (stands ((o.now, o.base) ∷ L) (mark leave ∷ K) r) → Comes s (stands L K q)
 left_behind {s = s} {L = L} {K = K} r q o e i c =
-    subst (λ (l : List Token). Comes s (reading (depths q.depth.now q.depth.base L) K l)) (sym (ap (λ (x : _). x.now) e))
+    let z : q.tokens.now ≡ r.tokens.now = rw e refl in
+    subst (λ (l : List Token). Comes s (reading (depths q.depth.now q.depth.base L) K l)) (sym z)
     (subst (λ (x : Depth). Comes s (reading (depths x.now x.base L) K r.tokens.now)) (sym i) (behind_it s _ _ o.now o.base L K r.tokens.now c))
   where
     behind_it : (s : State) (n m a b : ℕ) (L : List (ℕ × ℕ)) (K : List Rule) (ts : List Token) → Comes s (reading (depths n m ((a, b) ∷ L)) (mark leave ∷ K) ts) → Comes s (reading (depths a b L) K ts)

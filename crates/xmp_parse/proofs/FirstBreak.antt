@@ -1,6 +1,6 @@
 -- The answer on a whole text.
-use Rattle.std.proofs.Common.{◌≡◌, ◌≤◌, ◌+◌, ℕ, suc, Bool, true, false, List, [], ◌∷◌, ◌++◌, length, All, refl, sym, ap, ◌∙◌, subst, append_assoc, inl, inr}
-use Rattle.std.specs.Prelude.{◌||◌}
+use Rattle.std.proofs.Common.{◌≡◌, ◌≤◌, ◌+◌, ℕ, suc, Bool, true, false, List, [], ◌∷◌, ◌++◌, length, All, refl, sym, ap, ◌∙◌, subst, append_assoc, inl, inr, arith}
+use Rattle.std.specs.Prelude.{◌||◌, ◌==◌}
 use Rattle.std.proofs.lemmas.List.Elements.{All-nil}
 use Rattle.std.proofs.lemmas.List.{length-append}
 use Rattle.xmp_base.specs.declared.place.Place.{Place}
@@ -38,6 +38,13 @@ finish_there (x ∷ y ∷ ts) f = or_true (is_finish x.kind) (has_finish (y ∷ 
 pub begun : (d : Depth) (ts : List Token) → d.now ≡ 0 → d.base ≡ 0 → has_finish ts ≡ true → Comes (reading start program_rules ts) (reading (depths d.now d.base []) program_rules ts)
 begun d ts a b f =
     same_depths d.now d.base 0 0 [] program_rules ts (reading start program_rules ts) a b (record { depths = []; reads = here; shallow = All-nil (λ d. d ≤ 128); finish = f })
+
+pub empty_list : (ts : List Token) (b : Bool) → b ≡ (length ts == 0) → b ≡ true → ts ≡ []
+empty_list [] b e f = refl
+empty_list (x ∷ ts) b e f = absurd (grind arith)
+
+pub not_empty : (ts : List Token) (b : Bool) → b ≡ (length ts == 0) → b ≡ false → ts ≡ [] → ⊥
+not_empty ts b e f q = let z : length ts ≡ 0 = ap length q in grind arith
 
 -- The tokens that were read to their end are the program.
 pub whole_program : (ts us : List Token) (x : Tree) (D : Depths) → ts ≡ each top_item x.parts ((t.Finish at x.finish) ∷ us) → us ≡ [] → FitsTree x

@@ -14,3 +14,4 @@ pub mod FirstBreak
 pub mod Statements
 pub mod Passing
 pub mod BlockParts
+pub mod BlockViews

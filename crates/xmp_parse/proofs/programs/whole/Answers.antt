@@ -3,7 +3,7 @@ use Rattle.std.proofs.lemmas.Result.{err_from_is_err_and}
 use Rattle.xmp_parse.proofs.Opening.{seq, into, skip, first, second, again, no_more}
 use Rattle.xmp_parse.proofs.Listing.{split, whole, once_more, if_so, if_not, none_so_far, one_more}
 use Rattle.std.proofs.Common.{[]}
-use Rattle.xmp_parse.proofs.FirstBreak.{finish_there, begun, whole_program, not_whole, stuck_fault, deep_fault}
+use Rattle.xmp_parse.proofs.FirstBreak.{finish_there, empty_list, not_empty, begun, whole_program, not_whole, stuck_fault, deep_fault}
 use Rattle.xmp_parse.proofs.programs.whole.Goals as goal
 
 pub returns-in_err-tree-clause-refused : goal.returns-in_err-tree-clause-refused
@@ -13,9 +13,9 @@ returns-in_err-tree-clause-refused c =
 
 pub returns-then-is_empty-clause-program : goal.returns-then-is_empty-clause-program
 returns-then-is_empty-clause-program c =
-    whole_program c.args.tokens.now c.in_ok-tree.r.tokens.now c.in_ok-tree.tree _ c.in_ok-tree.ensures.reads (c.is_empty.ensures) c.in_ok-tree.ensures.fits
+    whole_program c.args.tokens.now c.in_ok-tree.r.tokens.now c.in_ok-tree.tree _ c.in_ok-tree.ensures.reads (empty_list _ _ c.is_empty.ensures c.if-is_empty.true) c.in_ok-tree.ensures.fits
     (c.in_ok-tree.ensures.goes _ [] [] (begun _ c.args.tokens.now c.start.ensures.now c.start.ensures.base c.requires))
 
 pub returns-clause-refused : goal.returns-clause-refused
 returns-clause-refused c =
-    not_whole _ _ c.in_ok-tree.r.tokens.now (c.is_empty.ensures) (c.in_ok-tree.ensures.goes _ [] [] (begun _ c.args.tokens.now c.start.ensures.now c.start.ensures.base c.requires))
+    rw c.unexpected.ensures.value (not_whole _ _ c.in_ok-tree.r.tokens.now (not_empty _ _ c.is_empty.ensures c.if-is_empty.false) (c.in_ok-tree.ensures.goes _ [] [] (begun _ c.args.tokens.now c.start.ensures.now c.start.ensures.base c.requires)))
