@@ -23,11 +23,7 @@ use xmp_lex::{Mark, Reserved};
 use xmp_tree::{Expr, ForFirst, ForHead, Inside, Simple};
 
 /// `if` or `while`, and the condition in parentheses.
-pub fn condition(
-    alloc: Global,
-    word: Reserved,
-    r: Reader<'_>,
-) -> Parsed<'_, (Place, Inside<Expr>)>
+pub fn condition(alloc: Global, word: Reserved, r: Reader<'_>) -> Parsed<'_, (Place, Inside<Expr>)>
     ensures goes { Enters word (g.parens g.expr) r.entry result }
     ensures reads { IfOk result (λ x. r.entry.tokens.now ≡ (t.Word word at x.0.0) ∷ sp.in_parens sp.expr x.0.1 x.1.tokens.now) }
     ensures fits { IfOk result (λ x. f.FitsExpr x.0.1.item) }
