@@ -1,5 +1,5 @@
 // Statements that hold no statement and are no directives.
-ghost use Rattle.std.specs.Prelude.{◌≡◌, ◌<◌, IfOk, ◌∷◌, length};
+ghost use Rattle.std.specs.Prelude.{◌≡◌, ◌<◌, false, IfOk, ◌∷◌, length};
 ghost use Rattle.xmp_lex.specs.declared.token.Mark.TheVariants as m;
 ghost use Rattle.xmp_tree.specs.Parts as p;
 ghost use Rattle.xmp_tree.specs.Reading as reading;
