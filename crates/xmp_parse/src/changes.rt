@@ -1,5 +1,5 @@
 // Assignments, steps and calls.
-ghost use Rattle.std.specs.Prelude.{◌≡◌, ◌≤◌, ◌<◌, IfOk, ◌∷◌, length};
+ghost use Rattle.std.specs.Prelude.{◌≡◌, ◌≤◌, ◌<◌, false, IfOk, ◌∷◌, length};
 ghost use Rattle.xmp_lex.specs.declared.token.Mark.TheVariants as m;
 ghost use Rattle.xmp_tree.specs.Parts as p;
 ghost use Rattle.xmp_tree.specs.Reading.{part, choice, tok, plain, ◌·◌};

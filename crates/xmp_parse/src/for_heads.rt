@@ -1,5 +1,5 @@
 // What stands before the statement that `if`, `while` and `for` hold.
-ghost use Rattle.std.specs.Prelude.{◌≡◌, ◌≤◌, ◌<◌, IfOk, List, [], ◌∷◌, length, not};
+ghost use Rattle.std.specs.Prelude.{◌≡◌, ◌≤◌, ◌<◌, false, IfOk, [], ◌∷◌, length, not};
 ghost use Rattle.xmp_lex.specs.declared.token.Mark.TheVariants as m;
 ghost use Rattle.xmp_lex.specs.declared.token.TokenKind.TheVariants as t;
 ghost use Rattle.xmp_lex.specs.declared.token.Reserved.TheVariants as w;
@@ -23,11 +23,7 @@ use xmp_lex::{Mark, Reserved};
 use xmp_tree::{Expr, ForFirst, ForHead, Inside, Simple};
 
 /// `if` or `while`, and the condition in parentheses.
-pub fn condition(
-    alloc: Global,
-    word: Reserved,
-    r: Reader<'_>,
-) -> Parsed<'_, (Place, Inside<Expr>)>
+pub fn condition(alloc: Global, word: Reserved, r: Reader<'_>) -> Parsed<'_, (Place, Inside<Expr>)>
     ensures goes { Enters word (g.parens g.expr) r.entry result }
     ensures reads { IfOk result (λ x. r.entry.tokens.now ≡ (t.Word word at x.0.0) ∷ sp.in_parens sp.expr x.0.1 x.1.tokens.now) }
     ensures fits { IfOk result (λ x. f.FitsExpr x.0.1.item) }
@@ -40,7 +36,7 @@ pub fn condition(
 
 /// A declared index and its value.
 fn declared_index(alloc: Global, r: Reader<'_>) -> Parsed<'_, ForFirst>
-    ensures goes { ParsesAll (g.word w.Int · g.name ∷ g.sign m.Assign · g.expr ∷ []) r.entry result }
+    ensures goes { ParsesAll ((g.word w.Int · g.name) ∷ (g.sign m.Assign · g.expr) ∷ []) r.entry result }
     ensures reads { IfOk result (λ x. r.entry.tokens.now ≡ sp.for_first x.0 x.1.tokens.now) }
     ensures fits { IfOk result (λ x. f.FitsFirst x.0) }
     ensures shorter { IfOk result (λ x. length x.1.tokens.now < length r.entry.tokens.now) }
@@ -54,7 +50,7 @@ fn declared_index(alloc: Global, r: Reader<'_>) -> Parsed<'_, ForFirst>
 
 /// A variable or an element, and the value that it is given.
 fn assigned_index(alloc: Global, r: Reader<'_>) -> Parsed<'_, ForFirst>
-    ensures goes { ParsesAll (part (p.reference false) ∷ g.sign m.Assign · g.expr ∷ []) r.entry result }
+    ensures goes { ParsesAll (part (p.reference false) ∷ (g.sign m.Assign · g.expr) ∷ []) r.entry result }
     ensures reads { IfOk result (λ x. r.entry.tokens.now ≡ sp.for_first x.0 x.1.tokens.now) }
     ensures fits { IfOk result (λ x. f.FitsFirst x.0) }
     ensures shorter { IfOk result (λ x. length x.1.tokens.now < length r.entry.tokens.now) }
@@ -119,21 +115,33 @@ fn any_next(alloc: Global, r: Reader<'_>) -> Parsed<'_, Option<Simple>>
     Ok((Some(next), r))
 }
 
-/// `for` and its three parts.
-pub fn for_head(alloc: Global, r: Reader<'_>) -> Parsed<'_, ForHead>
-    ensures goes { Enters w.For for_parts r.entry result }
-    ensures reads { IfOk result (λ x. r.entry.tokens.now ≡ sp.for_head x.0 x.1.tokens.now) }
+/// The condition, its semicolon and the last part of `for`.
+type LastParts = (Option<Expr>, Place, Option<Simple>);
+
+fn last_parts(alloc: Global, r: Reader<'_>) -> Parsed<'_, LastParts>
+    ensures goes { Parses (g.optional (λ k. not (g.is_mark m.Semicolon k)) g.expr · g.semicolon · g.optional (λ k. not (g.is_mark m.CloseParen k)) (part p.simple)) r.entry result }
+    ensures reads { IfOk result (λ x. r.entry.tokens.now ≡ sp.optional sp.expr x.0.0 (sp.sign m.Semicolon x.0.1 (sp.optional sp.spell_simple x.0.2 x.1.tokens.now))) }
+    ensures fits { IfOk result (λ x. f.If f.FitsExpr x.0.0 × f.If f.FitsSimple x.0.2) }
+    ensures shorter { IfOk result (λ x. length x.1.tokens.now < length r.entry.tokens.now) }
+{
+    let (test, r) = any_test(alloc, r)?;
+    let (test_end, r) = r.mark(Mark::Semicolon, Effect::Separator)?;
+    let (next, r) = any_next(alloc, r)?;
+    Ok(((test, test_end, next), r))
+}
+
+/// The three parts of `for` in parentheses, behind its word.
+fn head_behind(alloc: Global, word: Place, r: Reader<'_>) -> Parsed<'_, ForHead>
+    ensures goes { Parses for_parts r.entry result }
+    ensures reads { IfOk result (λ x. (t.Word w.For at word) ∷ r.entry.tokens.now ≡ sp.for_head x.0 x.1.tokens.now) }
     ensures fits { IfOk result (λ x. f.FitsHead x.0) }
     ensures shorter { IfOk result (λ x. length x.1.tokens.now < length r.entry.tokens.now) }
 {
-    let (word, r) = r.word(Reserved::For, Effect::Entering)?;
     let outer = r.depth;
     let (open, r) = r.mark(Mark::OpenParen, Effect::Opening)?;
     let (first, r) = any_first(alloc, r)?;
     let (first_end, r) = r.mark(Mark::Semicolon, Effect::Separator)?;
-    let (test, r) = any_test(alloc, r)?;
-    let (test_end, r) = r.mark(Mark::Semicolon, Effect::Separator)?;
-    let (next, r) = any_next(alloc, r)?;
+    let ((test, test_end, next), r) = last_parts(alloc, r)?;
     let (close, r) = r.mark(Mark::CloseParen, Effect::Closing(outer))?;
     let head = ForHead {
         word,
@@ -146,4 +154,15 @@ pub fn for_head(alloc: Global, r: Reader<'_>) -> Parsed<'_, ForHead>
         close,
     };
     Ok((head, r))
+}
+
+/// `for` and its three parts.
+pub fn for_head(alloc: Global, r: Reader<'_>) -> Parsed<'_, ForHead>
+    ensures goes { Enters w.For for_parts r.entry result }
+    ensures reads { IfOk result (λ x. r.entry.tokens.now ≡ sp.for_head x.0 x.1.tokens.now) }
+    ensures fits { IfOk result (λ x. f.FitsHead x.0) }
+    ensures shorter { IfOk result (λ x. length x.1.tokens.now < length r.entry.tokens.now) }
+{
+    let (word, r) = r.word(Reserved::For, Effect::Entering)?;
+    head_behind(alloc, word, r)
 }

@@ -20,6 +20,8 @@ mod lines;
 mod mappings;
 mod marks;
 mod parameter_lists;
+#[cfg(test)]
+mod part_tests;
 mod parts;
 mod plain_statements;
 #[cfg(test)]

@@ -1,5 +1,5 @@
 // Statements that hold no statement and are no directives.
-ghost use Rattle.std.specs.Prelude.{◌≡◌, ◌<◌, IfOk, ◌∷◌, length};
+ghost use Rattle.std.specs.Prelude.{◌≡◌, ◌<◌, false, IfOk, ◌∷◌, length};
 ghost use Rattle.xmp_lex.specs.declared.token.Mark.TheVariants as m;
 ghost use Rattle.xmp_tree.specs.Parts as p;
 ghost use Rattle.xmp_tree.specs.Reading as reading;
@@ -119,10 +119,7 @@ fn scan(alloc: Global, r: Reader<'_>) -> Parsed<'_, Plain>
 }
 
 /// The target of `xmp_sync_all`, in parentheses.
-fn sync_target(
-    alloc: Global,
-    r: Reader<'_>,
-) -> Parsed<'_, Inside<(Place, Reference<Boxed<Expr>>)>>
+fn sync_target(alloc: Global, r: Reader<'_>) -> Parsed<'_, Inside<(Place, Reference<Boxed<Expr>>)>>
     ensures goes { Parses (g.parens (g.sign m.And · part (p.reference false))) r.entry result }
     ensures reads { IfOk result (λ x. r.entry.tokens.now ≡ sp.in_parens (λ y z. sp.sign m.And y.0 (sp.spell_ref (ref_view y.1) z)) x.0 x.1.tokens.now) }
     ensures fits { IfOk result (λ x. f.FitsRef (ref_view x.0.item.1)) }

@@ -9,40 +9,5 @@ returns-in_err-word-clause-goes c = λ s L held K w.
     let p = err_from_is_err_and c.from_residual.result c.from_residual.ensures.1 in
     rw (p.1, p.2) (c.in_err-word.ensures.goes s _ _ (seq (entered (seq w))))
 
-pub returns-in_err-open-clause-goes : goal.returns-in_err-open-clause-goes
-returns-in_err-open-clause-goes c = λ s L held K w.
-    let p = err_from_is_err_and c.from_residual-in_err-open.result c.from_residual-in_err-open.ensures.1 in
-    rw (p.1, p.2) (c.in_err-open.ensures.goes s _ _ (seq (c.in_ok-word.ensures.goes s _ _ (seq (entered (seq w))))))
-
-pub returns-in_err-first-clause-goes : goal.returns-in_err-first-clause-goes
-returns-in_err-first-clause-goes c = λ s L held K w.
-    let p = err_from_is_err_and c.from_residual-in_err-first.result c.from_residual-in_err-first.ensures.1 in
-    rw (p.1, p.2) (c.in_err-first.ensures.goes s _ _ (seq (c.in_ok-open.ensures.goes s _ _ (seq (c.in_ok-word.ensures.goes s _ _ (seq (entered (seq w))))))))
-
-pub returns-in_err-first_end-clause-goes : goal.returns-in_err-first_end-clause-goes
-returns-in_err-first_end-clause-goes c = λ s L held K w.
-    let p = err_from_is_err_and c.from_residual-in_err-first_end.result c.from_residual-in_err-first_end.ensures.1 in
-    rw (p.1, p.2) (c.in_err-first_end.ensures.goes s _ _ (seq (c.in_ok-first.ensures.goes s _ _ (seq (c.in_ok-open.ensures.goes s _ _ (seq (c.in_ok-word.ensures.goes s _ _ (seq (entered (seq w))))))))))
-
-pub returns-in_err-test-clause-goes : goal.returns-in_err-test-clause-goes
-returns-in_err-test-clause-goes c = λ s L held K w.
-    let p = err_from_is_err_and c.from_residual-in_err-test.result c.from_residual-in_err-test.ensures.1 in
-    rw (p.1, p.2) (c.in_err-test.ensures.goes s _ _ (seq (c.in_ok-first_end.ensures.goes s _ _ (seq (c.in_ok-first.ensures.goes s _ _ (seq (c.in_ok-open.ensures.goes s _ _ (seq (c.in_ok-word.ensures.goes s _ _ (seq (entered (seq w))))))))))))
-
-pub returns-in_err-test_end-clause-goes : goal.returns-in_err-test_end-clause-goes
-returns-in_err-test_end-clause-goes c = λ s L held K w.
-    let p = err_from_is_err_and c.from_residual-in_err-test_end.result c.from_residual-in_err-test_end.ensures.1 in
-    rw (p.1, p.2) (c.in_err-test_end.ensures.goes s _ _ (seq (c.in_ok-test.ensures.goes s _ _ (seq (c.in_ok-first_end.ensures.goes s _ _ (seq (c.in_ok-first.ensures.goes s _ _ (seq (c.in_ok-open.ensures.goes s _ _ (seq (c.in_ok-word.ensures.goes s _ _ (seq (entered (seq w))))))))))))))
-
-pub returns-in_err-next-clause-goes : goal.returns-in_err-next-clause-goes
-returns-in_err-next-clause-goes c = λ s L held K w.
-    let p = err_from_is_err_and c.from_residual-in_err-next.result c.from_residual-in_err-next.ensures.1 in
-    rw (p.1, p.2) (c.in_err-next.ensures.goes s _ _ ((c.in_ok-test_end.ensures.goes s _ _ (seq (c.in_ok-test.ensures.goes s _ _ (seq (c.in_ok-first_end.ensures.goes s _ _ (seq (c.in_ok-first.ensures.goes s _ _ (seq (c.in_ok-open.ensures.goes s _ _ (seq (c.in_ok-word.ensures.goes s _ _ (seq (entered (seq w))))))))))))))))
-
-pub returns-in_err-close-clause-goes : goal.returns-in_err-close-clause-goes
-returns-in_err-close-clause-goes c = λ s L held K w.
-    let p = err_from_is_err_and c.from_residual-in_err-close.result c.from_residual-in_err-close.ensures.1 in
-    rw (p.1, p.2) (c.in_err-close.ensures.goes s _ _ ((c.in_ok-next.ensures.goes s _ _ ((c.in_ok-test_end.ensures.goes s _ _ (seq (c.in_ok-test.ensures.goes s _ _ (seq (c.in_ok-first_end.ensures.goes s _ _ (seq (c.in_ok-first.ensures.goes s _ _ (seq (c.in_ok-open.ensures.goes s _ _ (seq (c.in_ok-word.ensures.goes s _ _ (seq (entered (seq w))))))))))))))))))
-
 pub returns-clause-goes : goal.returns-clause-goes
-returns-clause-goes c = λ s L held K w. c.in_ok-close.ensures.goes s _ _ ((c.in_ok-next.ensures.goes s _ _ ((c.in_ok-test_end.ensures.goes s _ _ (seq (c.in_ok-test.ensures.goes s _ _ (seq (c.in_ok-first_end.ensures.goes s _ _ (seq (c.in_ok-first.ensures.goes s _ _ (seq (c.in_ok-open.ensures.goes s _ _ (seq (c.in_ok-word.ensures.goes s _ _ (seq (entered (seq w)))))))))))))))))
+returns-clause-goes c = λ s L held K w. c.head_behind.ensures.goes s _ _ (split (c.in_ok-word.ensures.goes s _ _ (seq (entered (seq w)))))
