@@ -11,7 +11,7 @@ ghost use Rattle.xmp_tree.specs.Spell.{◌at◌};
 ghost use Rattle.xmp_tree.specs.Fits as f;
 ghost use Rattle.xmp_tree.specs.View.{stmt_view, items_view, tasks_view};
 ghost use Rattle.xmp_parse.specs.Going.{Parses};
-ghost use Rattle.xmp_parse.specs.Lines.{part_of_directive};
+ghost use Rattle.xmp_parse.specs.Lines.{part_of_directive, part_of_mapping, IsPlainWord};
 ghost use Rattle.xmp_parse.specs.Blocks.{spell_item, FitsItem, Directs, Holds, LeavesElse};
 
 use crate::declarations::declaration;
@@ -23,7 +23,7 @@ use crate::lines::plain_line;
 use crate::mappings::mapping_line;
 use crate::plain_statements::plain;
 use crate::reader::{Parsed, Reader};
-use crate::words::{DirectiveWord, directive_word, mapping_word};
+use crate::words::{DirectiveWord, MappingWord, directive_word, mapping_word};
 use sqlite_items::{Boxed, Items};
 use std::alloc::{AllocError, Global};
 use xmp_base::Place;
@@ -132,10 +132,34 @@ fn line_in_block(alloc: Global, r: Reader<'_>) -> Parsed<'_, BlockItem<Stmt>>
     ensures shorter { IfOk result (λ x. length x.1.tokens.now < length r.entry.tokens.now) }
 {
     let (start, r) = r.pragma()?;
-    if let Some(word) = mapping_word(r) {
-        let (mapping, r) = mapping_line(alloc, word, start, r)?;
-        return Ok((BlockItem::Mapping(mapping), r));
+    match mapping_word(r) {
+        Some(word) => mapping_item(alloc, word, start, r),
+        None => directive_item(alloc, start, r),
     }
+}
+
+fn mapping_item(
+    alloc: Global,
+    word: MappingWord,
+    start: Place,
+    r: Reader<'_>,
+) -> Parsed<'_, BlockItem<Stmt>>
+    ensures goes { Parses (g.rule (part_of_mapping word)) r.entry result }
+    ensures reads { IfOk result (λ x. (t.Pragma at start) ∷ r.entry.tokens.now ≡ spell_item x.0 x.1.tokens.now) }
+    ensures fits { IfOk result (λ x. FitsItem x.0) }
+    ensures shorter { IfOk result (λ x. length x.1.tokens.now < length r.entry.tokens.now) }
+{
+    let (mapping, r) = mapping_line(alloc, word, start, r)?;
+    Ok((BlockItem::Mapping(mapping), r))
+}
+
+#[cycle(statement)]
+fn directive_item(alloc: Global, start: Place, r: Reader<'_>) -> Parsed<'_, BlockItem<Stmt>>
+    ensures goes { Directs r.entry result }
+    ensures reads { IfOk result (λ x. (t.Pragma at start) ∷ r.entry.tokens.now ≡ spell_item x.0 x.1.tokens.now) }
+    ensures fits { IfOk result (λ x. FitsItem x.0) }
+    ensures shorter { IfOk result (λ x. length x.1.tokens.now < length r.entry.tokens.now) }
+{
     let (statement, r) = directive(alloc, start, r)?;
     Ok((BlockItem::Stmt(statement), r))
 }
@@ -236,7 +260,6 @@ fn directive(alloc: Global, start: Place, r: Reader<'_>) -> Parsed<'_, Stmt>
 
 /// The directive of a word.
 #[cycle(statement)]
-#[tactic(auto, using(crate::proofs::BlockViews::view_plain, crate::proofs::BlockViews::view_task))]
 fn directive_line(
     alloc: Global,
     word: DirectiveWord,
@@ -251,19 +274,44 @@ fn directive_line(
 {
     match word {
         DirectiveWord::Loop => loop_directive(alloc, start, r),
-        DirectiveWord::Task => {
-            let (task, r) = task(alloc, start, r)?;
-            Ok((Stmt::Task(task.0, task.1), r))
-        }
+        DirectiveWord::Task => task_statement(alloc, start, r),
         DirectiveWord::Tasks => tasks(alloc, start, r),
-        DirectiveWord::Reflect
-        | DirectiveWord::Barrier
-        | DirectiveWord::Bcast
-        | DirectiveWord::Gmove => {
-            let (line, r) = plain_line(alloc, word, start, r)?;
-            Ok((Stmt::Plain(line), r))
-        }
+        DirectiveWord::Reflect => plain_directive(alloc, DirectiveWord::Reflect, start, r),
+        DirectiveWord::Barrier => plain_directive(alloc, DirectiveWord::Barrier, start, r),
+        DirectiveWord::Bcast => plain_directive(alloc, DirectiveWord::Bcast, start, r),
+        DirectiveWord::Gmove => plain_directive(alloc, DirectiveWord::Gmove, start, r),
     }
+}
+
+/// A directive that holds no statement, from its word on.
+#[tactic(auto, using(crate::proofs::BlockViews::view_plain))]
+fn plain_directive(
+    alloc: Global,
+    word: DirectiveWord,
+    start: Place,
+    r: Reader<'_>,
+) -> Parsed<'_, Stmt>
+    ensures goes { IsPlainWord word → Parses (g.rule (part_of_directive word)) r.entry result }
+    ensures reads { IfOk result (λ x. (t.Pragma at start) ∷ r.entry.tokens.now ≡ sp.spell_stmt (stmt_view x.0) x.1.tokens.now) }
+    ensures fits { IfOk result (λ x. f.FitsStmt (stmt_view x.0)) }
+    ensures no_else { IfOk result (λ x. LeavesElse (stmt_view x.0) x.1.tokens.now) }
+    ensures shorter { IfOk result (λ x. length x.1.tokens.now < length r.entry.tokens.now) }
+{
+    let (line, r) = plain_line(alloc, word, start, r)?;
+    Ok((Stmt::Plain(line), r))
+}
+
+#[cycle(statement)]
+#[tactic(auto, using(crate::proofs::BlockViews::view_task))]
+fn task_statement(alloc: Global, start: Place, r: Reader<'_>) -> Parsed<'_, Stmt>
+    ensures goes { Parses (g.rule p.task) r.entry result }
+    ensures reads { IfOk result (λ x. (t.Pragma at start) ∷ r.entry.tokens.now ≡ sp.spell_stmt (stmt_view x.0) x.1.tokens.now) }
+    ensures fits { IfOk result (λ x. f.FitsStmt (stmt_view x.0)) }
+    ensures no_else { IfOk result (λ x. LeavesElse (stmt_view x.0) x.1.tokens.now) }
+    ensures shorter { IfOk result (λ x. length x.1.tokens.now < length r.entry.tokens.now) }
+{
+    let (task, r) = task(alloc, start, r)?;
+    Ok((Stmt::Task(task.0, task.1), r))
 }
 
 #[cycle(statement)]

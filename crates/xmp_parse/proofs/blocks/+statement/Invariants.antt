@@ -39,10 +39,16 @@ abbrev pub decreases-for_statement : goal.decreases-for_statement
 decreases-for_statement l = 16 * length l.r.tokens.now + 2
 
 abbrev pub decreases-directive : goal.decreases-directive
-decreases-directive l = 16 * length l.r.tokens.now + 2
+decreases-directive l = 16 * length l.r.tokens.now + 3
+
+abbrev pub decreases-directive_item : goal.decreases-directive_item
+decreases-directive_item l = 16 * length l.r.tokens.now + 4
 
 abbrev pub decreases-directive_line : goal.decreases-directive_line
-decreases-directive_line l = 16 * length l.r.tokens.now + 1
+decreases-directive_line l = 16 * length l.r.tokens.now + 2
+
+abbrev pub decreases-task_statement : goal.decreases-task_statement
+decreases-task_statement l = 16 * length l.r.tokens.now + 1
 
 abbrev pub decreases-loop_directive : goal.decreases-loop_directive
 decreases-loop_directive l = 16 * length l.r.tokens.now

@@ -18,5 +18,5 @@ returns-clause-last c = ends_so _ _ c.loop-alloc.parts (sym c.is_end.ensures ∙
 
 pub loop-alloc-preserved : goal.loop-alloc-preserved
 loop-alloc-preserved c =
-    one_part c.args.r c.loop-alloc.rest c.in_ok-part.r c.loop-alloc.parts c.push.new.self c.loop-alloc.function c.is_function.result c.in_ok-part.part c.in_ok-push.ensures.ok c.is_function.ensures c.loop-alloc.invariant
+    one_part c.args.r c.loop-alloc.rest c.in_ok-part.r c.loop-alloc.parts c.push.new.self c.loop-alloc.function c.is_function-function.result c.in_ok-part.part c.in_ok-push.ensures.ok c.is_function-function.ensures c.loop-alloc.invariant
     (λ s L K w. c.in_ok-part.ensures.goes s _ _ (next_part _ (sym c.is_end.ensures ∙ c.loop-alloc-test.true) w)) c.in_ok-part.ensures.reads c.in_ok-part.ensures.fits

@@ -9,13 +9,13 @@ use Rattle.xmp_parse.proofs.programs.whole.Goals as goal
 pub returns-in_err-tree-clause-refused : goal.returns-in_err-tree-clause-refused
 returns-in_err-tree-clause-refused c =
     let p = err_from_is_err_and c.from_residual.result c.from_residual.ensures.1 in
-    rw (p.1, p.2) (c.in_err-tree.ensures.goes _ [] [] (begun _ c.args.tokens.now c.start.ensures.now c.start.ensures.base c.requires))
+    rw (p.1, p.2) (c.in_err-tree.ensures.goes _ [] [] (begun c.start-depth.result c.args.tokens.now c.start-depth.ensures.now c.start-depth.ensures.base c.requires.finished))
 
 pub returns-then-is_empty-clause-program : goal.returns-then-is_empty-clause-program
 returns-then-is_empty-clause-program c =
     whole_program c.args.tokens.now c.in_ok-tree.r.tokens.now c.in_ok-tree.tree _ c.in_ok-tree.ensures.reads (empty_list _ _ c.is_empty.ensures c.if-is_empty.true) c.in_ok-tree.ensures.fits
-    (c.in_ok-tree.ensures.goes _ [] [] (begun _ c.args.tokens.now c.start.ensures.now c.start.ensures.base c.requires))
+    (c.in_ok-tree.ensures.goes _ [] [] (begun c.start-depth.result c.args.tokens.now c.start-depth.ensures.now c.start-depth.ensures.base c.requires.finished))
 
-pub returns-clause-refused : goal.returns-clause-refused
-returns-clause-refused c =
-    rw c.unexpected.ensures.value (not_whole _ _ c.in_ok-tree.r.tokens.now (not_empty _ _ c.is_empty.ensures c.if-is_empty.false) (c.in_ok-tree.ensures.goes _ [] [] (begun _ c.args.tokens.now c.start.ensures.now c.start.ensures.base c.requires)))
+pub returns-else-is_empty-clause-refused : goal.returns-else-is_empty-clause-refused
+returns-else-is_empty-clause-refused c =
+    rw c.unexpected.ensures.value (not_whole _ _ c.in_ok-tree.r.tokens.now (not_empty _ _ c.is_empty.ensures c.if-is_empty.false) (c.in_ok-tree.ensures.goes _ [] [] (begun c.start-depth.result c.args.tokens.now c.start-depth.ensures.now c.start-depth.ensures.base c.requires.finished)))
