@@ -1,6 +1,6 @@
 -- The answer on a whole text.
-use Rattle.std.proofs.Common.{◌≡◌, ◌≤◌, ◌+◌, ℕ, suc, Bool, true, false, List, [], ◌∷◌, ◌++◌, length, All, refl, sym, ap, ◌∙◌, subst, append_assoc, inl, inr, arith}
-use Rattle.std.specs.Prelude.{◌||◌, ◌==◌}
+use Rattle.std.proofs.Common.{◌≡◌, ◌≤◌, ◌+◌, ℕ, suc, Bool, true, false, List, [], ◌∷◌, ◌++◌, length, All, refl, sym, ap, ◌∙◌, subst, append_assoc, inl, inr, ⊎_elim, arith}
+use Rattle.std.specs.Prelude.{◌||◌, ◌==◌, Result, Ok, Err, IfErr}
 use Rattle.std.proofs.lemmas.List.Elements.{All-nil}
 use Rattle.std.proofs.lemmas.List.{length-append}
 use Rattle.xmp_base.specs.declared.place.Place.{Place}
@@ -71,9 +71,11 @@ tokens_of_reading : (s u : State) (ds : List ℕ) → Reads rule s ds u → (xs 
 tokens_of_reading s u ds here = ([], refl, refl)
 tokens_of_reading (reading D K ts) u ds (onward {t = reading E M us} {ds = as'} {es = bs} e r) =
     let a = tokens_of_step D K ts as' E M us (local D K ts as' E M us e) in
-    let b = tokens_of_reading (reading E M us) u bs r in
-    (a.0 ++ b.0, a.1 ∙ (ap (λ (l : List Token). a.0 ++ l) b.1 ∙ sym (append_assoc a.0 b.0 (left_at u))),
-    length-append a.0 b.0 ∙ (ap (λ (n : ℕ). n + length b.0) a.2 ∙ (ap (λ (n : ℕ). length as' + n) b.2 ∙ sym (length-append as' bs))))
+    let b = tokens_of_reading (reading E M us) u bs r in (
+      a.0 ++ b.0,
+      a.1 ∙ (ap (λ (l : List Token). a.0 ++ l) b.1 ∙ sym (append_assoc a.0 b.0 (left_at u))),
+      length-append a.0 b.0 ∙ (ap (λ (n : ℕ). n + length b.0) a.2 ∙ (ap (λ (n : ℕ). length as' + n) b.2 ∙ sym (length-append as' bs))),
+    )
 
 last_token : (x : Token) (xs : List Token) → (front : List Token) × (bad : Token) × (x ∷ xs ≡ front ++ bad ∷ [])
 last_token x [] = ([], x, refl)
@@ -114,3 +116,12 @@ deep_fault ts left e S h =
       place = record { front = w.0; token = w.1; after = w.2; whole = w.3; count = w.4; place = refl };
       rule = inr (refl, S);
     })
+
+-- A program is refused for want of memory alone.
+no_break : (ts : List Token) (e : Fault) → ((left : ℕ) → Stuck start program_rules ts left → ⊥) → ((left : ℕ) → TooDeep start program_rules ts left → ⊥) → IsFault ts e → e ≡ fault.NoMemory
+no_break ts fault.NoMemory h g f = refl
+no_break ts (fault.Refused y) h g f = ⊎_elim (λ p. absurd (h f.left p.1)) (λ p. absurd (g f.left p.1)) f.rule
+
+pub only_memory : (ts : List Token) (r : Result Tree Fault) → ((left : ℕ) → Stuck start program_rules ts left → ⊥) → ((left : ℕ) → TooDeep start program_rules ts left → ⊥) → IfErr r (λ e. IsFault ts e) → IfErr r (λ e. e ≡ fault.NoMemory)
+only_memory ts (Ok x) h g f = tt
+only_memory ts (Err e) h g f = no_break ts e h g f

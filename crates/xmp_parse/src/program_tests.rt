@@ -44,7 +44,10 @@ const TEXTS: [(&[u8], Option<(u16, u32, u32)>); 24] = [
     (b"int a[2] = 1; int main(){}", Some((1, 1, 10))),
     (b"long x; long int y; int main(){}", None),
     (b"int long x; int main(){}", Some((1, 1, 5))),
-    (b"int f(void){} long g(int a, long int b){} int main(){}", None),
+    (
+        b"int f(void){} long g(int a, long int b){} int main(){}",
+        None,
+    ),
     (b"int f(int){}", Some((1, 1, 10))),
     (b"int f(void, int a){}", Some((1, 1, 11))),
     (b"int f(int a,){}", Some((1, 1, 13))),
@@ -72,7 +75,10 @@ const STATEMENTS: [(&str, Option<(u16, u32, u32)>); 103] = [
     ("y = x :[3;", Some((1, 1, 21))),
     ("x = 1 + 2 * 3 - 4 % 5 / 6;", None),
     ("x = 1 +;", Some((1, 1, 19))),
-    ("x = a << 2 >> 1 < 3 <= 4 > 5 >= 6 == 7 != 8 & 9 ^ 10 | 11 && 12 || 13;", None),
+    (
+        "x = a << 2 >> 1 < 3 <= 4 > 5 >= 6 == 7 != 8 & 9 ^ 10 | 11 && 12 || 13;",
+        None,
+    ),
     ("x = a || ;", Some((1, 1, 21))),
     ("x = * 2;", Some((1, 1, 16))),
     ("x = -+~!a;", None),
@@ -103,7 +109,10 @@ const STATEMENTS: [(&str, Option<(u16, u32, u32)>); 103] = [
     ("x = a ? (b : [1]) : c;", None),
     ("x = a ? f(b :[2]) : c;", None),
     ("x = a ? b :[1] ;", Some((1, 1, 27))),
-    ("x += 1; x -= 1; x *= 1; x /= 1; x %= 1; x <<= 1; x >>= 1; x &= 1; x |= 1; x ^= 1;", None),
+    (
+        "x += 1; x -= 1; x *= 1; x /= 1; x %= 1; x <<= 1; x >>= 1; x &= 1; x |= 1; x ^= 1;",
+        None,
+    ),
     ("x == 1;", Some((1, 1, 14))),
     ("a[1] = 2; a:[1] = 2; a[1]:[2] += 3;", None),
     ("a[1] 2;", Some((1, 1, 17))),
@@ -180,7 +189,11 @@ const LINES: [(&str, &str, Option<(u16, u32, u32)>); 75] = [
     ("nodes p[* 2]", "", Some((1, 2, 23))),
     ("template t[8]", "", None),
     ("template t[]", "", Some((1, 2, 24))),
-    ("distribute t[block][cyclic][cyclic(2)][*][gblock({1,2})] onto p", "", None),
+    (
+        "distribute t[block][cyclic][cyclic(2)][*][gblock({1,2})] onto p",
+        "",
+        None,
+    ),
     ("distribute t onto p", "", Some((1, 2, 26))),
     ("distribute t[blocks] onto p", "", Some((1, 2, 26))),
     ("distribute t[cyclic()] onto p", "", Some((1, 2, 33))),
@@ -204,14 +217,30 @@ const LINES: [(&str, &str, Option<(u16, u32, u32)>); 75] = [
     ("shadow a[x:[1]:2]", "", None),
     ("loop (i, j) on t[i][j+1]", "for (;;) ;", None),
     ("loop on t[i]", "for (;;) ;", None),
-    ("loop on t[i] reduction(+:s) reduction(max:m, n)", "for (;;) ;", None),
+    (
+        "loop on t[i] reduction(+:s) reduction(max:m, n)",
+        "for (;;) ;",
+        None,
+    ),
     ("loop on t[i]", ";", Some((1, 3, 1))),
     ("loop t[i]", "for (;;) ;", Some((1, 2, 18))),
     ("loop () on t[i]", "for (;;) ;", Some((1, 2, 19))),
     ("loop (i) on t", "for (;;) ;", Some((1, 2, 26))),
-    ("loop on t[i] reduction(-:s)", "for (;;) ;", Some((1, 2, 36))),
-    ("loop on t[i] reduction(+ s)", "for (;;) ;", Some((1, 2, 38))),
-    ("loop on t[i] reduction(mix:s)", "for (;;) ;", Some((1, 2, 36))),
+    (
+        "loop on t[i] reduction(-:s)",
+        "for (;;) ;",
+        Some((1, 2, 36)),
+    ),
+    (
+        "loop on t[i] reduction(+ s)",
+        "for (;;) ;",
+        Some((1, 2, 38)),
+    ),
+    (
+        "loop on t[i] reduction(mix:s)",
+        "for (;;) ;",
+        Some((1, 2, 36)),
+    ),
     ("loop on t[1]", "for (;;) ;", Some((1, 2, 23))),
     ("reflect (a, b)", "", None),
     ("reflect a", "", Some((1, 2, 21))),
@@ -236,7 +265,11 @@ const LINES: [(&str, &str, Option<(u16, u32, u32)>); 75] = [
     ("task p[0]", ";", Some((1, 2, 18))),
     ("task on p[0]", "int x;", Some((1, 3, 1))),
     ("task on p[0]", "", Some((1, 4, 1))),
-    ("tasks", "{\n#pragma xmp task on p[0]\n;\n#pragma xmp task on p[1]\n;\n}", None),
+    (
+        "tasks",
+        "{\n#pragma xmp task on p[0]\n;\n#pragma xmp task on p[1]\n;\n}",
+        None,
+    ),
     ("tasks", "{ }", None),
     ("tasks", "{ ; }", Some((1, 3, 3))),
     ("tasks", ";", Some((1, 3, 1))),
@@ -261,7 +294,11 @@ fn statements_are_judged(rt: HostRuntime) -> Result<(), Fail> {
         text.push_str("int main(){")?;
         text.push_str(statement)?;
         text.push('}')?;
-        assert_eq!(rt; broken(rt.alloc(), text.as_bytes()), expected, "{statement}");
+        assert_eq!(rt;
+            broken(rt.alloc(), text.as_bytes()),
+            expected,
+            "{statement}"
+        );
     }
     Ok(())
 }
@@ -283,36 +320,140 @@ fn directives_are_judged(rt: HostRuntime) -> Result<(), Fail> {
 // A beginning, a piece that opens a part, how often, the middle, a piece that closes one, and the end.
 const NESTED: [(&str, &str, usize, &str, &str, &str, Option<(u16, u32, u32)>); 32] = [
     ("int x = ", "(", 128, "1", ")", ";int main(){}", None),
-    ("int x = ", "(", 129, "1", ")", ";int main(){}", Some((2, 1, 137))),
+    (
+        "int x = ",
+        "(",
+        129,
+        "1",
+        ")",
+        ";int main(){}",
+        Some((2, 1, 137)),
+    ),
     ("int x = ", "a[", 128, "1", "]", ";int main(){}", None),
-    ("int x = ", "a[", 129, "1", "]", ";int main(){}", Some((2, 1, 266))),
+    (
+        "int x = ",
+        "a[",
+        129,
+        "1",
+        "]",
+        ";int main(){}",
+        Some((2, 1, 266)),
+    ),
     ("int x = ", "f(", 128, "1", ")", ";int main(){}", None),
-    ("int x = ", "f(", 129, "1", ")", ";int main(){}", Some((2, 1, 266))),
+    (
+        "int x = ",
+        "f(",
+        129,
+        "1",
+        ")",
+        ";int main(){}",
+        Some((2, 1, 266)),
+    ),
     ("int x = ", "a:[", 128, "1", "]", ";int main(){}", None),
-    ("int x = ", "a:[", 129, "1", "]", ";int main(){}", Some((2, 1, 395))),
+    (
+        "int x = ",
+        "a:[",
+        129,
+        "1",
+        "]",
+        ";int main(){}",
+        Some((2, 1, 395)),
+    ),
     ("int x = ", "- ", 128, "1", "", ";int main(){}", None),
-    ("int x = ", "- ", 129, "1", "", ";int main(){}", Some((2, 1, 265))),
+    (
+        "int x = ",
+        "- ",
+        129,
+        "1",
+        "",
+        ";int main(){}",
+        Some((2, 1, 265)),
+    ),
     ("int x = ", "(int)", 127, "1", "", ";int main(){}", None),
     ("int x = ", "(int)", 128, "1", "", ";int main(){}", None),
-    ("int x = ", "(int)", 129, "1", "", ";int main(){}", Some((2, 1, 649))),
+    (
+        "int x = ",
+        "(int)",
+        129,
+        "1",
+        "",
+        ";int main(){}",
+        Some((2, 1, 649)),
+    ),
     ("int x = 1", "+1", 128, "", "", ";int main(){}", None),
-    ("int x = 1", "+1", 129, "", "", ";int main(){}", Some((2, 1, 266))),
+    (
+        "int x = 1",
+        "+1",
+        129,
+        "",
+        "",
+        ";int main(){}",
+        Some((2, 1, 266)),
+    ),
     ("int x = ", "1?1:", 64, "1", "", ";int main(){}", None),
-    ("int x = ", "1?1:", 65, "1", "", ";int main(){}", Some((2, 1, 266))),
+    (
+        "int x = ",
+        "1?1:",
+        65,
+        "1",
+        "",
+        ";int main(){}",
+        Some((2, 1, 266)),
+    ),
     ("int x = ", "1?", 64, "1", ":1", ";int main(){}", None),
-    ("int x = ", "1?", 65, "1", ":1", ";int main(){}", Some((2, 1, 266))),
+    (
+        "int x = ",
+        "1?",
+        65,
+        "1",
+        ":1",
+        ";int main(){}",
+        Some((2, 1, 266)),
+    ),
     ("int main()", "{", 128, "", "}", "", None),
     ("int main()", "{", 129, "", "}", "", Some((2, 1, 139))),
     ("int main(){", "while(1)", 126, ";", "", "}", None),
-    ("int main(){", "while(1)", 127, ";", "", "}", Some((2, 1, 1025))),
+    (
+        "int main(){",
+        "while(1)",
+        127,
+        ";",
+        "",
+        "}",
+        Some((2, 1, 1025)),
+    ),
     ("int main(){", "if(1)", 126, ";", "", "}", None),
     ("int main(){", "if(1)", 127, ";", "", "}", Some((2, 1, 644))),
     ("int main(){", "for(;;)", 126, ";", "", "}", None),
-    ("int main(){", "for(;;)", 127, ";", "", "}", Some((2, 1, 897))),
+    (
+        "int main(){",
+        "for(;;)",
+        127,
+        ";",
+        "",
+        "}",
+        Some((2, 1, 897)),
+    ),
     ("int main(){", "if(1);else ", 126, ";", "", "}", None),
     ("int main(){ x = 1", "+1", 127, "", "", ";}", None),
-    ("int main(){ x = 1", "+1", 128, "", "", ";}", Some((2, 1, 272))),
-    ("int x = 1", "+f(1+1+1+1,2+2)", 60, "", "", ";int main(){}", None),
+    (
+        "int main(){ x = 1",
+        "+1",
+        128,
+        "",
+        "",
+        ";}",
+        Some((2, 1, 272)),
+    ),
+    (
+        "int x = 1",
+        "+f(1+1+1+1,2+2)",
+        60,
+        "",
+        "",
+        ";int main(){}",
+        None,
+    ),
     ("int main(){ f(1", "+1", 126, "", "", ",1+1);}", None),
 ];
 
@@ -324,7 +465,15 @@ fn repeat(text: &mut String, piece: &str, count: usize) -> Result<(), Fail> {
 }
 
 /// So many pieces one in another, between a beginning and an end.
-fn nested(alloc: Global, begin: &str, open: &str, count: usize, middle: &str, close: &str, end: &str) -> Result<String, Fail> {
+fn nested(
+    alloc: Global,
+    begin: &str,
+    open: &str,
+    count: usize,
+    middle: &str,
+    close: &str,
+    end: &str,
+) -> Result<String, Fail> {
     let mut text = String::new(alloc);
     text.push_str(begin)?;
     repeat(&mut text, open, count)?;
@@ -338,7 +487,11 @@ fn nested(alloc: Global, begin: &str, open: &str, count: usize, middle: &str, cl
 fn depth_is_limited(rt: HostRuntime) -> Result<(), Fail> {
     for (begin, open, count, middle, close, end, expected) in NESTED {
         let text = nested(rt.alloc(), begin, open, count, middle, close, end)?;
-        assert_eq!(rt; broken(rt.alloc(), text.as_bytes()), expected, "{begin} {open} {count}");
+        assert_eq!(rt;
+            broken(rt.alloc(), text.as_bytes()),
+            expected,
+            "{begin} {open} {count}"
+        );
     }
     Ok(())
 }

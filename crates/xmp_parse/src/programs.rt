@@ -3,6 +3,8 @@ ghost use Rattle.std.specs.Prelude.{◌≡◌, ◌≤◌, ◌<◌, ◌&&◌, IfO
 ghost use Rattle.xmp_lex.specs.declared.token.Token.{Token};
 ghost use Rattle.xmp_lex.specs.declared.token.TokenKind.TheVariants as t;
 ghost use Rattle.xmp_lex.specs.Lines.{IsFinished};
+ghost use Rattle.xmp_base.specs.declared.refusal.Fault.TheVariants as fault;
+ghost use Rattle.xmp_tree.specs.declared.program.Tree.{Tree};
 ghost use Rattle.xmp_tree.specs.Parts as p;
 ghost use Rattle.xmp_tree.specs.Reading.{part, reading};
 ghost use Rattle.xmp_tree.specs.Grammar.{is_finish};
@@ -16,7 +18,6 @@ ghost use Rattle.xmp_parse.specs.Kinds.{next_is};
 ghost use Rattle.xmp_parse.specs.Programs.{definition_rule, is_function, LastIs, ReadsPart, ReadsParts, ReadsProgram, IsFault};
 
 use crate::declarations::declaration_rest;
-
 use crate::effect::{Effect, start};
 use crate::functions::function_rest;
 use crate::mappings::mapping;
@@ -27,7 +28,7 @@ use sqlite_items::Items;
 use std::alloc::Global;
 use xmp_base::Fault;
 use xmp_lex::{Mark, Token};
-use xmp_tree::{TopItem, Tree};
+use xmp_tree::{TopItem, Tree, program_or_refused};
 
 /// A function, or a declaration outside functions.
 fn definition(alloc: Global, r: Reader<'_>) -> Parsed<'_, TopItem>
@@ -119,7 +120,7 @@ fn whole(alloc: Global, tokens: &[Token]) -> Result<Tree, Stop>
 }
 
 /// The program that the tokens are, or the first token at which they are none.
-pub fn parse(alloc: Global, tokens: &[Token]) -> Result<Tree, Fault>
+fn judged(alloc: Global, tokens: &[Token]) -> Result<Tree, Fault>
     requires finished { IsFinished tokens.now }
     ensures program { IfOk result (λ x. IsProgram tokens.now x) }
     ensures fault { IfErr result (λ e. IsFault tokens.now e) }
@@ -130,4 +131,16 @@ pub fn parse(alloc: Global, tokens: &[Token]) -> Result<Tree, Fault>
         Err(Stop::Unexpected(left)) => Err(refusal(tokens, 1, left)),
         Err(Stop::TooDeep(left)) => Err(refusal(tokens, 2, left)),
     }
+}
+
+/// The program that the tokens are. They are refused at the first token at fault: by rule 1 where the tokens up to it
+/// begin no program, by rule 2 where it stands at a depth above 128. Want of memory may be answered at any time.
+pub fn parse(alloc: Global, tokens: &[Token]) -> Result<Tree, Fault>
+    requires finished { IsFinished tokens.now }
+    ensures program { IfOk result (λ x. IsProgram tokens.now x) }
+    ensures fault { IfErr result (λ e. IsFault tokens.now e) }
+    ensures no_other { (x : Tree) → IsProgram tokens.now x → IfErr result (λ e. e ≡ fault.NoMemory) }
+{
+    program_or_refused();
+    judged(alloc, tokens)
 }

@@ -250,7 +250,7 @@ pub directive_line-returns-in-Tasks-clause-goes : goal.directive_line-returns-in
 directive_line-returns-in-Tasks-clause-goes n c = rw c.in-Tasks.is c.tasks.ensures.goes
 
 pub directive_line-returns-in-Reflect-clause-goes : goal.directive_line-returns-in-Reflect-clause-goes
-directive_line-returns-in-Reflect-clause-goes n c = rw c.in-Reflect.is (c.plain_directive-in-Reflect.ensures.goes tt)
+directive_line-returns-in-Reflect-clause-goes n c = rw c.in-Reflect.is (c.plain_directive.ensures.goes tt)
 
 pub directive_line-returns-in-Barrier-clause-goes : goal.directive_line-returns-in-Barrier-clause-goes
 directive_line-returns-in-Barrier-clause-goes n c = rw c.in-Barrier.is (c.plain_directive-in-Barrier.ensures.goes tt)
