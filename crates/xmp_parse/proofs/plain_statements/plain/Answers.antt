@@ -28,7 +28,7 @@ pub returns-then-is_of-clause-goes : goal.returns-then-is_of-clause-goes
 returns-then-is_of-clause-goes c = λ h s L K w. c.simple_statement.ensures.goes s _ _ (stepped_statement (sym c.is_of.ensures ∙ c.if-is_of.true) w)
 
 pub returns-then-is_name-clause-goes : goal.returns-then-is_name-clause-goes
-returns-then-is_name-clause-goes c = λ h s L K w. c.simple_statement-2.ensures.goes s _ _ (named_statement (sym c.is_name.ensures ∙ c.if-is_name.true) w)
+returns-then-is_name-clause-goes c = λ h s L K w. c.simple_statement-then-is_name.ensures.goes s _ _ (named_statement (sym c.is_name.ensures ∙ c.if-is_name.true) w)
 
 pub returns-clause-goes : goal.returns-clause-goes
 returns-clause-goes c = λ h s L K w. rw c.unexpected.ensures.value (no_statement s _ _ _ h (sym c.is_mark.ensures ∙ c.if-is_mark.false) (sym c.is_word.ensures ∙ c.if-is_word.false) (sym c.is_word-2.ensures ∙ c.if-is_word-2.false) (sym c.is_word-3.ensures ∙ c.if-is_word-3.false) (sym c.is_word-4.ensures ∙ c.if-is_word-4.false) (sym c.is_of.ensures ∙ c.if-is_of.false) (sym c.is_name.ensures ∙ c.if-is_name.false) w)
