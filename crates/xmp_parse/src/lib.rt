@@ -1,5 +1,4 @@
-//! The parser: from the tokens of a text to its tree, or to the first token that no program has there. As yet it reads
-//! expressions, declarations, the lines of mappings, and the lines of directives that hold no statement.
+//! The parser: from the tokens of a text to its program, or to the first token at which they are none.
 //!
 //! Each function reads one part of the grammar at the front of the tokens that are left: `goes` says that every reading
 //! of a program that comes to it goes on behind the part, or that the first bad token is the one that it answers.
