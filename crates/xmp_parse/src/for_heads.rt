@@ -130,6 +130,19 @@ fn last_parts(alloc: Global, r: Reader<'_>) -> Parsed<'_, LastParts>
     Ok(((test, test_end, next), r))
 }
 
+/// All three parts of `for`, with the semicolons between them.
+fn all_parts(alloc: Global, r: Reader<'_>) -> Parsed<'_, (LastParts, Option<ForFirst>, Place)>
+    ensures goes { Parses (g.optional (λ k. not (g.is_mark m.Semicolon k)) (part p.for_first) · g.semicolon · g.optional (λ k. not (g.is_mark m.Semicolon k)) g.expr · g.semicolon · g.optional (λ k. not (g.is_mark m.CloseParen k)) (part p.simple)) r.entry result }
+    ensures reads { IfOk result (λ x. r.entry.tokens.now ≡ sp.optional sp.for_first x.0.1 (sp.sign m.Semicolon x.0.2 (sp.optional sp.expr x.0.0.0 (sp.sign m.Semicolon x.0.0.1 (sp.optional sp.spell_simple x.0.0.2 x.1.tokens.now))))) }
+    ensures fits { IfOk result (λ x. f.If f.FitsFirst x.0.1 × f.If f.FitsExpr x.0.0.0 × f.If f.FitsSimple x.0.0.2) }
+    ensures shorter { IfOk result (λ x. length x.1.tokens.now < length r.entry.tokens.now) }
+{
+    let (first, r) = any_first(alloc, r)?;
+    let (end, r) = r.mark(Mark::Semicolon, Effect::Separator)?;
+    let (last, r) = last_parts(alloc, r)?;
+    Ok(((last, first, end), r))
+}
+
 /// The three parts of `for` in parentheses, behind its word.
 fn head_behind(alloc: Global, word: Place, r: Reader<'_>) -> Parsed<'_, ForHead>
     ensures goes { Parses for_parts r.entry result }
@@ -139,10 +152,9 @@ fn head_behind(alloc: Global, word: Place, r: Reader<'_>) -> Parsed<'_, ForHead>
 {
     let outer = r.depth;
     let (open, r) = r.mark(Mark::OpenParen, Effect::Opening)?;
-    let (first, r) = any_first(alloc, r)?;
-    let (first_end, r) = r.mark(Mark::Semicolon, Effect::Separator)?;
-    let ((test, test_end, next), r) = last_parts(alloc, r)?;
+    let (parts, r) = all_parts(alloc, r)?;
     let (close, r) = r.mark(Mark::CloseParen, Effect::Closing(outer))?;
+    let ((test, test_end, next), first, first_end) = parts;
     let head = ForHead {
         word,
         open,

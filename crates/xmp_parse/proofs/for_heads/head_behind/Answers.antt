@@ -9,25 +9,15 @@ returns-in_err-open-clause-goes c = λ s L K w.
     let p = err_from_is_err_and c.from_residual.result c.from_residual.ensures.1 in
     rw (p.1, p.2) (c.in_err-open.ensures.goes s _ _ (seq w))
 
-pub returns-in_err-first-clause-goes : goal.returns-in_err-first-clause-goes
-returns-in_err-first-clause-goes c = λ s L K w.
-    let p = err_from_is_err_and c.from_residual-in_err-first.result c.from_residual-in_err-first.ensures.1 in
-    rw (p.1, p.2) (c.in_err-first.ensures.goes s _ _ (seq (c.in_ok-open.ensures.goes s _ _ (seq w))))
-
-pub returns-in_err-first_end-clause-goes : goal.returns-in_err-first_end-clause-goes
-returns-in_err-first_end-clause-goes c = λ s L K w.
-    let p = err_from_is_err_and c.from_residual-in_err-first_end.result c.from_residual-in_err-first_end.ensures.1 in
-    rw (p.1, p.2) (c.in_err-first_end.ensures.goes s _ _ (seq (c.in_ok-first.ensures.goes s _ _ (seq (c.in_ok-open.ensures.goes s _ _ (seq w))))))
-
-pub returns-in_err-last_parts-clause-goes : goal.returns-in_err-last_parts-clause-goes
-returns-in_err-last_parts-clause-goes c = λ s L K w.
-    let p = err_from_is_err_and c.from_residual-in_err-last_parts.result c.from_residual-in_err-last_parts.ensures.1 in
-    rw (p.1, p.2) (c.in_err-last_parts.ensures.goes s _ _ ((c.in_ok-first_end.ensures.goes s _ _ (seq (c.in_ok-first.ensures.goes s _ _ (seq (c.in_ok-open.ensures.goes s _ _ (seq w))))))))
+pub returns-in_err-parts-clause-goes : goal.returns-in_err-parts-clause-goes
+returns-in_err-parts-clause-goes c = λ s L K w.
+    let p = err_from_is_err_and c.from_residual-in_err-parts.result c.from_residual-in_err-parts.ensures.1 in
+    rw (p.1, p.2) (c.in_err-parts.ensures.goes s _ _ (split (c.in_ok-open.ensures.goes s _ _ (seq w))))
 
 pub returns-in_err-close-clause-goes : goal.returns-in_err-close-clause-goes
 returns-in_err-close-clause-goes c = λ s L K w.
     let p = err_from_is_err_and c.from_residual-in_err-close.result c.from_residual-in_err-close.ensures.1 in
-    rw (p.1, p.2) (c.in_err-close.ensures.goes s _ _ ((c.in_ok-last_parts.ensures.goes s _ _ ((c.in_ok-first_end.ensures.goes s _ _ (seq (c.in_ok-first.ensures.goes s _ _ (seq (c.in_ok-open.ensures.goes s _ _ (seq w))))))))))
+    rw (p.1, p.2) (c.in_err-close.ensures.goes s _ _ ((c.in_ok-parts.ensures.goes s _ _ (split (c.in_ok-open.ensures.goes s _ _ (seq w))))))
 
 pub returns-clause-goes : goal.returns-clause-goes
-returns-clause-goes c = λ s L K w. c.in_ok-close.ensures.goes s _ _ ((c.in_ok-last_parts.ensures.goes s _ _ ((c.in_ok-first_end.ensures.goes s _ _ (seq (c.in_ok-first.ensures.goes s _ _ (seq (c.in_ok-open.ensures.goes s _ _ (seq w)))))))))
+returns-clause-goes c = λ s L K w. c.in_ok-close.ensures.goes s _ _ ((c.in_ok-parts.ensures.goes s _ _ (split (c.in_ok-open.ensures.goes s _ _ (seq w)))))
