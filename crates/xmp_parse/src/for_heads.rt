@@ -116,31 +116,53 @@ fn any_next(alloc: Global, r: Reader<'_>) -> Parsed<'_, Option<Simple>>
 }
 
 /// The condition, its semicolon and the last part of `for`.
-type LastParts = (Option<Expr>, Place, Option<Simple>);
+#[derive(Drop)]
+struct LastParts {
+    test: Option<Expr>,
+    test_end: Place,
+    next: Option<Simple>,
+}
 
 fn last_parts(alloc: Global, r: Reader<'_>) -> Parsed<'_, LastParts>
     ensures goes { Parses (g.optional (λ k. not (g.is_mark m.Semicolon k)) g.expr · g.semicolon · g.optional (λ k. not (g.is_mark m.CloseParen k)) (part p.simple)) r.entry result }
-    ensures reads { IfOk result (λ x. r.entry.tokens.now ≡ sp.optional sp.expr x.0.0 (sp.sign m.Semicolon x.0.1 (sp.optional sp.spell_simple x.0.2 x.1.tokens.now))) }
-    ensures fits { IfOk result (λ x. f.If f.FitsExpr x.0.0 × f.If f.FitsSimple x.0.2) }
+    ensures reads { IfOk result (λ x. r.entry.tokens.now ≡ sp.optional sp.expr x.0.test (sp.sign m.Semicolon x.0.test_end (sp.optional sp.spell_simple x.0.next x.1.tokens.now))) }
+    ensures fits { IfOk result (λ x. f.If f.FitsExpr x.0.test × f.If f.FitsSimple x.0.next) }
     ensures shorter { IfOk result (λ x. length x.1.tokens.now < length r.entry.tokens.now) }
 {
     let (test, r) = any_test(alloc, r)?;
     let (test_end, r) = r.mark(Mark::Semicolon, Effect::Separator)?;
     let (next, r) = any_next(alloc, r)?;
-    Ok(((test, test_end, next), r))
+    let made = LastParts {
+        test,
+        test_end,
+        next,
+    };
+    Ok((made, r))
 }
 
-/// All three parts of `for`, with the semicolons between them.
-fn all_parts(alloc: Global, r: Reader<'_>) -> Parsed<'_, (LastParts, Option<ForFirst>, Place)>
+/// The first part of `for` and its semicolon, and the parts behind.
+#[derive(Drop)]
+struct AllParts {
+    first: Option<ForFirst>,
+    first_end: Place,
+    last: LastParts,
+}
+
+fn all_parts(alloc: Global, r: Reader<'_>) -> Parsed<'_, AllParts>
     ensures goes { Parses (g.optional (λ k. not (g.is_mark m.Semicolon k)) (part p.for_first) · g.semicolon · g.optional (λ k. not (g.is_mark m.Semicolon k)) g.expr · g.semicolon · g.optional (λ k. not (g.is_mark m.CloseParen k)) (part p.simple)) r.entry result }
-    ensures reads { IfOk result (λ x. r.entry.tokens.now ≡ sp.optional sp.for_first x.0.1 (sp.sign m.Semicolon x.0.2 (sp.optional sp.expr x.0.0.0 (sp.sign m.Semicolon x.0.0.1 (sp.optional sp.spell_simple x.0.0.2 x.1.tokens.now))))) }
-    ensures fits { IfOk result (λ x. f.If f.FitsFirst x.0.1 × f.If f.FitsExpr x.0.0.0 × f.If f.FitsSimple x.0.0.2) }
+    ensures reads { IfOk result (λ x. r.entry.tokens.now ≡ sp.optional sp.for_first x.0.first (sp.sign m.Semicolon x.0.first_end (sp.optional sp.expr x.0.last.test (sp.sign m.Semicolon x.0.last.test_end (sp.optional sp.spell_simple x.0.last.next x.1.tokens.now))))) }
+    ensures fits { IfOk result (λ x. f.If f.FitsFirst x.0.first × f.If f.FitsExpr x.0.last.test × f.If f.FitsSimple x.0.last.next) }
     ensures shorter { IfOk result (λ x. length x.1.tokens.now < length r.entry.tokens.now) }
 {
     let (first, r) = any_first(alloc, r)?;
     let (end, r) = r.mark(Mark::Semicolon, Effect::Separator)?;
     let (last, r) = last_parts(alloc, r)?;
-    Ok(((last, first, end), r))
+    let made = AllParts {
+        first,
+        first_end: end,
+        last,
+    };
+    Ok((made, r))
 }
 
 /// The three parts of `for` in parentheses, behind its word.
@@ -154,7 +176,16 @@ fn head_behind(alloc: Global, word: Place, r: Reader<'_>) -> Parsed<'_, ForHead>
     let (open, r) = r.mark(Mark::OpenParen, Effect::Opening)?;
     let (parts, r) = all_parts(alloc, r)?;
     let (close, r) = r.mark(Mark::CloseParen, Effect::Closing(outer))?;
-    let ((test, test_end, next), first, first_end) = parts;
+    let AllParts {
+        first,
+        first_end,
+        last,
+    } = parts;
+    let LastParts {
+        test,
+        test_end,
+        next,
+    } = last;
     let head = ForHead {
         word,
         open,
