@@ -19,8 +19,6 @@ mod lines;
 mod mappings;
 mod marks;
 mod parameter_lists;
-#[cfg(test)]
-mod part_tests;
 mod parts;
 mod plain_statements;
 #[cfg(test)]
@@ -28,14 +26,6 @@ mod program_tests;
 mod programs;
 mod reader;
 mod refusals;
-#[cfg(test)]
-mod tests;
 mod words;
 
-pub use declarations::declaration;
-pub use depth::Depth;
-pub use expressions::{expression, level};
-pub use mappings::mapping;
 pub use programs::parse;
-pub use reader::{Parsed, Reader, Stop};
-pub use refusals::refusal;
