@@ -26,8 +26,6 @@ mod program;
 mod rows;
 mod sections;
 mod state;
-#[cfg(test)]
-mod tests;
 
 pub use first::First;
 pub use first_item::Item;
