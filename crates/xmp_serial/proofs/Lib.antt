@@ -12,3 +12,4 @@ pub mod CellNumbers
 pub mod Steps
 pub mod Stores
 pub mod Whiles
+mod EmptyProgram

@@ -21,6 +21,8 @@ mod gmove;
 mod lists;
 mod outcome;
 mod plain;
+#[cfg(test)]
+mod postfix;
 mod print;
 mod program;
 mod rows;
