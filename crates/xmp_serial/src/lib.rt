@@ -30,6 +30,8 @@ mod sections;
 mod state;
 #[cfg(test)]
 mod tests;
+#[cfg(test)]
+mod words;
 
 pub use first::First;
 pub use first_item::Item;

@@ -1,6 +1,7 @@
 // Programs of the tests, written in postfix order: each word stands behind what it takes.
 
 use crate::program::serial_of_parts;
+use crate::words::{X, word};
 use sqlite_items::{Boxed, Items};
 use std::alloc::Global;
 use std::mem::replace;
@@ -12,20 +13,6 @@ use xmp_prog::{
     Access, Array, Compound, Expr, Function, Home, Kind, LoopDirective, LoopHead, MoveSide, Name,
     Number, Part, Plain, ProgParts, Stmt, Target, Task,
 };
-
-// the scalars `i`, `s`, `x` of type int, and `w` of type long
-pub const I: u32 = 0;
-
-pub const S: u32 = 1;
-
-pub const X: u32 = 2;
-
-pub const W: u32 = 3;
-
-// the arrays `int a[8]` and `long b[2][3]`
-pub const A: u32 = 0;
-
-pub const B: u32 = 1;
 
 /// A word of a program. The first word has column 1, the second column 2, and so on.
 #[derive(Clone, Copy)]
@@ -45,6 +32,8 @@ pub enum Word<'a> {
     Item,
     Cell(u32),
     Call(u32),
+    /// calls the last function so far
+    CallLast,
     // ---- statements that hold no statement
     Set(u32),
     Change(u32, BinOp),
@@ -89,12 +78,12 @@ pub enum Comes<'a> {
     Stops(&'a [u8]),
 }
 
-/// The words of a program in three pieces, whose columns are counted apart, with its input and its steps.
+/// The words of a program in three pieces, whose columns are counted apart, with its input and its steps. A space parts two words.
 #[derive(Clone, Copy)]
 pub struct Case<'a> {
-    pub before: &'a [Word<'a>],
-    pub words: &'a [Word<'a>],
-    pub after: &'a [Word<'a>],
+    pub before: &'a [u8],
+    pub words: &'a [u8],
+    pub after: &'a [u8],
     pub input: &'a [u8],
     pub steps: u64,
 }
@@ -282,6 +271,13 @@ impl Builder {
     fn call(&mut self, function: u32, at: Place) -> bool {
         let arguments = self.take_items();
         self.push(Expr::Call(function, arguments, at))
+    }
+
+    fn call_last(&mut self, at: Place) -> bool {
+        match u32::try_from(self.program.functions.len()) {
+            Ok(many) => self.call(many.saturating_sub(1), at),
+            Err(_) => false,
+        }
     }
 
     fn access(&mut self, array: u32, at: Place) -> Access {
@@ -511,6 +507,7 @@ impl Builder {
             Word::Item => self.item(),
             Word::Cell(array) => self.cell(array, at),
             Word::Call(function) => self.call(function, at),
+            Word::CallLast => self.call_last(at),
             _ => self.add_plain(word, at),
         }
     }
@@ -558,11 +555,12 @@ impl Builder {
     }
 
     /// Adds words.
-    fn add(&mut self, words: &[Word]) -> bool {
+    fn add(&mut self, text: &[u8]) -> bool {
         let mut column = 0u32;
-        for word in words {
+        for spelling in text.split(|b| *b == b' ') {
             column = column.wrapping_add(1);
-            if !self.add_value(*word, Place { line: 1, column }) {
+            let at = Place { line: 1, column };
+            if !spelling.is_empty() && !self.add_value(word(spelling), at) {
                 return false;
             }
         }
