@@ -132,11 +132,25 @@ fn statement<'a>(spelling: &[u8]) -> Option<Word<'a>> {
     None
 }
 
+fn on_longs<'a>(op: Option<BinOp>) -> Option<Word<'a>> {
+    match op {
+        Some(op) => Some(Word::LongOp(op)),
+        None => None,
+    }
+}
+
+fn on_ints<'a>(op: Option<BinOp>) -> Option<Word<'a>> {
+    match op {
+        Some(op) => Some(Word::Op(op)),
+        None => None,
+    }
+}
+
 /// An operator, on longs with an `l` behind it.
 fn operation<'a>(spelling: &[u8]) -> Option<Word<'a>> {
     match spelling.split_last() {
-        Some((b'l', front)) => operator(front).map(Word::LongOp),
-        _ => operator(spelling).map(Word::Op),
+        Some((b'l', front)) => on_longs(operator(front)),
+        _ => on_ints(operator(spelling)),
     }
 }
 
