@@ -47,8 +47,6 @@ pub enum Word<'a> {
     ScanCell(u32),
     Barrier,
     // ---- statements that hold statements
-    /// the last two statements become one
-    Two,
     If,
     While,
     /// a counted loop with `<` and step 1
@@ -400,14 +398,6 @@ impl Builder {
 
     // ---- statements that hold statements
 
-    fn two(&mut self) -> Option<bool> {
-        let b = self.statements.pop()?;
-        let a = self.statements.pop()?;
-        let mut all = Items::new(self.alloc);
-        let pushed = all.push(a).is_ok() && all.push(b).is_ok();
-        Some(pushed && self.statements.push(Stmt::Block(all)).is_ok())
-    }
-
     fn choice(&mut self) -> Option<bool> {
         let b = self.last()?;
         let a = self.last()?;
@@ -542,7 +532,6 @@ impl Builder {
 
     fn add_whole(&mut self, word: Word, at: Place) -> bool {
         match word {
-            Word::Two => self.two().unwrap_or(false),
             Word::If => self.choice().unwrap_or(false),
             Word::While => self.uncounted(at).unwrap_or(false),
             Word::Count(index) => self.counted(index, false, 1, at).unwrap_or(false),

@@ -75,10 +75,9 @@ const CHANGES: [(&[u8], Word); 17] = [
     (b"&a[]", Word::ScanCell(A)),
 ];
 
-const STATEMENTS: [(&[u8], Word); 18] = [
+const STATEMENTS: [(&[u8], Word); 17] = [
     (b"return", Word::Return),
     (b"barrier", Word::Barrier),
-    (b"{}", Word::Two),
     (b"else", Word::If),
     (b"while", Word::While),
     (b"for-i", Word::Count(I)),
