@@ -119,11 +119,7 @@ pub fn comes_to(alloc: Global, case: Case, comes: Comes) -> bool {
 }
 
 fn built_comes_to(mut builder: Builder, case: Case, comes: Comes) -> bool {
-    if !(builder.declare_all()
-        && builder.add(case.before)
-        && builder.add(case.words)
-        && builder.add(case.after))
-    {
+    if !builder.build(case) {
         return false;
     }
     builder.finish();
@@ -180,14 +176,22 @@ impl Builder {
         self.program.scalars.push(ty).is_ok()
     }
 
+    fn scalars(&mut self) -> bool {
+        for ty in [Ty::Int, Ty::Int, Ty::Int, Ty::Long] {
+            if !self.scalar(ty) {
+                return false;
+            }
+        }
+        true
+    }
+
+    fn arrays(&mut self) -> bool {
+        self.array(Ty::Int, &[8]) && self.array(Ty::Long, &[2, 3])
+    }
+
     /// `int i, s, x; long w; int a[8]; long b[2][3];`
     fn declare_all(&mut self) -> bool {
-        self.scalar(Ty::Int)
-            && self.scalar(Ty::Int)
-            && self.scalar(Ty::Int)
-            && self.scalar(Ty::Long)
-            && self.array(Ty::Int, &[8])
-            && self.array(Ty::Long, &[2, 3])
+        self.scalars() && self.arrays()
     }
 
     // ---- what words take and leave
@@ -554,6 +558,20 @@ impl Builder {
             }
         }
         true
+    }
+
+    fn add_case(&mut self, case: Case) -> bool {
+        for text in [case.before, case.words, case.after] {
+            if !self.add(text) {
+                return false;
+            }
+        }
+        true
+    }
+
+    /// The declarations, and then the words of a case.
+    fn build(&mut self, case: Case) -> bool {
+        self.declare_all() && self.add_case(case)
     }
 
     /// Main has the statements so far.
