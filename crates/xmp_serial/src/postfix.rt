@@ -119,7 +119,7 @@ pub fn comes_to(alloc: Global, case: Case, comes: Comes) -> bool {
 }
 
 fn built_comes_to(mut builder: Builder, case: Case, comes: Comes) -> bool {
-    if !builder.build(case) {
+    if !builder.build(case.before, case.words, case.after) {
         return false;
     }
     builder.finish();
@@ -560,18 +560,13 @@ impl Builder {
         true
     }
 
-    fn add_case(&mut self, case: Case) -> bool {
-        for text in [case.before, case.words, case.after] {
-            if !self.add(text) {
-                return false;
-            }
-        }
-        true
+    fn add_two(&mut self, first: &[u8], second: &[u8]) -> bool {
+        self.add(first) && self.add(second)
     }
 
     /// The declarations, and then the words of a case.
-    fn build(&mut self, case: Case) -> bool {
-        self.declare_all() && self.add_case(case)
+    fn build(&mut self, before: &[u8], words: &[u8], after: &[u8]) -> bool {
+        self.declare_all() && self.add_two(before, words) && self.add(after)
     }
 
     /// Main has the statements so far.
