@@ -10,3 +10,4 @@ pub mod Directives
 pub mod MappingLines
 pub mod Program
 pub mod MappingRules
+pub mod Verdict

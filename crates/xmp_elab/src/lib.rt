@@ -4,22 +4,37 @@
 //! the list of the rules that break in it, each with its place. The code makes the same list.
 #![tactic(auto)]
 
+mod blocks;
+mod constants;
+mod counted;
+mod declarations;
+mod directives;
 mod expressions;
 mod formats;
+mod functions;
+mod loop_lines;
+mod loops;
+mod mapping_lines;
 mod mappings;
+mod moves;
 mod names;
 mod operators;
+mod program;
 mod rules;
+mod statements;
 mod typed;
-mod walk;
+mod steps;
 mod world;
 
 pub use formats::{Mode, fits_format, is_scan_format};
+pub use loop_lines::LoopParts;
+pub use loops::{First, ForParts, Shape};
 pub use mappings::{
     Align, AlignPoint, Distribution, Form, LoopUse, Mappings, NodesLine, Shadow, TemplateLine,
 };
 pub use names::{Array, Environment, Meaning, Region, Signature};
 pub use operators::Operator;
+pub use program::walk;
 pub use rules::{Broken, Notes, Rule};
 pub use typed::{Operand, Parts, Typed, Value};
 pub use world::World;
