@@ -4,7 +4,7 @@ ghost use Rattle.xmp_elab.specs.Walk.{Does, constant, first_place, typed_constan
 
 use crate::rules::Rule;
 use crate::typed::Operand;
-use crate::steps::{is_known, value_of};
+use crate::walk::{is_known, value_of};
 use crate::world::World;
 use std::alloc::{AllocError, Global};
 use xmp_base::Place;

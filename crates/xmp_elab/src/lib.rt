@@ -23,7 +23,7 @@ mod program;
 mod rules;
 mod statements;
 mod typed;
-mod steps;
+mod walk;
 mod world;
 
 pub use formats::{Mode, fits_format, is_scan_format};
@@ -34,7 +34,7 @@ pub use mappings::{
 };
 pub use names::{Array, Environment, Meaning, Region, Signature};
 pub use operators::Operator;
-pub use program::walk;
+pub use program::walk_program;
 pub use rules::{Broken, Notes, Rule};
 pub use typed::{Operand, Parts, Typed, Value};
 pub use world::World;

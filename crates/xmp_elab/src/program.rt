@@ -223,7 +223,7 @@ fn start_world(alloc: Global, given: Option<u32>, coarray: bool) -> Result<World
 }
 
 /// The walk over a program, for a number of nodes or none: the body of main, and the world after it.
-pub fn walk(
+pub fn walk_program(
     alloc: Global,
     t: &Tree,
     given: Option<u32>,

@@ -10,7 +10,7 @@ use crate::formats::{fits_format, is_scan_format};
 use crate::operators::{Operator, as_type, joint, value_type};
 use crate::rules::{Rule, no_notes};
 use crate::typed::{Operand, Parts, Value};
-use crate::steps::{is_known, is_main};
+use crate::walk::{is_known, is_main};
 use crate::world::World;
 use sqlite_items::{Boxed, Items};
 use std::alloc::{AllocError, Global};
