@@ -1,7 +1,7 @@
 -- One step of a loop over parts of the tree, each of which is a step of the walk.
-use Rattle.std.proofs.Common.{◌≡◌, ◌∙◌, ◌<◌, ◌+◌, ◌++◌, ℕ, ap, sym, List, [], ◌∷◌, length, map, drop, get_or}
+use Rattle.std.proofs.Common.{◌≡◌, ◌∙◌, ◌<◌, ◌+◌, ◌++◌, ℕ, ap, sym, Result, List, [], ◌∷◌, length, map, drop, get_or}
 use Rattle.xmp_elab.specs.declared.world.World.{World}
-use Rattle.xmp_elab.specs.Walk.{Step, Gave, Run, and_then, ◌>>=◌, pure, each_after}
+use Rattle.xmp_elab.specs.Walk.{Step, Gave, Run, Does, and_then, ◌>>=◌, pure, each_after}
 use Rattle.xmp_elab.proofs.Steps.{unrolled}
 
 pub each_step : {A B C : Type 0} (f : A → Run B) (g : C → A) (done : List B) (xs : List C) (i : ℕ) (x : C) (y : B) (w next : World) →
@@ -22,3 +22,7 @@ two_steps p q f a b made w next last e d m =
 pub one_step : {A C : Type 0} (p : Run A) (f : A → C) (a : A) (made : C) (w next : World) →
     p w ≡ Gave a next → made ≡ f a → and_then (p w) (λ x. pure (f x)) ≡ Gave made next
 one_step p f a made w next e m = ap (λ s. and_then s (λ x. pure (f x))) e ∙ ap (λ z. Gave z next) (sym m)
+
+-- A step of a walk that ends as another one does.
+pub same_walk : {A E : Type 0} (run other : Step A) (result : Result A E) (new : World) → run ≡ other → Does other result new → Does run result new
+same_walk run other result new e d = rw e d

@@ -76,20 +76,23 @@ sizes_of_first given (Some l) = line_sizes given l
 abbrev pub nodes_of : World → List ℤ
 nodes_of w = sizes_of_first (given_or_one w) (first_of w.mappings.nodes)
 
--- The number of nodes: the given one, else the product of the sizes, in which `[*]` is 1; 1 without a nodes array.
-abbrev pub number_of_nodes : World → ℕ
-number_of_nodes w = unwrap_or w.given (product (map natural (nodes_of w)))
-
 -- One to three sizes, each at least 1, whose product is at most 16 and is the given number.
+abbrev pub is_size : ℤ → Bool
+is_size n = int_le (pos 1) n && int_le n (pos 16)
+
+abbrev pub is_grid : List ℤ → Bool
+is_grid sizes = (nat_le 1 (length sizes) && nat_le (length sizes) 3) && (list_all is_size sizes && nat_le (product (map natural sizes)) 16)
+
 abbrev pub is_given : Option ℕ → ℕ → Bool
 is_given None n = true
 is_given (Some given) n = n == given
 
 abbrev pub nodes_right : World → List ℤ → Bool
-nodes_right w sizes =
-    (nat_le 1 (length sizes) && nat_le (length sizes) 3)
-    && (list_all (λ n. int_le (pos 1) n) sizes
-    && (nat_le (product (map natural sizes)) 16 && is_given w.given (product (map natural sizes))))
+nodes_right w sizes = is_grid sizes && is_given w.given (product (map natural sizes))
+
+-- The number of nodes: the given one, else the product of the sizes, in which `[*]` is 1; 1 where there is no right nodes array.
+abbrev pub number_of_nodes : World → ℕ
+number_of_nodes w = unwrap_or w.given (if is_grid (nodes_of w) then product (map natural (nodes_of w)) else 1)
 
 -- There is one `nodes`, which is right, and a program with a directive has it.
 abbrev pub has_nodes : World → Option Place → List Broken

@@ -23,6 +23,7 @@ mod program;
 mod rules;
 mod statements;
 mod typed;
+mod verdict;
 mod walk;
 mod world;
 
@@ -37,6 +38,7 @@ pub use operators::Operator;
 pub use program::walk_program;
 pub use rules::{Broken, Notes, Rule};
 pub use typed::{Operand, Parts, Typed, Value};
+pub use verdict::{first_in, refusal_of};
 pub use world::World;
 
 #[cfg(test)]

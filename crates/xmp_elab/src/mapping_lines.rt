@@ -1,5 +1,5 @@
 // The mapping directives where they stand.
-ghost use Rattle.std.specs.Prelude.{◌≡◌, ◌×◌, [], IfOk, is_some, map, slice_get};
+ghost use Rattle.std.specs.Prelude.{◌≡◌, [], IfOk, is_some, map, slice_get};
 ghost use Rattle.std.specs.List.{list_any};
 ghost use Rattle.xmp_elab.specs.Walk.{Does, each};
 ghost use Rattle.xmp_elab.specs.Declarations.{inner, listed};
