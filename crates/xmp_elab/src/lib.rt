@@ -4,17 +4,29 @@
 //! the list of the rules that break in it, each with its place. The code makes the same list.
 #![tactic(auto)]
 
+mod align_lines;
+mod align_rules;
+mod cell_rules;
+mod constants;
 mod expressions;
 mod formats;
+mod mapping_lines;
 mod mappings;
 mod names;
+mod nodes_rules;
+mod numbers;
 mod operators;
+mod points;
 mod rules;
+mod rules_of_mappings;
+mod shadow_rules;
+mod template_rules;
 mod typed;
 mod walk;
 mod world;
 
 pub use formats::{Mode, fits_format, is_scan_format};
+pub use rules_of_mappings::mapping_rules;
 pub use mappings::{
     Align, AlignPoint, Distribution, Form, LoopUse, Mappings, NodesLine, Shadow, TemplateLine,
 };
