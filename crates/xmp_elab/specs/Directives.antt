@@ -112,7 +112,7 @@ point_of (point.Index n offset) = do
 
 abbrev pub made_of_point : Option (ℕ × ℤ) → made_point.Point
 made_of_point None = mp.Any
-made_of_point (Some x) = mp.Index x.0 x.1
+made_of_point (Some x) = mp.Index x.0 (limited x.1)
 
 abbrev pub slot_of_point : Option (ℕ × ℤ) → List ℕ
 slot_of_point None = []

@@ -1,22 +1,20 @@
 // Directives with no statement inside: reflect, barrier and bcast, and sets of nodes.
 ghost use Rattle.std.specs.Prelude.{◌≡◌, FitsSigned, IfOk, int_le, pos};
 ghost use Rattle.std.specs.List.{list_all};
-ghost use Rattle.xmp_elab.specs.Walk.{Does, Gave, a_nodes, a_template, each, name_of};
+ghost use Rattle.xmp_elab.specs.Walk.{Does, Gave, each};
 ghost use Rattle.xmp_elab.specs.Declarations.{inner, listed};
-ghost use Rattle.xmp_elab.specs.Directives.{array_name, barrier_of, bcast_of, box_of, count_of, index_name, is_box, is_one, is_small, limited, line_sizes, natural, node_number, nodes_sizes, offset_of, range_of, range_right, ranges, ranges_right, reflect_of, scalar_name, set_of, set_part, signed, slot_or_zero};
+ghost use Rattle.xmp_elab.specs.Directives.{array_name, barrier_of, bcast_of, box_of, count_of, index_name, is_box, is_one, limited, line_sizes, node_number, nodes_sizes, range_of, range_right, ranges, ranges_right, reflect_of, scalar_name, set_of, set_part, slot_or_zero};
 
 use crate::mappings::NodesLine;
-use crate::names::Meaning;
 use crate::rules::Rule;
 use crate::world::World;
 use sqlite_items::Items;
 use std::alloc::{AllocError, Global};
 use xmp_base::Place;
-use xmp_lex::Mark;
 use xmp_map::NodeSet;
 use xmp_num::Ty;
 use xmp_prog as prog;
-use xmp_tree::{CommaList, DirectiveLine, Expr, Inside, Name, Placed, Section, Sections};
+use xmp_tree::{CommaList, DirectiveLine, Expr, Inside, Name, Section, Sections};
 
 // The slot of a scalar, 0 where the name is of none.
 fn slot_or_zero(scalar: Option<(u32, Ty)>) -> u32
@@ -26,13 +24,6 @@ fn slot_or_zero(scalar: Option<(u32, Ty)>) -> u32
         Some((slot, _)) => slot,
         None => 0,
     }
-}
-
-/// Whether a constant is at most 4,194,304 in size.
-pub(crate) fn is_small(c: i64) -> bool
-    ensures { result ≡ is_small c }
-{
-    c <= 4_194_304 && -4_194_304 <= c
 }
 
 impl World {
@@ -106,23 +97,6 @@ impl World {
         Ok(done)
     }
 
-    /// The constant behind a name in a point.
-    pub(crate) fn offset_of(
-        &mut self,
-        alloc: Global,
-        offset: &Option<(Placed<Mark>, Expr)>,
-    ) -> Result<i32, AllocError>
-        ensures { Does (offset_of offset.now self.old) result self.new }
-    {
-        match offset {
-            Some((mark, value)) => {
-                let c = self.constant(alloc, value)?;
-                Ok(signed_small(mark.what, c))
-            }
-            None => Ok(0),
-        }
-    }
-
     // ---- sets of nodes
 
     fn count_of(&mut self, alloc: Global, many: &Option<(Place, Expr)>) -> Result<i64, AllocError>
@@ -163,40 +137,6 @@ impl World {
         Ok(done)
     }
 
-    /// A nodes array by its name: its number.
-    pub(crate) fn nodes_of(&mut self, name: &Name) -> Result<Option<u32>, AllocError>
-        ensures { Does (name_of a_nodes name.now self.old) result self.new }
-    {
-        match self.meaning_of(name)? {
-            Some(meaning) => {
-                let found = a_nodes(meaning);
-                self.judge(found.is_some(), Rule::N3, name.at)?;
-                Ok(found)
-            }
-            None => {
-                self.judge(false, Rule::N1, name.at)?;
-                Ok(None)
-            }
-        }
-    }
-
-    /// A template by its name: its number.
-    pub(crate) fn template_of(&mut self, name: &Name) -> Result<Option<u32>, AllocError>
-        ensures { Does (name_of a_template name.now self.old) result self.new }
-    {
-        match self.meaning_of(name)? {
-            Some(meaning) => {
-                let found = a_template(meaning);
-                self.judge(found.is_some(), Rule::N3, name.at)?;
-                Ok(found)
-            }
-            None => {
-                self.judge(false, Rule::N1, name.at)?;
-                Ok(None)
-            }
-        }
-    }
-
     // The sizes of a nodes array.
     fn nodes_sizes(&self, alloc: Global, number: Option<u32>) -> Result<Items<i64>, AllocError>
         ensures { IfOk result (λ sizes. nodes_sizes number self.now ≡ Gave sizes self.now) }
@@ -224,7 +164,7 @@ impl World {
     ) -> Result<NodeSet, AllocError>
         ensures { Does (set_of one_node word x.now self.old) result self.new }
     {
-        let number = self.nodes_of(&x.name)?;
+        let number = self.nodes_array_of(&x.name)?;
         let sizes = self.nodes_sizes(alloc, number)?;
         let parts = self.set_parts(alloc, x.sections.as_slice())?;
         let count_right = parts.is_empty() || parts.len() == sizes.len();
@@ -284,36 +224,8 @@ impl World {
     }
 }
 
-fn a_nodes(meaning: Meaning) -> Option<u32>
-    ensures { result ≡ a_nodes meaning }
-{
-    match meaning {
-        Meaning::Nodes(number) => Some(number),
-        _ => None,
-    }
-}
-
-fn a_template(meaning: Meaning) -> Option<u32>
-    ensures { result ≡ a_template meaning }
-{
-    match meaning {
-        Meaning::Template(number) => Some(number),
-        _ => None,
-    }
-}
-
-// A constant with its sign; one that is too large is kept as the next number.
-fn signed_small(mark: Mark, c: i64) -> i32
-    ensures { result ≡ signed mark (limited c) }
-{
-    let small = small_or_next(c);
-    match mark {
-        Mark::Minus => -small,
-        _ => small,
-    }
-}
-
-fn small_or_next(c: i64) -> i32
+/// A constant that is small; one that isn't is kept as the next number.
+pub(crate) fn small_or_next(c: i64) -> i32
     ensures value { result ≡ limited c }
     ensures range { FitsSigned 31 result }
 {

@@ -4,7 +4,10 @@
 //! the list of the rules that break in it, each with its place. The code makes the same list.
 #![tactic(auto)]
 
+mod align_lines;
+mod align_rules;
 mod blocks;
+mod cell_rules;
 mod constants;
 mod counted;
 mod declarations;
@@ -18,10 +21,16 @@ mod mapping_lines;
 mod mappings;
 mod moves;
 mod names;
+mod nodes_rules;
+mod numbers;
 mod operators;
+mod points;
 mod program;
 mod rules;
+mod rules_of_mappings;
+mod shadow_rules;
 mod statements;
+mod template_rules;
 mod typed;
 mod verdict;
 mod walk;
@@ -37,6 +46,7 @@ pub use names::{Array, Environment, Meaning, Region, Signature};
 pub use operators::Operator;
 pub use program::walk_program;
 pub use rules::{Broken, Notes, Rule};
+pub use rules_of_mappings::mapping_rules;
 pub use typed::{Operand, Parts, Typed, Value};
 pub use verdict::{first_in, refusal_of};
 pub use world::World;

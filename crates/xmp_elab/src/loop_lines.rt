@@ -8,10 +8,11 @@ ghost use Rattle.xmp_prog.specs.Numbers.{is_in};
 ghost use Rattle.xmp_prog.specs.Statements.{indices_of};
 ghost use Rattle.xmp_elab.specs.Walk.{Does, each, if_there};
 ghost use Rattle.xmp_elab.specs.Declarations.{inner, listed};
-ghost use Rattle.xmp_elab.specs.Directives.{counted_in, head_of, is_indexed, is_small_point, judged_loop, loop_line, loop_right, made_loop, made_of_point, mark_operation, match_template, name_list, names_or, nest_of, operation_of, point_of, reduction_name, reductions_of, same_numbers, slots_of_points, use_template};
+ghost use Rattle.xmp_elab.specs.Directives.{counted_in, head_of, is_indexed, is_small_point, judged_loop, loop_line, loop_right, made_loop, made_of_point, mark_operation, name_list, names_or, nest_of, operation_of, point_of, reduction_name, reductions_of, same_numbers, slots_of_points, use_template};
 
-use crate::directives::is_small;
+use crate::directives::small_or_next;
 use crate::mappings::LoopUse;
+use crate::points::is_small;
 use crate::rules::Rule;
 use crate::world::World;
 use sqlite_items::{Boxed, Items};
@@ -28,13 +29,13 @@ use xmp_tree::{CommaList, Inside, LoopLine, Name, Point, Reduction, ReductionOpe
 #[derive(Drop)]
 pub struct LoopParts {
     pub template: Option<u32>,
-    pub points: Items<Option<(u32, i32)>>,
+    pub points: Items<Option<(u32, i64)>>,
     pub names: Items<u32>,
     pub reductions: Items<prog::Reduction>,
 }
 
 impl World {
-    fn point_of(&mut self, alloc: Global, x: &Point) -> Result<Option<(u32, i32)>, AllocError>
+    fn point_of(&mut self, alloc: Global, x: &Point) -> Result<Option<(u32, i64)>, AllocError>
         ensures { Does (point_of x.now self.old) result self.new }
     {
         match x {
@@ -51,7 +52,7 @@ impl World {
         &mut self,
         alloc: Global,
         list: &[Inside<Point>],
-    ) -> Result<Items<Option<(u32, i32)>>, AllocError>
+    ) -> Result<Items<Option<(u32, i64)>>, AllocError>
         ensures { Does (each point_of (inner list.now) self.old) result self.new }
     {
         let mut done = Items::new(alloc);
@@ -134,27 +135,6 @@ impl World {
             done.append(more)?;
         }
         Ok(done)
-    }
-
-    /// A template has as many points as dimensions.
-    pub(crate) fn match_template(
-        &mut self,
-        template: Option<u32>,
-        count: usize,
-        at: Place,
-    ) -> Result<(), AllocError>
-        ensures { Does (match_template template count at self.old) result self.new }
-    {
-        match template {
-            Some(number) => {
-                let dimensions = match self.mappings.templates.get(number as usize) {
-                    Some(template) => template.sizes.len(),
-                    None => 0,
-                };
-                self.judge(count == dimensions, Rule::N3, at)
-            }
-            None => Ok(()),
-        }
     }
 
     /// The line of a loop directive.
@@ -242,7 +222,7 @@ fn operation_of(operator: &ReductionOperator) -> RedOp
 // The slots of the indices in points.
 fn slots_of_points(
     alloc: Global,
-    points: &[Option<(u32, i32)>],
+    points: &[Option<(u32, i64)>],
 ) -> Result<Items<u32>, AllocError>
     ensures { IfOk result (λ slots. slots ≡ slots_of_points points.now) }
 {
@@ -258,7 +238,7 @@ fn slots_of_points(
 fn names_or(
     alloc: Global,
     names: Option<Items<u32>>,
-    points: &[Option<(u32, i32)>],
+    points: &[Option<(u32, i64)>],
 ) -> Result<Items<u32>, AllocError>
     ensures { IfOk result (λ slots. slots ≡ names_or names (slots_of_points points.now)) }
 {
@@ -269,7 +249,7 @@ fn names_or(
 }
 
 // Whether each point has an index.
-fn indexed(alloc: Global, points: &[Option<(u32, i32)>]) -> Result<Items<bool>, AllocError>
+fn indexed(alloc: Global, points: &[Option<(u32, i64)>]) -> Result<Items<bool>, AllocError>
     ensures { IfOk result (λ l. l ≡ map is_indexed points.now) }
 {
     let mut done = Items::new(alloc);
@@ -281,7 +261,7 @@ fn indexed(alloc: Global, points: &[Option<(u32, i32)>]) -> Result<Items<bool>, 
 
 fn made_points(
     alloc: Global,
-    points: &[Option<(u32, i32)>],
+    points: &[Option<(u32, i64)>],
 ) -> Result<Items<prog::Point>, AllocError>
     ensures { IfOk result (λ l. l ≡ map made_of_point points.now) }
 {
@@ -292,11 +272,14 @@ fn made_points(
     Ok(done)
 }
 
-fn made_of_point(point: Option<(u32, i32)>) -> prog::Point
+fn made_of_point(point: Option<(u32, i64)>) -> prog::Point
     ensures { result ≡ made_of_point point }
 {
     match point {
-        Some((slot, offset)) => prog::Point::Index { slot, offset },
+        Some((slot, offset)) => prog::Point::Index {
+            slot,
+            offset: small_or_next(offset),
+        },
         None => prog::Point::Any,
     }
 }
@@ -366,16 +349,16 @@ fn all_in(names: &[u32], slots: &[u32]) -> bool
     true
 }
 
-fn is_small_point(point: Option<(u32, i32)>) -> bool
+fn is_small_point(point: Option<(u32, i64)>) -> bool
     ensures { result ≡ is_small_point point }
 {
     match point {
-        Some((_, offset)) => is_small(i64::from(offset)),
+        Some((_, offset)) => is_small(offset),
         None => true,
     }
 }
 
-fn all_small(points: &[Option<(u32, i32)>]) -> bool
+fn all_small(points: &[Option<(u32, i64)>]) -> bool
     ensures { result ≡ list_all is_small_point points.now }
 {
     'points: for point in points {
@@ -389,7 +372,7 @@ fn all_small(points: &[Option<(u32, i32)>]) -> bool
 fn loop_right(
     alloc: Global,
     names: &[u32],
-    points: &[Option<(u32, i32)>],
+    points: &[Option<(u32, i64)>],
     nest: &[LoopHead],
 ) -> Result<bool, AllocError>
     ensures { IfOk result (λ right. right ≡ loop_right names.now points.now nest.now) }

@@ -1,38 +1,39 @@
-// The mapping directives where they stand.
-ghost use Rattle.std.specs.Prelude.{◌≡◌, [], IfOk, is_some, map, slice_get};
-ghost use Rattle.std.specs.List.{list_any};
-ghost use Rattle.xmp_elab.specs.Walk.{Does, each};
+// Mapping directives where they stand: nodes, templates and distributions.
+ghost use Rattle.std.specs.Prelude.{◌≡◌, length};
+ghost use Rattle.xmp_elab.specs.Walk.{Does, each, constant};
 ghost use Rattle.xmp_elab.specs.Declarations.{inner, listed};
-ghost use Rattle.xmp_elab.specs.Directives.{extents_in};
-ghost use Rattle.xmp_elab.specs.MappingLines.{align_line, align_point, constants, dimension_of, distribute_line, dummies_once, dummy_in_point, dummy_of, dummy_once, form_of, is_dummy, keep_align, keep_distribution, keep_shadow, mapping_at, mapping_of, match_array, new_nodes, new_template, no_dummy, nodes_line, second_width, shadow_line, template_line, width_of, widths_of};
+ghost use Rattle.xmp_elab.specs.MappingLines.{constants, distribute_line, form_of, keep_distribution, line_of, mapping_at, mapping_line, mapping_of, new_nodes, new_template, nodes_line, nodes_with_sizes, template_line, template_with_sizes, width_of};
 
-use crate::mappings::{Align, AlignPoint, Distribution, Form, NodesLine, Shadow, TemplateLine};
+use crate::mappings::{Distribution, Form, NodesLine, TemplateLine};
 use crate::names::Meaning;
-use crate::rules::Rule;
 use crate::world::World;
 use sqlite_items::Items;
 use std::alloc::{AllocError, Global};
 use xmp_base::Place;
-use xmp_tree::{AlignDimension, CommaList, DirectiveLine, DistForm, Expr, Inside, Mapping, Name, Point};
+use xmp_tree::{CommaList, DirectiveLine, DistForm, Expr, Inside, Mapping, Name};
 
 impl World {
-    /// A mapping directive at its word.
-    fn mapping_at(&mut self, line: DirectiveLine) -> Result<(), AllocError>
-        ensures { Does (mapping_at line self.old) result self.new }
+    // A mapping directive at its word.
+    fn mapping_at(&mut self, line: &DirectiveLine) -> Result<(), AllocError>
+        ensures { Does (mapping_at line.now self.old) result self.new }
     {
         self.directive_at(line.word)?;
         self.stands_outermost(line.word)
     }
 
-    fn constants(&mut self, alloc: Global, list: &[Inside<Expr>]) -> Result<Items<i64>, AllocError>
+    fn constants(
+        &mut self,
+        alloc: Global,
+        list: &[Inside<Expr>],
+    ) -> Result<Items<i64>, AllocError>
         ensures { Does (constants list.now self.old) result self.new }
     {
-        let mut done = Items::new(alloc);
+        let mut values = Items::new(alloc);
         'list: for x in list {
             let value = self.constant(alloc, &x.item)?;
-            done.push(value)?;
+            values.push(value)?;
         }
-        Ok(done)
+        Ok(values)
     }
 
     fn new_nodes(&mut self, at: Place, sizes: Option<Items<i64>>) -> Result<u32, AllocError>
@@ -81,38 +82,37 @@ impl World {
         self.declare(alloc, name, Meaning::Template(number))
     }
 
-    // ---- distribute
-
     fn width_of(&mut self, alloc: Global, width: &Option<Inside<Expr>>) -> Result<i64, AllocError>
         ensures { Does (width_of width.now self.old) result self.new }
     {
         match width {
-            Some(width) => self.constant(alloc, &width.item),
+            Some(x) => self.constant(alloc, &x.item),
             None => Ok(1),
         }
     }
 
-    fn listed_constants(
+    fn lengths_of(
         &mut self,
         alloc: Global,
         list: &CommaList<Expr>,
     ) -> Result<Items<i64>, AllocError>
         ensures { Does (each constant (listed list.now) self.old) result self.new }
     {
-        let mut done = Items::new(alloc);
+        let mut lengths = Items::new(alloc);
         let first = self.constant(alloc, &list.first)?;
-        done.push(first)?;
-        'more: for next in list.more.as_slice() {
-            let value = self.constant(alloc, &next.item)?;
-            done.push(value)?;
+        lengths.push(first)?;
+        let more = list.more.as_slice();
+        'more: for next in more {
+            let length = self.constant(alloc, &next.item)?;
+            lengths.push(length)?;
         }
-        Ok(done)
+        Ok(lengths)
     }
 
-    fn form_of(&mut self, alloc: Global, x: &DistForm) -> Result<Form, AllocError>
-        ensures { Does (form_of x.now self.old) result self.new }
+    fn form_of(&mut self, alloc: Global, form: &DistForm) -> Result<Form, AllocError>
+        ensures { Does (form_of form.now self.old) result self.new }
     {
-        match x {
+        match form {
             DistForm::Whole(_) => Ok(Form::Whole),
             DistForm::Block(_) => Ok(Form::Block),
             DistForm::Cyclic(_, width) => {
@@ -120,21 +120,25 @@ impl World {
                 Ok(Form::Cyclic(width))
             }
             DistForm::Gblock(_, lengths) => {
-                let lengths = self.listed_constants(alloc, &lengths.item.item)?;
+                let lengths = self.lengths_of(alloc, &lengths.item.item)?;
                 Ok(Form::Gblock(lengths))
             }
         }
     }
 
-    fn forms_of(&mut self, alloc: Global, list: &[Inside<DistForm>]) -> Result<Items<Form>, AllocError>
+    fn forms_of(
+        &mut self,
+        alloc: Global,
+        list: &[Inside<DistForm>],
+    ) -> Result<Items<Form>, AllocError>
         ensures { Does (each form_of (inner list.now) self.old) result self.new }
     {
-        let mut done = Items::new(alloc);
+        let mut forms = Items::new(alloc);
         'list: for x in list {
             let form = self.form_of(alloc, &x.item)?;
-            done.push(form)?;
+            forms.push(form)?;
         }
-        Ok(done)
+        Ok(forms)
     }
 
     fn keep_distribution(
@@ -146,11 +150,14 @@ impl World {
         ensures { Does (keep_distribution at template forms self.old) result self.new }
     {
         match template {
-            Some(template) => self.mappings.distributions.push(Distribution {
-                at,
-                template,
-                forms,
-            }),
+            Some(template) => {
+                let line = Distribution {
+                    at,
+                    template,
+                    forms,
+                };
+                self.mappings.distributions.push(line)
+            }
             None => Ok(()),
         }
     }
@@ -159,323 +166,88 @@ impl World {
         &mut self,
         alloc: Global,
         at: Place,
-        name: &Name,
-        forms: &[Inside<DistForm>],
+        template: &Name,
+        list: &[Inside<DistForm>],
         onto: &Name,
     ) -> Result<(), AllocError>
-        ensures { Does (distribute_line at name.now forms.now onto.now self.old) result self.new }
+        ensures { Does (distribute_line at template.now list.now onto.now self.old) result self.new }
     {
-        let template = self.template_of(name)?;
-        let kept = self.forms_of(alloc, forms)?;
-        self.match_template(template, kept.len(), name.at)?;
-        self.nodes_of(onto)?;
-        self.keep_distribution(at, template, kept)
+        let number = self.template_of(template)?;
+        let forms = self.forms_of(alloc, list)?;
+        self.match_template(number, forms.len(), template.at)?;
+        self.nodes_array_of(onto)?;
+        self.keep_distribution(at, number, forms)
     }
 
-    // ---- align
-
-    fn dummy_once(
+    fn nodes_with_sizes(
         &mut self,
-        before: &[Inside<AlignDimension>],
-        x: &AlignDimension,
-    ) -> Result<(), AllocError>
-        ensures { Does (dummy_once (map dummy_of (inner before.now)) (dummy_of x.now) self.old) result self.new }
-    {
-        match x {
-            AlignDimension::Star(_) => Ok(()),
-            AlignDimension::Dummy(name) => {
-                let repeated = has_dummy(before, name.text.as_slice());
-                self.judge(!repeated, Rule::N2, name.at)
-            }
-        }
-    }
-
-    fn dummies_once(&mut self, list: &[Inside<AlignDimension>]) -> Result<(), AllocError>
-        ensures { Does (dummies_once [] (map dummy_of (inner list.now)) self.old) result self.new }
-    {
-        let mut count = 0usize;
-        'list: for x in list {
-            self.dummy_once(&list[..count], &x.item)?;
-            count += 1;
-        }
-        Ok(())
-    }
-
-    fn no_dummy(&mut self, name: &Name) -> Result<usize, AllocError>
-        ensures { Does (dummy_in_point name.now None self.old) result self.new }
-    {
-        match self.meaning_of(name)? {
-            Some(_) => self.judge(false, Rule::N3, name.at)?,
-            None => self.judge(false, Rule::N1, name.at)?,
-        }
-        Ok(0)
-    }
-
-    fn dummy_in_point(
-        &mut self,
+        alloc: Global,
+        line: &DirectiveLine,
         name: &Name,
-        dimensions: &[Inside<AlignDimension>],
-    ) -> Result<usize, AllocError>
-        ensures { Does (dummy_in_point name.now (dimension_of name.now.text (map dummy_of (inner dimensions.now))) self.old) result self.new }
-    {
-        match dimension_of(name.text.as_slice(), dimensions) {
-            Some(dimension) => Ok(dimension),
-            None => self.no_dummy(name),
-        }
-    }
-
-    fn align_point(
-        &mut self,
-        alloc: Global,
-        dimensions: &[Inside<AlignDimension>],
-        x: &Point,
-    ) -> Result<AlignPoint, AllocError>
-        ensures { Does (align_point (map dummy_of (inner dimensions.now)) x.now self.old) result self.new }
-    {
-        match x {
-            Point::Star(_) => Ok(AlignPoint::Star),
-            Point::Index(name, offset) => {
-                let dimension = self.dummy_in_point(name, dimensions)?;
-                let c = self.offset_of(alloc, offset)?;
-                Ok(AlignPoint::Dummy {
-                    dimension,
-                    offset: i64::from(c),
-                })
-            }
-        }
-    }
-
-    fn align_points(
-        &mut self,
-        alloc: Global,
-        dimensions: &[Inside<AlignDimension>],
-        points: &[Inside<Point>],
-    ) -> Result<Items<AlignPoint>, AllocError>
-        ensures { Does (each (align_point (map dummy_of (inner dimensions.now))) (inner points.now) self.old) result self.new }
-    {
-        let mut done = Items::new(alloc);
-        'points: for x in points {
-            let point = self.align_point(alloc, dimensions, &x.item)?;
-            done.push(point)?;
-        }
-        Ok(done)
-    }
-
-    fn match_array(
-        &mut self,
-        array: Option<u32>,
-        count: usize,
-        at: Place,
+        sizes: &[Inside<Expr>],
     ) -> Result<(), AllocError>
-        ensures { Does (match_array array count at self.old) result self.new }
+        ensures { Does (nodes_with_sizes line.now name.now sizes.now self.old) result self.new }
     {
-        match array {
-            Some(number) => {
-                let dimensions = match self.names.arrays.get(number as usize) {
-                    Some(array) => array.extents.len(),
-                    None => 0,
-                };
-                self.judge(count == dimensions, Rule::N3, at)
-            }
-            None => Ok(()),
-        }
+        let values = self.constants(alloc, sizes)?;
+        self.nodes_line(alloc, line.word, name, Some(values))
     }
 
-    fn keep_align(
+    fn template_with_sizes(
         &mut self,
-        at: Place,
-        array: Option<u32>,
-        template: Option<u32>,
-        dummies: Items<bool>,
-        points: Items<AlignPoint>,
+        alloc: Global,
+        line: &DirectiveLine,
+        name: &Name,
+        sizes: &[Inside<Expr>],
     ) -> Result<(), AllocError>
-        ensures { Does (keep_align at array template dummies points self.old) result self.new }
+        ensures { Does (template_with_sizes line.now name.now sizes.now self.old) result self.new }
     {
-        match (array, template) {
-            (Some(array), Some(template)) => self.mappings.aligns.push(Align {
-                at,
-                array,
-                template,
-                dummies,
-                points,
-            }),
-            _ => Ok(()),
-        }
+        let values = self.constants(alloc, sizes)?;
+        self.template_line(alloc, line.word, name, values)
     }
 
-    fn align_line(
-        &mut self,
-        alloc: Global,
-        at: Place,
-        array: &Name,
-        dimensions: &[Inside<AlignDimension>],
-        template: &Name,
-        points: &[Inside<Point>],
-    ) -> Result<(), AllocError>
-        ensures { Does (align_line at array.now dimensions.now template.now points.now self.old) result self.new }
+    // What a mapping directive keeps.
+    fn mapping_line(&mut self, alloc: Global, mapping: &Mapping) -> Result<(), AllocError>
+        ensures { Does (mapping_line mapping.now self.old) result self.new }
     {
-        let number = self.array_of(array)?;
-        self.match_array(number, dimensions.len(), array.at)?;
-        self.dummies_once(dimensions)?;
-        let onto = self.template_of(template)?;
-        let kept = self.align_points(alloc, dimensions, points)?;
-        self.match_template(onto, kept.len(), template.at)?;
-        let dummies = dummies_of(alloc, dimensions)?;
-        self.keep_align(at, number, onto, dummies, kept)
-    }
-
-    // ---- shadow
-
-    fn second_width(
-        &mut self,
-        alloc: Global,
-        low: i64,
-        high: &Option<(Place, Expr)>,
-    ) -> Result<i64, AllocError>
-        ensures { Does (second_width low high.now self.old) result self.new }
-    {
-        match high {
-            Some((_, high)) => self.constant(alloc, high),
-            None => Ok(low),
-        }
-    }
-
-    fn widths_of(
-        &mut self,
-        alloc: Global,
-        x: &(Expr, Option<(Place, Expr)>),
-    ) -> Result<(i64, i64), AllocError>
-        ensures { Does (widths_of x.now self.old) result self.new }
-    {
-        let (low, high) = x;
-        let low = self.constant(alloc, low)?;
-        let high = self.second_width(alloc, low, high)?;
-        Ok((low, high))
-    }
-
-    fn all_widths(
-        &mut self,
-        alloc: Global,
-        list: &[Inside<(Expr, Option<(Place, Expr)>)>],
-    ) -> Result<Items<(i64, i64)>, AllocError>
-        ensures { Does (each widths_of (inner list.now) self.old) result self.new }
-    {
-        let mut done = Items::new(alloc);
-        'list: for x in list {
-            let widths = self.widths_of(alloc, &x.item)?;
-            done.push(widths)?;
-        }
-        Ok(done)
-    }
-
-    fn keep_shadow(
-        &mut self,
-        at: Place,
-        array: Option<u32>,
-        widths: Items<(i64, i64)>,
-    ) -> Result<(), AllocError>
-        ensures { Does (keep_shadow at array widths self.old) result self.new }
-    {
-        match array {
-            Some(array) => self.mappings.shadows.push(Shadow { at, array, widths }),
-            None => Ok(()),
-        }
-    }
-
-    fn shadow_line(
-        &mut self,
-        alloc: Global,
-        at: Place,
-        array: &Name,
-        widths: &[Inside<(Expr, Option<(Place, Expr)>)>],
-    ) -> Result<(), AllocError>
-        ensures { Does (shadow_line at array.now widths.now self.old) result self.new }
-    {
-        let number = self.array_of(array)?;
-        let kept = self.all_widths(alloc, widths)?;
-        self.match_array(number, kept.len(), array.at)?;
-        self.keep_shadow(at, number, kept)
-    }
-
-    /// A mapping directive where it stands.
-    pub(crate) fn mapping(&mut self, alloc: Global, x: &Mapping) -> Result<(), AllocError>
-        ensures { Does (mapping_of x.now self.old) result self.new }
-    {
-        match x {
+        match mapping {
             Mapping::Nodes(line, name, sizes) => {
-                self.mapping_at(*line)?;
-                let sizes = self.constants(alloc, sizes.as_slice())?;
-                self.nodes_line(alloc, line.word, name, Some(sizes))
+                self.nodes_with_sizes(alloc, line, name, sizes.as_slice())
             }
-            Mapping::NodesStar(line, name, _) => {
-                self.mapping_at(*line)?;
-                self.nodes_line(alloc, line.word, name, None)
-            }
+            Mapping::NodesStar(line, name, _) => self.nodes_line(alloc, line.word, name, None),
             Mapping::Template(line, name, sizes) => {
-                self.mapping_at(*line)?;
-                let sizes = self.constants(alloc, sizes.as_slice())?;
-                self.template_line(alloc, line.word, name, sizes)
+                self.template_with_sizes(alloc, line, name, sizes.as_slice())
             }
             Mapping::Distribute(line, template, forms, _, onto) => {
-                self.mapping_at(*line)?;
                 self.distribute_line(alloc, line.word, template, forms.as_slice(), onto)
             }
             Mapping::Align(line, array, dimensions, _, template, points) => {
-                self.mapping_at(*line)?;
-                let list = dimensions.as_slice();
-                self.align_line(alloc, line.word, array, list, template, points.as_slice())
+                let dimensions = dimensions.as_slice();
+                self.align_line(alloc, line.word, array, dimensions, template, points.as_slice())
             }
             Mapping::Shadow(line, array, widths) => {
-                self.mapping_at(*line)?;
                 self.shadow_line(alloc, line.word, array, widths.as_slice())
             }
         }
     }
-}
 
-fn is_dummy(name: &[u8], x: &AlignDimension) -> bool
-    ensures { result ≡ is_dummy name.now (dummy_of x.now) }
-{
-    match x {
-        AlignDimension::Star(_) => false,
-        AlignDimension::Dummy(dummy) => name == dummy.text.as_slice(),
+    /// A mapping directive where it stands.
+    pub(crate) fn mapping(&mut self, alloc: Global, mapping: &Mapping) -> Result<(), AllocError>
+        ensures { Does (mapping_of mapping.now self.old) result self.new }
+    {
+        self.mapping_at(line_of(mapping))?;
+        self.mapping_line(alloc, mapping)
     }
 }
 
-fn has_dummy(before: &[Inside<AlignDimension>], name: &[u8]) -> bool
-    ensures { result ≡ list_any (is_dummy name.now) (map dummy_of (inner before.now)) }
+fn line_of(mapping: &Mapping) -> &DirectiveLine
+    ensures { result.now ≡ line_of mapping.now }
 {
-    'before: for x in before {
-        if is_dummy(name, &x.item) {
-            return true;
-        }
+    match mapping {
+        Mapping::Nodes(line, _, _) => line,
+        Mapping::NodesStar(line, _, _) => line,
+        Mapping::Template(line, _, _) => line,
+        Mapping::Distribute(line, _, _, _, _) => line,
+        Mapping::Align(line, _, _, _, _, _) => line,
+        Mapping::Shadow(line, _, _) => line,
     }
-    false
-}
-
-// The dimension of the array that a name in a point stands for.
-fn dimension_of(name: &[u8], dimensions: &[Inside<AlignDimension>]) -> Option<usize>
-    ensures { result ≡ dimension_of name.now (map dummy_of (inner dimensions.now)) }
-{
-    let mut at = 0usize;
-    'dimensions: for x in dimensions {
-        if is_dummy(name, &x.item) {
-            return Some(at);
-        }
-        at += 1;
-    }
-    None
-}
-
-fn dummies_of(alloc: Global, dimensions: &[Inside<AlignDimension>]) -> Result<Items<bool>, AllocError>
-    ensures { IfOk result (λ l. l ≡ map is_some (map dummy_of (inner dimensions.now))) }
-{
-    let mut done = Items::new(alloc);
-    'dimensions: for x in dimensions {
-        done.push(match x.item {
-            AlignDimension::Star(_) => false,
-            AlignDimension::Dummy(_) => true,
-        })?;
-    }
-    Ok(done)
 }

@@ -1,9 +1,0 @@
-use Rattle.std.proofs.Common.{◌≡◌, map, drop}
-use Rattle.xmp_elab.specs.Walk.{each, each_after}
-use Rattle.xmp_elab.specs.Declarations.{listed}
-use Rattle.xmp_elab.specs.Walk.{constant}
-use Rattle.xmp_elab.proofs.world.World.listed_constants.Given as goal
-
--- what is left to do from here gives what the whole gives
-abbrev pub invariant-more : goal.invariant-more
-invariant-more l = each constant (listed l.fn.list) l.fn.self ≡ each_after constant l.done (map (λ n. n.item) (drop l.next-index l.next-items)) l.self
