@@ -102,13 +102,20 @@ simple_of (simple.Call c) = do
 
 -- ---- the other statements with no statement inside
 
--- `return`: main's is its last statement, which this one isn't, and its value is constant.
+-- The value of a `return`; main's is constant.
+abbrev pub returned : Expr → Run Operand
+returned x = do
+  where_it_is ← region_of
+  t ← typed x
+  _ ← judge (not (is_main where_it_is) || is_known t.value) N4 (first_place x)
+  pure t
+
+-- `return`; main's is its last statement.
 abbrev pub return_of : Bool → Place → Expr → Run made.Stmt
 return_of is_last at x = do
   where_it_is ← region_of
   _ ← judge (not (is_main where_it_is) || is_last) N7 at
-  t ← typed x
-  _ ← judge (not (is_main where_it_is) || is_known t.value) N4 (first_place x)
+  t ← returned x
   pure (s.Plain (p.Return t.made))
 
 abbrev pub print_of : Place → Format → List (Next Expr) → Run made.Stmt

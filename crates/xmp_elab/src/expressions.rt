@@ -1,7 +1,7 @@
 // Expressions: names, types and constants.
 ghost use Rattle.std.specs.Prelude.{◌≡◌, IfOk, map, slice_get};
 ghost use Rattle.std.specs.Option.{option_map};
-ghost use Rattle.xmp_elab.specs.Expressions.{add, arguments_of, call, call_as, call_intrinsic, call_of, called, cell, chain, each_subscript, expr_of, image_notes, inside_of, intrinsic, is_own, judged_call, may_call, may_name, no_parts, of_type, read, read_as, reference_of, right_of, unknown};
+ghost use Rattle.xmp_elab.specs.Expressions.{add, arguments_of, call, call_as, call_intrinsic, call_of, called, cell, chain, each_next, each_subscript, expr_of, image_notes, inside_of, intrinsic, is_own, judged_call, may_call, may_name, next_of, no_parts, of_type, read, read_as, reference_of, right_of, unknown};
 
 use crate::names::{Environment, Meaning, Region};
 use crate::operators::{binary, cast, choose, number, operator_of, unary};
@@ -12,7 +12,7 @@ use std::alloc::{AllocError, Global};
 use xmp_base::Place;
 use xmp_num::Ty;
 use xmp_prog as prog;
-use xmp_tree::{CommaList, Expr, Image, Inside, Link, Name, Reference};
+use xmp_tree::{CommaList, Expr, Image, Inside, Link, Name, Next, Reference};
 
 impl Environment {
     /// What is made of an expression, its type, what is known of its value, and the rules of names that it breaks.
@@ -133,6 +133,18 @@ impl Environment {
         let subscripts = self.subscripts(alloc, reference.subscripts.as_slice())?;
         let image = self.image(alloc, &reference.image)?;
         self.read(alloc, &reference.name, subscripts, image)
+    }
+
+    /// Expressions behind commas, from left to right.
+    pub fn values(&self, alloc: Global, list: &[Next<Expr>]) -> Result<Parts, AllocError>
+        ensures { IfOk result (λ p. p ≡ each_next no_parts (map (next_of self.now) list.now)) }
+    {
+        let mut all = none(alloc);
+        'values: for next in list {
+            let part = self.expression(alloc, &next.item)?;
+            all = add(all, part)?;
+        }
+        Ok(all)
     }
 
     // Whether a function that is being read may name this.

@@ -4,12 +4,15 @@
 //! the list of the rules that break in it, each with its place. The code makes the same list.
 #![tactic(auto)]
 
+mod constants;
+mod declarations;
 mod expressions;
 mod formats;
 mod mappings;
 mod names;
 mod operators;
 mod rules;
+mod statements;
 mod typed;
 mod walk;
 mod world;

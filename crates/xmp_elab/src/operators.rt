@@ -50,7 +50,7 @@ pub(crate) fn operator_of(mark: Mark) -> Operator
 }
 
 // The usual arithmetic conversions.
-fn joint(a: Option<Ty>, b: Option<Ty>) -> Option<Ty>
+pub(crate) fn joint(a: Option<Ty>, b: Option<Ty>) -> Option<Ty>
     ensures { result ≡ joint a b }
 {
     match (a, b) {
@@ -60,7 +60,7 @@ fn joint(a: Option<Ty>, b: Option<Ty>) -> Option<Ty>
     }
 }
 
-fn value_type(ty: Option<Ty>) -> Ty
+pub(crate) fn value_type(ty: Option<Ty>) -> Ty
     ensures { result ≡ value_type ty }
 {
     match ty {
@@ -101,7 +101,7 @@ fn convert(alloc: Global, ty: Ty, made: Expr, value: Value) -> Result<Expr, Allo
     Ok(Expr::Convert(ty, Boxed::new(alloc, made)?))
 }
 
-fn as_type(alloc: Global, ty: Ty, x: Operand) -> Result<Expr, AllocError>
+pub(crate) fn as_type(alloc: Global, ty: Ty, x: Operand) -> Result<Expr, AllocError>
     ensures { IfOk result (λ e. e ≡ operand ty x) }
 {
     let Operand {
