@@ -1,5 +1,5 @@
 // Declarations of scalars and arrays.
-ghost use Rattle.std.specs.Prelude.{◌≡◌, ◌∷◌, [], IfOk, map};
+ghost use Rattle.std.specs.Prelude.{◌≡◌, ◌∷◌, [], IfOk, is_some, map};
 ghost use Rattle.xmp_prog.specs.declared.statements.Stmt.TheVariants as stmt;
 ghost use Rattle.xmp_prog.specs.declared.statements.Plain.TheVariants as plain;
 ghost use Rattle.std.specs.List.{list_all};
@@ -195,7 +195,7 @@ impl World {
         match x {
             Declarator::Scalar(name, value) => self.file_scalar(alloc, ty, name, value),
             Declarator::Array(name, list, image) => {
-                self.declare_array(alloc, ty, name, list.as_slice(), image.is_some())
+                self.declare_array(alloc, ty, name, list.as_slice(), is_coarray(image))
             }
         }
     }
@@ -222,9 +222,9 @@ impl World {
     ) -> Result<Items<prog::Stmt>, AllocError>
         ensures { Does (local_declarator ty (Declarator.Scalar name.now value.now) self.old) result self.new }
     {
-        let slot = self.declare_scalar(alloc, name, ty)?;
+        let number = self.declare_scalar(alloc, name, ty)?;
         let value = self.initialiser(alloc, value)?;
-        let made = declare_statement(alloc, slot, value, name.at)?;
+        let made = declare_statement(alloc, number, value, name.at)?;
         Ok(made)
     }
 
@@ -239,7 +239,7 @@ impl World {
         match x {
             Declarator::Scalar(name, value) => self.local_scalar(alloc, ty, name, value),
             Declarator::Array(name, list, image) => {
-                self.declare_array(alloc, ty, name, list.as_slice(), image.is_some())?;
+                self.declare_array(alloc, ty, name, list.as_slice(), is_coarray(image))?;
                 Ok(Items::new(alloc))
             }
         }
@@ -263,6 +263,12 @@ impl World {
         }
         Ok(done)
     }
+}
+
+fn is_coarray(image: &Option<(Place, Inside<Place>)>) -> bool
+    ensures { result ≡ is_some image.now }
+{
+    image.is_some()
 }
 
 pub(crate) fn declare_statement(

@@ -1,12 +1,13 @@
 // Statements with no statement inside.
-ghost use Rattle.std.specs.Prelude.{◌≡◌, IfOk, map};
+ghost use Rattle.std.specs.Prelude.{◌≡◌, ◌||◌, IfOk, map, not};
 ghost use Rattle.xmp_prog.specs.declared.statements.Stmt.TheVariants as stmt;
 ghost use Rattle.xmp_prog.specs.declared.statements.Plain.TheVariants as plain;
-ghost use Rattle.xmp_elab.specs.Walk.{Does, finished_all, typed_all};
+ghost use Rattle.xmp_elab.specs.Walk.{Does, finished_all, is_main, typed_all};
 ghost use Rattle.xmp_elab.specs.Statements.{call_statement, compound_of, is_scalar_target, one, print_of, return_of, returned, scan_of, set, simple_of, sync_of, target_name, target_of};
 
 use crate::constants::first_place;
 use crate::formats::{fits_format, is_scan_format};
+use crate::names::Region;
 use crate::operators::{Operator, as_type, joint, value_type};
 use crate::rules::{Rule, no_notes};
 use crate::typed::{Operand, Parts, Value};
@@ -113,7 +114,7 @@ fn call_statement(alloc: Global, made: prog::Expr) -> prog::Stmt
 
 impl World {
     /// An assignment, an increment or decrement, or a call.
-    pub(crate) fn simple(&mut self, alloc: Global, x: &Simple) -> Result<prog::Stmt, AllocError>
+    pub fn simple(&mut self, alloc: Global, x: &Simple) -> Result<prog::Stmt, AllocError>
         ensures { Does (simple_of x.now self.old) result self.new }
     {
         match x {
@@ -173,7 +174,7 @@ impl World {
     }
 
     /// `return`, and whether it is the last statement of its function.
-    pub(crate) fn return_of(
+    pub fn return_of(
         &mut self,
         alloc: Global,
         is_last: bool,
@@ -182,10 +183,10 @@ impl World {
     ) -> Result<prog::Stmt, AllocError>
         ensures { Does (return_of is_last at x.now self.old) result self.new }
     {
-        let main = is_main(self.names.region);
-        self.judge(!main || is_last, Rule::N7, at)?;
-        let Operand { made, .. } = self.returned(alloc, x)?;
-        Ok(prog::Stmt::Plain(prog::Plain::Return(made)))
+        let right = may_return(self.names.region, is_last);
+        self.judge(right, Rule::N7, at)?;
+        let value = self.returned(alloc, x)?;
+        Ok(return_statement(value))
     }
 
     // The value of a `return`.
@@ -212,7 +213,7 @@ impl World {
     }
 
     /// `printf`
-    pub(crate) fn print(
+    pub fn print(
         &mut self,
         alloc: Global,
         at: Place,
@@ -234,7 +235,7 @@ impl World {
     }
 
     /// `scanf`
-    pub(crate) fn scan(
+    pub fn scan(
         &mut self,
         alloc: Global,
         at: Place,
@@ -257,7 +258,7 @@ impl World {
     }
 
     /// `xmp_sync_all`
-    pub(crate) fn sync(
+    pub fn sync(
         &mut self,
         alloc: Global,
         at: Place,
@@ -276,6 +277,20 @@ impl World {
             at,
         }))
     }
+}
+
+// Whether a `return` stands where it may: main's is its last statement.
+fn may_return(region: Region, is_last: bool) -> bool
+    ensures { result ≡ (not (is_main region) || is_last) }
+{
+    !is_main(region) || is_last
+}
+
+fn return_statement(value: Operand) -> prog::Stmt
+    ensures { result ≡ stmt.Plain (plain.Return value.made) }
+{
+    let Operand { made, .. } = value;
+    prog::Stmt::Plain(prog::Plain::Return(made))
 }
 
 fn copied(alloc: Global, bytes: &[u8]) -> Result<Bytes, AllocError>

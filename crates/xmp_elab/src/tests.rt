@@ -6,7 +6,10 @@ use xmp_base::{Bytes, Place};
 use xmp_lex::Mark;
 use xmp_num::Ty;
 use xmp_scopes::Scopes;
-use xmp_tree::{Call, CommaList, Expr, Inside, Link, Name, Placed, Reference};
+use xmp_tree::{
+    Call, CommaList, Declaration, Declarator, Expr, Format, Inside, Link, Name, Next, Placed,
+    Reference, TypeWords,
+};
 
 // A part of an expression; its operands are the parts before it.
 #[derive(Clone, Copy)]
@@ -441,5 +444,297 @@ fn formats_ask_for_types(rt: HostRuntime) -> Result<(), Fail> {
     assert_eq!(rt; is_scan_format(b"%d", Some(Ty::Long)), false);
     assert_eq!(rt; is_scan_format(b"%ld", Some(Ty::Long)), true);
     assert_eq!(rt; is_scan_format(b"%d\n", Some(Ty::Int)), false);
+    Ok(())
+}
+
+// ---- declarations and plain statements
+
+fn mappings(alloc: Global) -> Mappings {
+    Mappings {
+        nodes: Items::new(alloc),
+        templates: Items::new(alloc),
+        distributions: Items::new(alloc),
+        aligns: Items::new(alloc),
+        shadows: Items::new(alloc),
+        loops: Items::new(alloc),
+        first_directive: None,
+    }
+}
+
+// The names of `environment`; in a file without the scope of a function.
+fn world(alloc: Global, region: Region) -> Result<World, AllocError> {
+    let mut names = environment(alloc, region)?;
+    if region == Region::File {
+        names.scopes.close();
+    }
+    Ok(World {
+        given: None,
+        names,
+        scalars: Items::new(alloc),
+        mappings: mappings(alloc),
+        deepest: 0,
+        functions: Items::new(alloc),
+        start: Items::new(alloc),
+        broken: Items::new(alloc),
+    })
+}
+
+// Whether these rules break, each in its column.
+fn are(broken: &[Broken], expected: &[(Rule, u32)]) -> bool {
+    if broken.len() != expected.len() {
+        return false;
+    }
+    for (found, (rule, column)) in broken.iter().zip(expected) {
+        if found.rule != *rule || found.at != place(*column) {
+            return false;
+        }
+    }
+    true
+}
+
+// What follows the name of a declarator.
+#[derive(Clone, Copy)]
+enum Behind {
+    Nothing,
+    Value(&'static [Piece]),
+    Extent(&'static [Piece]),
+}
+
+fn declarator(alloc: Global, text: &[u8], behind: Behind) -> Result<Declarator, AllocError> {
+    let name = name(alloc, text, place(90))?;
+    match behind {
+        Behind::Nothing => Ok(Declarator::Scalar(name, None)),
+        Behind::Value(pieces) => {
+            let value = built(alloc, pieces)?;
+            Ok(Declarator::Scalar(name, Some((place(91), value))))
+        }
+        Behind::Extent(pieces) => {
+            let mut extents = Items::new(alloc);
+            extents.push(inside(built(alloc, pieces)?, place(91)))?;
+            Ok(Declarator::Array(name, extents, None))
+        }
+    }
+}
+
+// `int` and the declarator, in column 90.
+fn declaration(alloc: Global, text: &[u8], behind: Behind) -> Result<Declaration, AllocError> {
+    let first = declarator(alloc, text, behind)?;
+    Ok(Declaration {
+        ty: TypeWords::Int(place(80)),
+        items: CommaList {
+            first,
+            more: Items::new(alloc),
+        },
+        end: place(99),
+    })
+}
+
+fn broken_by_declaration(
+    alloc: Global,
+    region: Region,
+    text: &[u8],
+    behind: Behind,
+) -> Result<Items<Broken>, AllocError> {
+    let d = declaration(alloc, text, behind)?;
+    let mut w = world(alloc, region)?;
+    if region == Region::File {
+        w.file_declaration(alloc, &d)?;
+    } else {
+        w.local_declaration(alloc, Items::new(alloc), &d)?;
+    }
+    Ok(w.broken)
+}
+
+// Where a declaration stands, its name, what follows that, and the rules that break.
+type Declared = (Region, &'static [u8], Behind, &'static [(Rule, u32)]);
+
+const DECLARED: [Declared; 16] = [
+    (Region::File, b"v", Behind::Nothing, &[]),
+    (
+        Region::File,
+        b"v",
+        Behind::Value(&[Piece::Int(1), Piece::Int(2), Piece::Binary(Mark::Plus)]),
+        &[],
+    ),
+    // at file scope an initialiser is constant
+    (
+        Region::File,
+        b"v",
+        Behind::Value(&[Piece::Read(b"x")]),
+        &[(Rule::N4, 1)],
+    ),
+    (
+        Region::File,
+        b"v",
+        Behind::Value(&[Piece::Read(b"v")]),
+        &[(Rule::N4, 1)],
+    ),
+    (Region::File, b"x", Behind::Nothing, &[(Rule::N2, 90)]),
+    (
+        Region::File,
+        b"xmp_num_nodes",
+        Behind::Nothing,
+        &[(Rule::N2, 90)],
+    ),
+    // an inner scope hides a name of the file
+    (Region::Main, b"x", Behind::Nothing, &[]),
+    (Region::Main, b"n", Behind::Nothing, &[(Rule::N2, 90)]),
+    // a name is known in its own initialiser
+    (Region::Main, b"v", Behind::Value(&[Piece::Read(b"v")]), &[]),
+    (
+        Region::File,
+        b"c",
+        Behind::Extent(&[Piece::Int(4194304)]),
+        &[],
+    ),
+    (
+        Region::File,
+        b"c",
+        Behind::Extent(&[Piece::Int(4194305)]),
+        &[(Rule::N8, 90)],
+    ),
+    (
+        Region::File,
+        b"c",
+        Behind::Extent(&[Piece::Int(0)]),
+        &[(Rule::N8, 90)],
+    ),
+    (Region::File, b"c", Behind::Extent(&[Piece::Long(2)]), &[]),
+    (Region::Main, b"c", Behind::Extent(&[Piece::Int(2)]), &[]),
+    (
+        Region::Function,
+        b"c",
+        Behind::Extent(&[Piece::Int(2)]),
+        &[(Rule::N8, 90), (Rule::N5, 90)],
+    ),
+    (
+        Region::Main,
+        b"c",
+        Behind::Extent(&[Piece::Read(b"x")]),
+        &[(Rule::N4, 1)],
+    ),
+];
+
+#[test]
+fn a_declaration_breaks_a_rule_at_its_name(rt: HostRuntime) -> Result<(), Fail> {
+    let alloc = rt.alloc();
+    for (region, text, behind, expected) in DECLARED {
+        let broken = broken_by_declaration(alloc, region, text, behind)?;
+        assert_eq!(rt; are(broken.as_slice(), expected), true);
+    }
+    Ok(())
+}
+
+// A statement with one expression in it.
+#[derive(Clone, Copy)]
+enum Kind {
+    Return(bool),
+    Print(&'static [u8]),
+}
+
+fn format(alloc: Global, text: &[u8]) -> Result<Format, AllocError> {
+    let mut bytes = Bytes::new(alloc);
+    match bytes.push_all(text) {
+        Ok(()) => Ok(Format {
+            text: bytes,
+            at: place(90),
+        }),
+        Err(_) => Err(AllocError),
+    }
+}
+
+fn printed(alloc: Global, w: &mut World, text: &[u8], value: Expr) -> Result<(), AllocError> {
+    let format = format(alloc, text)?;
+    let mut list = Items::new(alloc);
+    list.push(Next {
+        comma: place(91),
+        item: value,
+    })?;
+    w.print(alloc, place(80), &format, list.as_slice())?;
+    Ok(())
+}
+
+fn broken_by_statement(
+    alloc: Global,
+    region: Region,
+    kind: Kind,
+    pieces: &[Piece],
+) -> Result<Items<Broken>, AllocError> {
+    let value = built(alloc, pieces)?;
+    let mut w = world(alloc, region)?;
+    match kind {
+        Kind::Return(is_last) => {
+            w.return_of(alloc, is_last, place(80), &value)?;
+        }
+        Kind::Print(text) => printed(alloc, &mut w, text, value)?,
+    }
+    Ok(w.broken)
+}
+
+// Where a statement stands, its kind, its expression, and the rules that break.
+type Stated = (Region, Kind, &'static [Piece], &'static [(Rule, u32)]);
+
+const STATED: [Stated; 10] = [
+    (Region::Main, Kind::Return(true), &[Piece::Int(0)], &[]),
+    (
+        Region::Main,
+        Kind::Return(false),
+        &[Piece::Int(0)],
+        &[(Rule::N7, 80)],
+    ),
+    (
+        Region::Main,
+        Kind::Return(true),
+        &[Piece::Read(b"x")],
+        &[(Rule::N4, 1)],
+    ),
+    (
+        Region::Function,
+        Kind::Return(false),
+        &[Piece::Read(b"n")],
+        &[],
+    ),
+    (
+        Region::Main,
+        Kind::Print(b"%d\n"),
+        &[Piece::Read(b"x")],
+        &[],
+    ),
+    (
+        Region::Main,
+        Kind::Print(b"%ld\n"),
+        &[Piece::Read(b"x")],
+        &[(Rule::N6, 90)],
+    ),
+    (Region::Main, Kind::Print(b"%ld"), &[Piece::Read(b"y")], &[]),
+    // an unknown name has no type, and fits any conversion
+    (
+        Region::Main,
+        Kind::Print(b"%ld"),
+        &[Piece::Read(b"z")],
+        &[(Rule::N1, 1)],
+    ),
+    // the rules of an argument come before that of the format
+    (
+        Region::Main,
+        Kind::Print(b"%"),
+        &[Piece::Read(b"z")],
+        &[(Rule::N1, 1), (Rule::N6, 90)],
+    ),
+    (
+        Region::Function,
+        Kind::Print(b"%d"),
+        &[Piece::Read(b"n")],
+        &[(Rule::N5, 80)],
+    ),
+];
+
+#[test]
+fn a_statement_breaks_a_rule_at_its_place(rt: HostRuntime) -> Result<(), Fail> {
+    let alloc = rt.alloc();
+    for (region, kind, pieces, expected) in STATED {
+        let broken = broken_by_statement(alloc, region, kind, pieces)?;
+        assert_eq!(rt; are(broken.as_slice(), expected), true);
+    }
     Ok(())
 }
