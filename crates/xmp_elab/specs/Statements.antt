@@ -180,16 +180,19 @@ while_of at x body = do
 abbrev pub index_of : named.Name → Reference Expr
 index_of n = record { name = n; subscripts = []; image = None }
 
+abbrev pub first_part : List made.Stmt → Expr → Operand → Operand → First
+first_part declared x t v = record { declared = declared; target = t; value = v; at = first_place x }
+
 abbrev pub first_of : ForFirst → Run First
 first_of (for_first.Assign r at x) = do
   t ← typed_reference r
   v ← typed x
-  pure (record { declared = []; target = t; value = v; at = first_place x })
+  pure (first_part [] x t v)
 first_of (for_first.Declare at n equals x) = do
   slot ← declare_scalar n Int
   t ← typed_reference (index_of n)
   v ← typed x
-  pure (record { declared = s.Plain (p.Declare slot None n.at) ∷ []; target = t; value = v; at = first_place x })
+  pure (first_part (s.Plain (p.Declare slot None n.at) ∷ []) x t v)
 
 -- The parts of a `for` before its body. It opens a scope of its own.
 abbrev pub for_parts : ForHead → Run ForParts

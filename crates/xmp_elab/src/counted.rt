@@ -246,13 +246,7 @@ pub(crate) fn added_to(index: u32, target: &Target, value: &Expr) -> Option<u32>
 }
 
 /// Whether the body of a loop leaves the index and the bound as they are, and bound and step are of a counted loop's form.
-pub(crate) fn is_counted(
-    index: u32,
-    to: &Expr,
-    inclusive: bool,
-    by_one: bool,
-    body: &Stmt,
-) -> bool
+pub(crate) fn is_counted(index: u32, to: &Expr, inclusive: bool, by_one: bool, body: &Stmt) -> bool
     ensures { result ≡ is_counted index to.now inclusive by_one body.now }
 {
     is_bound(to)

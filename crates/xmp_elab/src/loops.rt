@@ -5,7 +5,7 @@ ghost use Rattle.xmp_prog.specs.declared.statements.Stmt.{out-Stmt};
 ghost use Rattle.xmp_prog.specs.declared.statements.Stmt.TheVariants as stmt;
 ghost use Rattle.xmp_elab.specs.Walk.{Does, if_there, typed, typed_reference};
 ghost use Rattle.xmp_elab.specs.Counted.{bound_of};
-ghost use Rattle.xmp_elab.specs.Statements.{added_by, added_plain, begun, compared_at, condition, counted_loop, counted_with, first_of, for_parts, in_block, index_of, is_bump, last_of, loop_in, loop_of, right_side, shape_at, shape_by, shape_of, simple_of, uncounted};
+ghost use Rattle.xmp_elab.specs.Statements.{added_by, added_plain, begun, compared_at, condition, counted_loop, counted_with, first_of, first_part, for_parts, in_block, index_of, is_bump, last_of, loop_in, loop_of, right_side, shape_at, shape_by, shape_of, simple_of, uncounted};
 
 use crate::constants::first_place;
 use crate::counted::{added_to, bound_of, is_counted};
@@ -59,13 +59,8 @@ impl World {
         ensures { Does (first_of (ForFirst.Assign r.now at value.now) self.old) result self.new }
     {
         let target = self.typed_reference(alloc, r)?;
-        let value_made = self.typed(alloc, value)?;
-        Ok(First {
-            declared: Items::new(alloc),
-            target,
-            value: value_made,
-            at: first_place(value),
-        })
+        let made = self.typed(alloc, value)?;
+        Ok(first_part(Items::new(alloc), value, target, made))
     }
 
     // The index of a `for` that declares it.
@@ -89,17 +84,12 @@ impl World {
     {
         let slot = self.declare_scalar(alloc, name, Ty::Int)?;
         let target = self.typed_index(alloc, name)?;
-        let value_made = self.typed(alloc, value)?;
+        let made = self.typed(alloc, value)?;
         let declared = declare_statement(alloc, slot, None, name.at)?;
-        Ok(First {
-            declared,
-            target,
-            value: value_made,
-            at: first_place(value),
-        })
+        Ok(first_part(declared, value, target, made))
     }
 
-    fn first_part(&mut self, alloc: Global, x: &ForFirst) -> Result<First, AllocError>
+    fn first_of(&mut self, alloc: Global, x: &ForFirst) -> Result<First, AllocError>
         ensures { Does (first_of x.now self.old) result self.new }
     {
         match x {
@@ -119,14 +109,18 @@ impl World {
     {
         match x {
             Some(x) => {
-                let first = self.first_part(alloc, x)?;
+                let first = self.first_of(alloc, x)?;
                 Ok(Some(first))
             }
             None => Ok(None),
         }
     }
 
-    fn test_if_there(&mut self, alloc: Global, x: &Option<Expr>) -> Result<Option<Operand>, AllocError>
+    fn test_if_there(
+        &mut self,
+        alloc: Global,
+        x: &Option<Expr>,
+    ) -> Result<Option<Operand>, AllocError>
         ensures { Does (if_there typed x.now self.old) result self.new }
     {
         match x {
@@ -155,7 +149,11 @@ impl World {
     }
 
     /// The scope of a `for` opens, and its parts before the body.
-    pub(crate) fn for_parts(&mut self, alloc: Global, head: &ForHead) -> Result<ForParts, AllocError>
+    pub(crate) fn for_parts(
+        &mut self,
+        alloc: Global,
+        head: &ForHead,
+    ) -> Result<ForParts, AllocError>
         ensures { Does (for_parts head.now self.old) result self.new }
     {
         self.open_scope()?;
@@ -163,6 +161,17 @@ impl World {
         let test = self.test_if_there(alloc, &head.test)?;
         let next = self.next_if_there(alloc, &head.next)?;
         Ok(ForParts { first, test, next })
+    }
+}
+
+fn first_part(declared: Items<prog::Stmt>, x: &Expr, target: Operand, value: Operand) -> First
+    ensures { result ≡ first_part declared x.now target value }
+{
+    First {
+        declared,
+        target,
+        value,
+        at: first_place(x),
     }
 }
 
@@ -391,11 +400,7 @@ fn condition(test: Option<Operand>) -> prog::Expr
 }
 
 // A turn of an uncounted loop: the body and the last part.
-fn turn(
-    alloc: Global,
-    body: prog::Stmt,
-    next: Option<prog::Stmt>,
-) -> Result<prog::Stmt, AllocError>
+fn turn(alloc: Global, body: prog::Stmt, next: Option<prog::Stmt>) -> Result<prog::Stmt, AllocError>
     ensures { IfOk result (λ s. s ≡ stmt.Block (body ∷ last_of next)) }
 {
     let mut list = Items::new(alloc);

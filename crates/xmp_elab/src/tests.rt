@@ -529,6 +529,30 @@ fn declaration(alloc: Global, text: &[u8], behind: Behind) -> Result<Declaration
     })
 }
 
+fn taken(w: World) -> Items<Broken> {
+    let World { broken, .. } = w;
+    broken
+}
+
+fn walk_declaration(
+    alloc: Global,
+    region: Region,
+    w: &mut World,
+    d: &Declaration,
+) -> Result<(), AllocError> {
+    if region == Region::File {
+        return w.file_declaration(alloc, d);
+    }
+    w.local_declaration(alloc, Items::new(alloc), d)?;
+    Ok(())
+}
+
+fn broken_by(alloc: Global, region: Region, d: &Declaration) -> Result<Items<Broken>, AllocError> {
+    let mut w = world(alloc, region)?;
+    walk_declaration(alloc, region, &mut w, d)?;
+    Ok(taken(w))
+}
+
 fn broken_by_declaration(
     alloc: Global,
     region: Region,
@@ -536,13 +560,7 @@ fn broken_by_declaration(
     behind: Behind,
 ) -> Result<Items<Broken>, AllocError> {
     let d = declaration(alloc, text, behind)?;
-    let mut w = world(alloc, region)?;
-    if region == Region::File {
-        w.file_declaration(alloc, &d)?;
-    } else {
-        w.local_declaration(alloc, Items::new(alloc), &d)?;
-    }
-    Ok(w.broken)
+    broken_by(alloc, region, &d)
 }
 
 // Where a declaration stands, its name, what follows that, and the rules that break.
@@ -643,15 +661,52 @@ fn format(alloc: Global, text: &[u8]) -> Result<Format, AllocError> {
     }
 }
 
-fn printed(alloc: Global, w: &mut World, text: &[u8], value: Expr) -> Result<(), AllocError> {
-    let format = format(alloc, text)?;
+// The value behind a comma, as the only one of a `printf`.
+fn values(alloc: Global, value: Expr) -> Result<Items<Next<Expr>>, AllocError> {
     let mut list = Items::new(alloc);
     list.push(Next {
         comma: place(91),
         item: value,
     })?;
-    w.print(alloc, place(80), &format, list.as_slice())?;
+    Ok(list)
+}
+
+fn walk_print(
+    alloc: Global,
+    w: &mut World,
+    text: &[u8],
+    list: &[Next<Expr>],
+) -> Result<(), AllocError> {
+    let format = format(alloc, text)?;
+    w.print(alloc, place(80), &format, list)?;
     Ok(())
+}
+
+fn walk_statement(
+    alloc: Global,
+    w: &mut World,
+    kind: Kind,
+    list: &[Next<Expr>],
+) -> Result<(), AllocError> {
+    match (kind, list) {
+        (Kind::Return(is_last), [value]) => {
+            w.return_of(alloc, is_last, place(80), &value.item)?;
+            Ok(())
+        }
+        (Kind::Print(text), _) => walk_print(alloc, w, text, list),
+        _ => Err(AllocError),
+    }
+}
+
+fn broken_in(
+    alloc: Global,
+    region: Region,
+    kind: Kind,
+    list: &[Next<Expr>],
+) -> Result<Items<Broken>, AllocError> {
+    let mut w = world(alloc, region)?;
+    walk_statement(alloc, &mut w, kind, list)?;
+    Ok(taken(w))
 }
 
 fn broken_by_statement(
@@ -661,14 +716,8 @@ fn broken_by_statement(
     pieces: &[Piece],
 ) -> Result<Items<Broken>, AllocError> {
     let value = built(alloc, pieces)?;
-    let mut w = world(alloc, region)?;
-    match kind {
-        Kind::Return(is_last) => {
-            w.return_of(alloc, is_last, place(80), &value)?;
-        }
-        Kind::Print(text) => printed(alloc, &mut w, text, value)?,
-    }
-    Ok(w.broken)
+    let list = values(alloc, value)?;
+    broken_in(alloc, region, kind, list.as_slice())
 }
 
 // Where a statement stands, its kind, its expression, and the rules that break.
