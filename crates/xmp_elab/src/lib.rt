@@ -38,3 +38,5 @@ pub use world::World;
 
 #[cfg(test)]
 mod tests;
+#[cfg(test)]
+mod rules_tests;
