@@ -61,7 +61,6 @@ cell_end c extents i p h le w =
     let e : p ≡ min p (c + 1) = omega arith in
     e ∙ sym (w ∙ (ap (λ l. min (p * product l) (c + 1)) (drop_all i extents h) ∙ product_none c p))
 
-
 pub one_factor : (c p : ℕ) → min p (c + 1) ≡ min (1 * p) (c + 1)
 one_factor c p = ap (λ m. min m (c + 1)) (omega arith)
 
@@ -70,7 +69,7 @@ pub sum_step : (xs : List ℤ) (i t n next whole m : ℕ) → i < length xs → 
     whole ≡ min (t + sum (map natural (drop i xs))) m → whole ≡ min (next + sum (map natural (drop (i + 1) xs))) m
 sum_step xs i t n next whole m h e q w =
     let u : sum (map natural (drop i xs)) ≡ natural (get_or xs i (pos 0)) + sum (map natural (drop (i + 1) xs)) =
-      ap (λ l. sum (map natural l)) (unrolled_at xs i (pos 0) h) ∙ sum_by-cons (λ x. x) (natural (get_or xs i (pos 0))) (map natural (drop (i + 1) xs)) in
+    ap (λ l. sum (map natural l)) (unrolled_at xs i (pos 0) h) ∙ sum_by-cons (λ x. x) (natural (get_or xs i (pos 0))) (map natural (drop (i + 1) xs)) in
     omega arith
 
 pub sum_end : (xs : List ℤ) (i t m : ℕ) → length xs ≤ i → t ≤ m → min (sum (map natural xs)) m ≡ min (t + sum (map natural (drop i xs))) m →

@@ -169,7 +169,12 @@ fn align_rule(
 {
     let first = is_at(i, aligns.first_place(line.array as usize));
     let right = align_right(alloc, distributions, w, line)?;
-    judge(broken, first && (!w.names.coarray && right), Rule::M5, line.at)
+    judge(
+        broken,
+        first && (!w.names.coarray && right),
+        Rule::M5,
+        line.at,
+    )
 }
 
 /// The rules that aligns break.

@@ -26,17 +26,17 @@ mod walk;
 mod world;
 
 pub use formats::{Mode, fits_format, is_scan_format};
-pub use rules_of_mappings::mapping_rules;
 pub use mappings::{
     Align, AlignPoint, Distribution, Form, LoopUse, Mappings, NodesLine, Shadow, TemplateLine,
 };
 pub use names::{Array, Environment, Meaning, Region, Signature};
 pub use operators::Operator;
 pub use rules::{Broken, Notes, Rule};
+pub use rules_of_mappings::mapping_rules;
 pub use typed::{Operand, Parts, Typed, Value};
 pub use world::World;
 
 #[cfg(test)]
-mod tests;
-#[cfg(test)]
 mod rules_tests;
+#[cfg(test)]
+mod tests;

@@ -193,9 +193,13 @@ const NEXT: AlignPoint = AlignPoint::Dummy {
 
 // `nodes p[4]`, `template t[8]` and a distribution of it.
 const P: Line = Line::Nodes(&[4]);
+
 const T: Line = Line::Template(&[8]);
+
 const D: Line = Line::Distribute(0, &[Shape::Block]);
+
 const A: Line = Line::Array(&[8]);
+
 const ON: Line = Line::Align(0, &[true], &[I]);
 
 // The number of nodes that is asked for, the lines, and the rules that break, each with its line.
@@ -316,11 +320,19 @@ const ALIGNS: [Case; 8] = [
         ],
         &[(Rule::M5, 6)],
     ),
-    (None, &[P, T, D, A, A, ON, Line::Align(1, &[true], &[I])], &[]),
+    (
+        None,
+        &[P, T, D, A, A, ON, Line::Align(1, &[true], &[I])],
+        &[],
+    ),
 ];
 
 const SHADOWS: [Case; 7] = [
-    (None, &[P, T, D, A, ON, Line::Shadow(0, &[(1, 4194304)])], &[]),
+    (
+        None,
+        &[P, T, D, A, ON, Line::Shadow(0, &[(1, 4194304)])],
+        &[],
+    ),
     (
         None,
         &[P, T, D, A, ON, Line::Shadow(0, &[(1, 4194305)])],

@@ -178,7 +178,12 @@ fn loop_rule(
     ensures { OnOk result (broken.new ≡ broken.old ++ loop_rule w.now (i, line.now)) }
 {
     let forms = forms_of(w, distributions, line.template);
-    judge(broken, indexed_right(forms, line.indexed.as_slice()), Rule::M7, line.at)
+    judge(
+        broken,
+        indexed_right(forms, line.indexed.as_slice()),
+        Rule::M7,
+        line.at,
+    )
 }
 
 /// The rules that the points of loop directives break.

@@ -132,7 +132,12 @@ fn template_rule(
 {
     let right = one_to_three(line.sizes.len()) && all_extents(line.sizes.as_slice());
     judge(broken, right, Rule::M2, line.at)?;
-    judge(broken, distributions.first_place(i).is_some(), Rule::M3, line.at)
+    judge(
+        broken,
+        distributions.first_place(i).is_some(),
+        Rule::M3,
+        line.at,
+    )
 }
 
 /// The rules that templates break.
@@ -238,13 +243,7 @@ fn nodes_behind<'a>(form: &Form, nodes: &'a [i64]) -> &'a [i64]
     ensures { result.now ≡ nodes_behind form.now nodes.now }
 {
     match nodes.split_first() {
-        Some((_, more)) => {
-            if is_distributed(form) {
-                more
-            } else {
-                nodes
-            }
-        }
+        Some((_, more)) => { if is_distributed(form) { more } else { nodes } }
         None => nodes,
     }
 }

@@ -9,9 +9,11 @@ use mir.Val.{SFits, of_z, to_z}
 pub lengths-preserved : goal.lengths-preserved
 lengths-preserved c =
     let f : SFits w64 (get_or c.args.lengths.now c.lengths.n-index (pos 0)) = search rules in
-    let e : to_z w64 (of_z w64 (get_or c.args.lengths.now c.lengths.n-index (pos 0))) ≡ get_or c.args.lengths.now c.lengths.n-index (pos 0) = omega (arith, ints) in
-    (omega arith, sum_step c.args.lengths.now c.lengths.n-index c.lengths.total c.natural.result c.saturating_add-total.result _ 18446744073709551615 c.lengths-test.true
-    (c.natural.ensures ∙ ap natural e) c.saturating_add-total.ensures c.lengths.invariant.1)
+    let e : to_z w64 (of_z w64 (get_or c.args.lengths.now c.lengths.n-index (pos 0))) ≡ get_or c.args.lengths.now c.lengths.n-index (pos 0) = omega (arith, ints) in (
+      omega arith,
+      sum_step c.args.lengths.now c.lengths.n-index c.lengths.total c.natural.result c.saturating_add-total.result _ 18446744073709551615 c.lengths-test.true
+          (c.natural.ensures ∙ ap natural e) c.saturating_add-total.ensures c.lengths.invariant.1,
+    )
 
 pub returns : goal.returns
 returns c = sum_end c.args.lengths.now c.lengths.n-index c.lengths.total 18446744073709551615 c.lengths-test.false c.lengths.invariant.0 c.lengths.invariant.1
