@@ -48,8 +48,8 @@ pub cells_step : (made next : List Broken) (xs : List Array) (i : ℕ) (x : Arra
 cells_step made next xs i x before k cost cells times total h is p c t q e =
     let sum : min (before + product x.extents) 4194305 ≡ cells = omega arith in
     let judged : nat_le ((before + product x.extents) * k) 4194304 ≡ nat_lt total 4194305 =
-      within ((before + product x.extents) * k) ∙ ap (λ n. nat_lt n 4194305) (both (before + product x.extents) k ∙ (ap (λ n. min (n * min k 4194305) 4194305) sum
-      ∙ (ap (λ n. min (cells * n) 4194305) (sym t) ∙ sym q))) in
+    within ((before + product x.extents) * k) ∙ ap (λ n. nat_lt n 4194305) (both (before + product x.extents) k ∙ (ap (λ n. min (n * min k 4194305) 4194305) sum
+    ∙ (ap (λ n. min (cells * n) 4194305) (sym t) ∙ sym q))) in
     ap (λ l. made ++ cells_from k before l) (unrolled xs i x h is)
     ∙ (ap (λ b. made ++ (unless b M10 x.at ++ cells_from k (before + product x.extents) (drop (i + 1) xs))) judged
     ∙ (ap (λ r. made ++ (unless (nat_lt total 4194305) M10 x.at ++ r)) (cells_kept k (before + product x.extents) (drop (i + 1) xs) ∙ ap (λ n. cells_from k n (drop (i + 1) xs)) sum)

@@ -1,10 +1,14 @@
 -- A product, and a number beside a limit.
-use Rattle.std.proofs.Common.{◌≡◌, ◌∙◌, sym, ◌<◌, ◌≤◌, ◌+◌, ◌*◌, ℕ, ℤ, pos, suc, zero, min, arith, ⊎_elim, ap, List, [], ◌∷◌, map, length, drop, drop-cons, add-one, get_or}
+use Rattle.std.proofs.Common.{◌≡◌, ◌∙◌, sym, ◌<◌, ◌≤◌, ◌+◌, ◌*◌, ℕ, ℤ, pos, suc, zero, min, arith, ⊎_elim, ap, List, [], ◌∷◌, map, length, drop, drop-cons, add-one, get_or, Bool, refl, negsuc}
 use Rattle.std.proofs.lemmas.Bool.{cases_lt}
 use Rattle.std.proofs.lemmas.List.{drop_all}
+use Rattle.std.proofs.lemmas.List.Sums.{sum_by-cons}
 use Rattle.xmp_map.specs.RowMajor.{product}
 use Rattle.xmp_elab.specs.Directives.{natural}
-use Rattle.xmp_elab.specs.MappingRules.{node_product}
+use Rattle.xmp_elab.specs.MappingRules.{node_product, counts}
+use Rattle.std.specs.Prelude.{◌==◌}
+use Rattle.std.specs.List.{sum}
+use Rattle.std.proofs.lemmas.Bool.Decides.{nat_tests}
 
 small : (c a r : ℕ) → a < c + 1 → min (a * r) (c + 1) ≡ min (min a (c + 1) * r) (c + 1)
 small c a r h = let e : min a (c + 1) ≡ a = omega arith in rw e
@@ -57,6 +61,27 @@ cell_end c extents i p h le w =
     let e : p ≡ min p (c + 1) = omega arith in
     e ∙ sym (w ∙ (ap (λ l. min (p * product l) (c + 1)) (drop_all i extents h) ∙ product_none c p))
 
-
 pub one_factor : (c p : ℕ) → min p (c + 1) ≡ min (1 * p) (c + 1)
 one_factor c p = ap (λ m. min m (c + 1)) (omega arith)
+
+-- A sum that is kept below a limit.
+pub sum_step : (xs : List ℤ) (i t n next whole m : ℕ) → i < length xs → n ≡ natural (get_or xs i (pos 0)) → next ≡ min (t + n) m →
+    whole ≡ min (t + sum (map natural (drop i xs))) m → whole ≡ min (next + sum (map natural (drop (i + 1) xs))) m
+sum_step xs i t n next whole m h e q w =
+    let u : sum (map natural (drop i xs)) ≡ natural (get_or xs i (pos 0)) + sum (map natural (drop (i + 1) xs)) =
+    ap (λ l. sum (map natural l)) (unrolled_at xs i (pos 0) h) ∙ sum_by-cons (λ x. x) (natural (get_or xs i (pos 0))) (map natural (drop (i + 1) xs)) in
+    omega arith
+
+pub sum_end : (xs : List ℤ) (i t m : ℕ) → length xs ≤ i → t ≤ m → min (sum (map natural xs)) m ≡ min (t + sum (map natural (drop i xs))) m →
+    t ≡ min (sum (map natural xs)) m
+sum_end xs i t m h le w =
+    let u : sum (map natural (drop i xs)) ≡ 0 = ap (λ l. sum (map natural l)) (drop_all i xs h) in
+    omega arith
+
+-- A limit that is beyond the number doesn't matter.
+kept_equal : (s m n : ℕ) → n < m → (min s m == n) ≡ (s == n)
+kept_equal s m n h = grind (arith, nat_tests)
+
+pub counts_kept : (s m : ℕ) (z : ℤ) → ((n : ℕ) → z ≡ pos n → n < m) → counts (min s m) z ≡ counts s z
+counts_kept s m (pos n) h = kept_equal s m n (h n refl)
+counts_kept s m (negsuc n) h = refl

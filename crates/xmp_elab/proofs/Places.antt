@@ -21,7 +21,6 @@ set_other (x ∷ xs) zero (suc k) v ne = refl
 set_other (x ∷ xs) (suc i) zero v ne = refl
 set_other (x ∷ xs) (suc i) (suc k) v ne = set_other xs i k v (λ e. ne (ap suc e))
 
-
 pub placed : (k : ℕ) (all : List ℕ) (n : ℕ) → first_place k (all ++ n ∷ []) ≡ option_or (first_place k all) (if n == k then Some (length all) else None)
 placed k all n =
     let b : position_or_len (λ n. n == k) all ≤ length all = prefix_len-le-length _ all in

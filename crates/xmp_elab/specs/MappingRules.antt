@@ -1,10 +1,10 @@
 -- The rules of mappings, over the whole program: a mapping holds wherever it stands (XcalableMP 1.4, section 4.3).
 -- Where a second `nodes`, or a second distribution, align or shadow of one name stands, it breaks a rule itself, and all
 -- other rules go by the first.
-use Rattle.std.specs.Prelude.{◌++◌, ◌∷◌, [], ℕ, ◌+◌, ◌*◌, ◌==◌, List, ℤ, pos, ◌+ℤ◌, int_le, nat_lt, nat_le, Bool, true, false, not, ◌&&◌, ◌||◌, if◌then◌else◌, Option, Some, None, is_some, length, map, slice_get}
+use Rattle.std.specs.Prelude.{◌++◌, ◌∷◌, [], ℕ, ◌+◌, ◌*◌, ◌==◌, List, ℤ, pos, negsuc, ◌+ℤ◌, int_le, nat_lt, nat_le, Bool, true, false, not, ◌&&◌, ◌||◌, if◌then◌else◌, Option, Some, None, is_some, length, map, slice_get}
 use Rattle.std.specs.Option.{unwrap_or}
 use Rattle.std.specs.Ordering.{int_eq}
-use Rattle.std.specs.List.{list_all, flat_map, count_by, enumerate_from}
+use Rattle.std.specs.List.{list_all, flat_map, count_by, enumerate_from, sum}
 use Rattle.xmp_base.specs.declared.place.Place.{Place}
 use Rattle.xmp_map.specs.RowMajor.{product}
 use Rattle.xmp_elab.specs.declared.names.Array.{Array}
@@ -137,18 +137,18 @@ spread_right nodes forms = count_by is_distributed forms == length nodes
 
 -- A cyclic width is 1 to 4,194,304; the lengths of a gblock are as many as the nodes along its dimension, none is negative,
 -- and their sum is the size.
-abbrev pub sum_of : List ℤ → ℤ
-sum_of [] = pos 0
-sum_of (n ∷ ns) = n +ℤ sum_of ns
+abbrev pub counts : ℕ → ℤ → Bool
+counts n (pos m) = n == m
+counts n (negsuc m) = false
 
 abbrev pub lengths_right : List ℤ → ℤ → Bool
-lengths_right ns size = list_all (λ n. int_le (pos 0) n) ns && int_eq (sum_of ns) size
+lengths_right ns size = list_all (λ n. int_le (pos 0) n) ns && counts (sum (map natural ns)) size
 
 abbrev pub form_right : Form → ℤ → ℤ → Bool
 form_right form.Whole size parts = true
 form_right form.Block size parts = true
 form_right (form.Cyclic n) size parts = is_extent n
-form_right (form.Gblock ns) size parts = int_eq (pos (length ns)) parts && lengths_right ns size
+form_right (form.Gblock ns) size parts = counts (length ns) parts && lengths_right ns size
 
 -- The k-th distributed dimension lies on the k-th dimension of the nodes array.
 abbrev pub form_fits : Form → ℤ → List ℤ → Bool
@@ -200,13 +200,13 @@ abbrev pub point_right : List ℕ → Bool → ℤ → AlignPoint → Bool
 point_right extents spread size ap.Star = not spread
 point_right extents spread size (ap.Dummy d offset) = is_small offset && reaches size offset (slice_get extents d)
 
-abbrev pub point_fits : List ℕ → Option Form → Option ℤ → AlignPoint → Bool
-point_fits extents f None p = true
-point_fits extents f (Some size) p = point_right extents (distributes f) size p
+abbrev pub point_fits : List ℕ → Bool → Option ℤ → AlignPoint → Bool
+point_fits extents spread None p = true
+point_fits extents spread (Some size) p = point_right extents spread size p
 
 abbrev pub points_right : List ℕ → List Form → List ℤ → List AlignPoint → Bool
 points_right extents forms sizes points =
-    list_all (λ x. point_fits extents (slice_get forms x.0) (slice_get sizes x.0) x.1) (enumerate_from 0 points)
+    list_all (λ x. point_fits extents (distributes (slice_get forms x.0)) (slice_get sizes x.0) x.1) (enumerate_from 0 points)
 
 -- An array is aligned once, and not in a program with a coarray.
 abbrev pub is_first_align : World → ℕ × Align → Bool

@@ -25,10 +25,7 @@ fn has_dummy(dimension: &AlignDimension) -> bool
 }
 
 // Whether each dimension of the array has a dummy.
-fn have_dummies(
-    alloc: Global,
-    list: &[Inside<AlignDimension>],
-) -> Result<Items<bool>, AllocError>
+fn have_dummies(alloc: Global, list: &[Inside<AlignDimension>]) -> Result<Items<bool>, AllocError>
     ensures { IfOk result (λ bs. bs ≡ map has_dummy (inner list.now)) }
 {
     let mut have = Items::new(alloc);
@@ -86,11 +83,7 @@ impl World {
         }
     }
 
-    fn dummy_in_point(
-        &mut self,
-        name: &Name,
-        dimension: Option<usize>,
-    ) -> Result<usize, AllocError>
+    fn dummy_in_point(&mut self, name: &Name, dimension: Option<usize>) -> Result<usize, AllocError>
         ensures { Does (dummy_in_point name.now dimension self.old) result self.new }
     {
         match dimension {
@@ -147,12 +140,7 @@ impl World {
     }
 
     // An array has as many dimensions in an align and in a shadow as extents.
-    fn match_array(
-        &mut self,
-        array: Option<u32>,
-        count: usize,
-        at: Place,
-    ) -> Result<(), AllocError>
+    fn match_array(&mut self, array: Option<u32>, count: usize, at: Place) -> Result<(), AllocError>
         ensures { Does (match_array array count at self.old) result self.new }
     {
         match array {

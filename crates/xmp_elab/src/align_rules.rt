@@ -8,7 +8,7 @@ use crate::nodes_rules::judge;
 use crate::numbers::Numbers;
 use crate::points::is_small;
 use crate::rules::{Broken, Rule};
-use crate::template_rules::{forms_of, is_at, is_distributed, template_sizes};
+use crate::template_rules::{distributes, forms_of, is_at, template_sizes};
 use crate::world::World;
 use sqlite_items::Items;
 use std::alloc::{AllocError, Global};
@@ -109,35 +109,27 @@ fn point_right(extents: &[u32], spread: bool, size: i64, point: AlignPoint) -> b
     }
 }
 
-/// Whether a dimension with this form, which may be missing, is distributed.
-pub(crate) fn distributes(form: Option<&Form>) -> bool
-    ensures { result ≡ distributes (option_copied form) }
+fn point_fits(extents: &[u32], spread: bool, size: Option<i64>, point: AlignPoint) -> bool
+    ensures { result ≡ point_fits extents.now spread size point }
 {
-    match form {
-        Some(form) => is_distributed(form),
-        None => false,
+    match size {
+        Some(size) => point_right(extents, spread, size, point),
+        None => true,
     }
 }
 
-fn point_fits(
-    extents: &[u32],
-    form: Option<&Form>,
-    size: Option<i64>,
-    point: AlignPoint,
-) -> bool
-    ensures { result ≡ point_fits extents.now (option_copied form) size point }
+// The point of the i-th dimension of the template.
+fn point_at(extents: &[u32], forms: &[Form], sizes: &[i64], i: usize, point: AlignPoint) -> bool
+    ensures { result ≡ point_fits extents.now (distributes (slice_get forms.now i)) (slice_get sizes.now i) point }
 {
-    match size {
-        Some(size) => point_right(extents, distributes(form), size, point),
-        None => true,
-    }
+    point_fits(extents, distributes(forms, i), sizes.get(i).copied(), point)
 }
 
 fn points_right(extents: &[u32], forms: &[Form], sizes: &[i64], points: &[AlignPoint]) -> bool
     ensures { result ≡ points_right extents.now forms.now sizes.now points.now }
 {
     'points: for (i, point) in points.iter().enumerate() {
-        if !point_fits(extents, forms.get(i), sizes.get(i).copied(), *point) {
+        if !point_at(extents, forms, sizes, i, *point) {
             return false;
         }
     }
@@ -177,7 +169,12 @@ fn align_rule(
 {
     let first = is_at(i, aligns.first_place(line.array as usize));
     let right = align_right(alloc, distributions, w, line)?;
-    judge(broken, first && (!w.names.coarray && right), Rule::M5, line.at)
+    judge(
+        broken,
+        first && (!w.names.coarray && right),
+        Rule::M5,
+        line.at,
+    )
 }
 
 /// The rules that aligns break.

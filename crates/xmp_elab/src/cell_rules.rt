@@ -57,7 +57,12 @@ pub(crate) fn cell_rules(
     let arrays = w.names.arrays.as_slice();
     'arrays: for array in arrays {
         let cells = (before + cells_in(array.extents.as_slice())).min(TOO_MANY);
-        judge(broken, limited_product(cells, times) < TOO_MANY, Rule::M10, array.at)?;
+        judge(
+            broken,
+            limited_product(cells, times) < TOO_MANY,
+            Rule::M10,
+            array.at,
+        )?;
         before = cells;
     }
     Ok(())

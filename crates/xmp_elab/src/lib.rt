@@ -52,4 +52,6 @@ pub use verdict::{first_in, refusal_of};
 pub use world::World;
 
 #[cfg(test)]
+mod rules_tests;
+#[cfg(test)]
 mod tests;

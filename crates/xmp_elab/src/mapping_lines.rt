@@ -21,11 +21,7 @@ impl World {
         self.stands_outermost(line.word)
     }
 
-    fn constants(
-        &mut self,
-        alloc: Global,
-        list: &[Inside<Expr>],
-    ) -> Result<Items<i64>, AllocError>
+    fn constants(&mut self, alloc: Global, list: &[Inside<Expr>]) -> Result<Items<i64>, AllocError>
         ensures { Does (constants list.now self.old) result self.new }
     {
         let mut values = Items::new(alloc);
@@ -222,7 +218,14 @@ impl World {
             }
             Mapping::Align(line, array, dimensions, _, template, points) => {
                 let dimensions = dimensions.as_slice();
-                self.align_line(alloc, line.word, array, dimensions, template, points.as_slice())
+                self.align_line(
+                    alloc,
+                    line.word,
+                    array,
+                    dimensions,
+                    template,
+                    points.as_slice(),
+                )
             }
             Mapping::Shadow(line, array, widths) => {
                 self.shadow_line(alloc, line.word, array, widths.as_slice())

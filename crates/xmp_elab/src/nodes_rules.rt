@@ -76,7 +76,8 @@ pub(crate) fn limited_product(a: u64, b: u64) -> u64
     a.saturating_mul(b).min(TOO_MANY)
 }
 
-fn natural(n: i64) -> u64
+/// A number, or 0 where it is negative.
+pub(crate) fn natural(n: i64) -> u64
     ensures { result ≡ natural n }
 {
     if n < 0 { 0 } else { n as u64 }

@@ -1,13 +1,13 @@
 // The rules of shadows and of the points of loop directives.
-ghost use Rattle.std.specs.Prelude.{◌≡◌, ◌++◌, IfOk, OnOk, option_copied};
-ghost use Rattle.xmp_elab.specs.MappingRules.{align_of, aligned, distributed, indexed_right, interval_dimension, interval_dimensions, is_width, loop_rule, loop_rules, shadow_right, shadow_rule, shadow_rules, shadowed, spans_intervals, width_right, widths_right};
+ghost use Rattle.std.specs.Prelude.{◌≡◌, ◌++◌, ◌||◌, IfOk, OnOk, not, slice_get};
+ghost use Rattle.xmp_elab.specs.MappingRules.{align_of, aligned, distributed, distributes, indexed_right, interval_dimension, interval_dimensions, is_width, loop_rule, loop_rules, shadow_right, shadow_rule, shadow_rules, shadowed, spans_intervals, width_right, widths_right};
 
-use crate::align_rules::{add_dimension, align_of, distributes};
-use crate::mappings::{Align, AlignPoint, Form, LoopUse, Shadow};
+use crate::align_rules::{add_dimension, align_of};
+use crate::mappings::{AlignPoint, Form, LoopUse, Shadow};
 use crate::nodes_rules::judge;
 use crate::numbers::Numbers;
 use crate::rules::{Broken, Rule};
-use crate::template_rules::{forms_of, has_intervals, is_at};
+use crate::template_rules::{distributes, forms_of, has_intervals, is_at};
 use crate::world::World;
 use sqlite_items::Items;
 use std::alloc::{AllocError, Global};
@@ -24,10 +24,11 @@ fn shadowed(alloc: Global, w: &World) -> Result<Numbers, AllocError>
     Ok(numbers)
 }
 
-fn spans_intervals(form: Option<&Form>) -> bool
-    ensures { result ≡ spans_intervals (option_copied form) }
+// Whether the form of a dimension, which may have none, gives each node one interval.
+fn spans_intervals(forms: &[Form], i: usize) -> bool
+    ensures { result ≡ spans_intervals (slice_get forms.now i) }
 {
-    match form {
+    match forms.get(i) {
         Some(form) => has_intervals(form),
         None => false,
     }
@@ -41,7 +42,7 @@ fn add_interval_dimension(
 ) -> Result<(), AllocError>
     ensures { OnOk result (dimensions.new ≡ dimensions.old ++ interval_dimension forms.now (i, point)) }
 {
-    if spans_intervals(forms.get(i)) {
+    if spans_intervals(forms, i) {
         add_dimension(dimensions, point)
     } else {
         Ok(())
@@ -91,14 +92,15 @@ fn widths_right(dimensions: &Numbers, widths: &[(i64, i64)]) -> bool
 fn shadow_right(
     alloc: Global,
     distributions: &Numbers,
+    aligns: &Numbers,
     w: &World,
-    align: Option<&Align>,
     line: &Shadow,
 ) -> Result<bool, AllocError>
-    requires { distributions.now ≡ distributed w.now }
-    ensures { IfOk result (λ r. r ≡ shadow_right w.now (option_copied align) line.now) }
+    requires distributions { distributions.now ≡ distributed w.now }
+    requires aligns { aligns.now ≡ aligned w.now }
+    ensures { IfOk result (λ r. r ≡ shadow_right w.now (align_of w.now line.now.array) line.now) }
 {
-    match align {
+    match align_of(w, aligns, line.array) {
         Some(align) => {
             let forms = forms_of(w, distributions, align.template);
             let dimensions = interval_dimensions(alloc, forms, align.points.as_slice())?;
@@ -124,8 +126,7 @@ fn shadow_rule(
     ensures { OnOk result (broken.new ≡ broken.old ++ shadow_rule w.now (i, line.now)) }
 {
     let first = is_at(i, shadows.first_place(line.array as usize));
-    let align = align_of(w, aligns, line.array);
-    let right = shadow_right(alloc, distributions, w, align, line)?;
+    let right = shadow_right(alloc, distributions, aligns, w, line)?;
     judge(broken, first && right, Rule::M6, line.at)
 }
 
@@ -149,11 +150,17 @@ pub(crate) fn shadow_rules(
     Ok(())
 }
 
+fn has_index(forms: &[Form], i: usize, index: bool) -> bool
+    ensures { result ≡ (index || not (distributes (slice_get forms.now i))) }
+{
+    index || !distributes(forms, i)
+}
+
 fn indexed_right(forms: &[Form], indexed: &[bool]) -> bool
     ensures { result ≡ indexed_right forms.now indexed.now }
 {
-    'points: for (i, has_index) in indexed.iter().enumerate() {
-        if !*has_index && distributes(forms.get(i)) {
+    'points: for (i, index) in indexed.iter().enumerate() {
+        if !has_index(forms, i, *index) {
             return false;
         }
     }
@@ -171,7 +178,12 @@ fn loop_rule(
     ensures { OnOk result (broken.new ≡ broken.old ++ loop_rule w.now (i, line.now)) }
 {
     let forms = forms_of(w, distributions, line.template);
-    judge(broken, indexed_right(forms, line.indexed.as_slice()), Rule::M7, line.at)
+    judge(
+        broken,
+        indexed_right(forms, line.indexed.as_slice()),
+        Rule::M7,
+        line.at,
+    )
 }
 
 /// The rules that the points of loop directives break.

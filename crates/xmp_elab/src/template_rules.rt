@@ -1,13 +1,13 @@
 // The rules of templates and their distributions.
-ghost use Rattle.std.specs.Prelude.{◌≡◌, ◌==◌, ◌++◌, ◌&&◌, IfOk, OnOk, length, option_copied, pos};
-ghost use Rattle.std.specs.List.{count_by, list_all};
-ghost use Rattle.std.specs.Ordering.{int_eq};
-ghost use Rattle.xmp_elab.specs.MappingRules.{distributed, distribution_of, distribution_rule, distribution_rules, form_fits, form_right, forms_of, forms_right, has_intervals, is_distributed, lengths_right, nodes_behind, nodes_of, spread_right, template_rule, template_rules, template_sizes};
+ghost use Rattle.std.specs.Prelude.{◌≡◌, ◌==◌, ◌++◌, ◌&&◌, IfOk, OnOk, int_le, length, map, min, option_copied, pos, slice_get};
+ghost use Rattle.std.specs.List.{count_by, list_all, sum};
+ghost use Rattle.xmp_elab.specs.MappingRules.{counts, distributed, distribution_of, distribution_rule, distribution_rules, distributes, form_fits, form_right, forms_of, forms_right, has_intervals, is_distributed, lengths_right, nodes_behind, nodes_of, spread_right, template_rule, template_rules, template_sizes};
 ghost use Rattle.xmp_elab.specs.Declarations.{is_extent};
+ghost use Rattle.xmp_elab.specs.Directives.{natural};
 ghost use Rattle.xmp_elab.specs.Numbers.{is_at};
 
 use crate::mappings::{Distribution, Form, TemplateLine};
-use crate::nodes_rules::{judge, one_to_three};
+use crate::nodes_rules::{judge, natural, one_to_three};
 use crate::numbers::Numbers;
 use crate::rules::{Broken, Rule};
 use crate::world::World;
@@ -82,6 +82,16 @@ pub(crate) fn is_distributed(form: &Form) -> bool
     }
 }
 
+/// Whether the form of a dimension, which may have none, distributes it.
+pub(crate) fn distributes(forms: &[Form], i: usize) -> bool
+    ensures { result ≡ distributes (slice_get forms.now i) }
+{
+    match forms.get(i) {
+        Some(form) => is_distributed(form),
+        None => false,
+    }
+}
+
 /// Whether a form gives each node one interval.
 pub(crate) fn has_intervals(form: &Form) -> bool
     ensures { result ≡ has_intervals form.now }
@@ -122,7 +132,12 @@ fn template_rule(
 {
     let right = one_to_three(line.sizes.len()) && all_extents(line.sizes.as_slice());
     judge(broken, right, Rule::M2, line.at)?;
-    judge(broken, distributions.first_place(i).is_some(), Rule::M3, line.at)
+    judge(
+        broken,
+        distributions.first_place(i).is_some(),
+        Rule::M3,
+        line.at,
+    )
 }
 
 /// The rules that templates break.
@@ -159,28 +174,46 @@ fn spread_right(nodes: &[i64], forms: &[Form]) -> bool
     distributed_dimensions(forms) == nodes.len()
 }
 
-// Whether none of the lengths is negative, and their sum is the size. A sum beyond the type is beyond each size.
-fn lengths_right(lengths: &[i64], size: i64) -> bool
-    ensures { result ≡ lengths_right lengths.now size }
+fn none_negative(lengths: &[i64]) -> bool
+    ensures { result ≡ list_all (λ n. int_le (pos 0) n) lengths.now }
 {
-    let mut sum = 0i64;
     'lengths: for n in lengths {
         if *n < 0 {
             return false;
         }
-        match sum.checked_add(*n) {
-            Some(more) => sum = more,
-            None => return false,
-        }
     }
-    sum == size
+    true
 }
 
-// Whether there are as many as a number says.
-fn is_count(count: usize, number: i64) -> bool
-    ensures { result ≡ int_eq (pos count) number }
+// The sum of the lengths that aren't negative, or the greatest number where it is more.
+fn sum_of(lengths: &[i64]) -> u64
+    ensures { result ≡ min (sum (map natural lengths.now)) 18446744073709551615 }
 {
-    0 <= number && count as u64 == number as u64
+    let mut total = 0u64;
+    'lengths: for n in lengths {
+        total = total.saturating_add(natural(*n));
+    }
+    total
+}
+
+// Whether a number is this one.
+fn counts(count: u64, number: i64) -> bool
+    ensures { result ≡ counts count number }
+{
+    0 <= number && count == number as u64
+}
+
+// Whether the lengths have a sum. One that is cut off is beyond each size.
+fn have_sum(lengths: &[i64], size: i64) -> bool
+    ensures { result ≡ counts (sum (map natural lengths.now)) size }
+{
+    counts(sum_of(lengths), size)
+}
+
+fn lengths_right(lengths: &[i64], size: i64) -> bool
+    ensures { result ≡ lengths_right lengths.now size }
+{
+    none_negative(lengths) && have_sum(lengths, size)
 }
 
 fn form_right(form: &Form, size: i64, parts: i64) -> bool
@@ -191,7 +224,7 @@ fn form_right(form: &Form, size: i64, parts: i64) -> bool
         Form::Block => true,
         Form::Cyclic(width) => is_extent(*width),
         Form::Gblock(lengths) => {
-            is_count(lengths.len(), parts) && lengths_right(lengths.as_slice(), size)
+            counts(lengths.len() as u64, parts) && lengths_right(lengths.as_slice(), size)
         }
     }
 }
@@ -210,13 +243,7 @@ fn nodes_behind<'a>(form: &Form, nodes: &'a [i64]) -> &'a [i64]
     ensures { result.now ≡ nodes_behind form.now nodes.now }
 {
     match nodes.split_first() {
-        Some((_, more)) => {
-            if is_distributed(form) {
-                more
-            } else {
-                nodes
-            }
-        }
+        Some((_, more)) => { if is_distributed(form) { more } else { nodes } }
         None => nodes,
     }
 }
