@@ -534,6 +534,14 @@ fn taken(w: World) -> Items<Broken> {
     broken
 }
 
+// What is made is let go.
+fn dropped<T: Drop>(made: Result<T, AllocError>) -> Result<(), AllocError> {
+    match made {
+        Ok(_) => Ok(()),
+        Err(e) => Err(e),
+    }
+}
+
 fn walk_declaration(
     alloc: Global,
     region: Region,
@@ -543,8 +551,7 @@ fn walk_declaration(
     if region == Region::File {
         return w.file_declaration(alloc, d);
     }
-    w.local_declaration(alloc, Items::new(alloc), d)?;
-    Ok(())
+    dropped(w.local_declaration(alloc, Items::new(alloc), d))
 }
 
 fn broken_by(alloc: Global, region: Region, d: &Declaration) -> Result<Items<Broken>, AllocError> {
@@ -678,8 +685,7 @@ fn walk_print(
     list: &[Next<Expr>],
 ) -> Result<(), AllocError> {
     let format = format(alloc, text)?;
-    w.print(alloc, place(80), &format, list)?;
-    Ok(())
+    dropped(w.print(alloc, place(80), &format, list))
 }
 
 fn walk_statement(
@@ -688,10 +694,9 @@ fn walk_statement(
     kind: Kind,
     list: &[Next<Expr>],
 ) -> Result<(), AllocError> {
-    match (kind, list) {
-        (Kind::Return(is_last), [value]) => {
-            w.return_of(alloc, is_last, place(80), &value.item)?;
-            Ok(())
+    match (kind, list.first()) {
+        (Kind::Return(is_last), Some(value)) => {
+            dropped(w.return_of(alloc, is_last, place(80), &value.item))
         }
         (Kind::Print(text), _) => walk_print(alloc, w, text, list),
         _ => Err(AllocError),
