@@ -1,9 +1,8 @@
 -- The cells of arrays, counted up to a limit.
-use Rattle.std.proofs.Common.{◌≡◌, ◌∙◌, sym, ◌<◌, ◌+◌, ◌*◌, ◌++◌, ℕ, Bool, min, arith, ap, List, [], ◌∷◌, refl, length, drop, get_or, append_assoc}
+use Rattle.std.proofs.Common.{◌≡◌, ◌∙◌, sym, ◌<◌, ◌+◌, ◌*◌, ◌++◌, ℕ, min, arith, ap, List, [], ◌∷◌, refl, length, drop, get_or, append_assoc}
 use Rattle.std.specs.Prelude.{nat_le, nat_lt}
 use Rattle.std.proofs.lemmas.Bool.Decides.{nat_tests}
 use Rattle.xmp_map.specs.RowMajor.{product}
-use Rattle.xmp_base.specs.declared.place.Place.{Place}
 use Rattle.xmp_elab.specs.declared.names.Array.{Array}
 use Rattle.xmp_elab.specs.declared.rules.Broken.{Broken}
 use Rattle.xmp_elab.specs.declared.rules.Rule.TheVariants.{M10}

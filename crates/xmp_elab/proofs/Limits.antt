@@ -1,5 +1,5 @@
 -- A product, and a number beside a limit.
-use Rattle.std.proofs.Common.{◌≡◌, ◌∙◌, sym, ◌<◌, ◌≤◌, ◌+◌, ◌*◌, ℕ, ℤ, pos, suc, zero, min, arith, ⊎_elim, ap, List, [], ◌∷◌, map, length, drop, drop-cons, add-one, get_or, Bool, refl, negsuc}
+use Rattle.std.proofs.Common.{◌≡◌, ◌∙◌, sym, ◌<◌, ◌≤◌, ◌+◌, ◌*◌, ℕ, ℤ, pos, suc, zero, min, arith, ⊎_elim, ap, List, [], ◌∷◌, map, length, drop, drop-cons, add-one, get_or, refl, negsuc}
 use Rattle.std.proofs.lemmas.Bool.{cases_lt}
 use Rattle.std.proofs.lemmas.List.{drop_all}
 use Rattle.std.proofs.lemmas.List.Sums.{sum_by-cons}

@@ -1,5 +1,5 @@
 -- Numbers in a row, and where one stands first among them.
-use Rattle.std.specs.Prelude.{◌≡◌, ◌==◌, ℕ, List, Option, Some, None, Bool, true, false, slice_get}
+use Rattle.std.specs.Prelude.{◌≡◌, ◌==◌, ℕ, List, Option, Some, None, Bool, false, slice_get}
 use Rattle.std.specs.List.{position}
 
 -- The place of the first that is this number.

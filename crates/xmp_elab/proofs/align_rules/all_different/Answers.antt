@@ -1,4 +1,4 @@
-use Rattle.std.proofs.Common.{◌≡◌, ◌∙◌, ap, sym, ℕ, Bool, get_or}
+use Rattle.std.proofs.Common.{◌∙◌, ap, sym, ℕ, Bool}
 use Rattle.std.specs.List.{list_all, enumerate_from}
 use Rattle.xmp_elab.specs.Numbers.{first_place, is_at}
 use Rattle.xmp_elab.proofs.Enumerated.{all_step_at, all_ends_at}

@@ -1,5 +1,5 @@
-use Rattle.std.proofs.Common.{◌≡◌, ◌&&◌, ◌||◌, not, drop}
-use Rattle.std.specs.List.{list_all, enumerate_from, slice_get}
+use Rattle.std.proofs.Common.{◌≡◌, drop}
+use Rattle.std.specs.List.{list_all, enumerate_from}
 use Rattle.xmp_elab.specs.Numbers.{first_place, is_at}
 use Rattle.xmp_elab.proofs.align_rules.all_different.Given as goal
 

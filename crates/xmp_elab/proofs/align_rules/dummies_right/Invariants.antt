@@ -1,6 +1,6 @@
-use Rattle.std.proofs.Common.{◌≡◌, ◌&&◌, ◌||◌, not, drop}
-use Rattle.std.specs.List.{list_all, enumerate_from, slice_get}
-use Rattle.xmp_elab.specs.Numbers.{first_place, is_at}
+use Rattle.std.proofs.Common.{◌≡◌, ◌||◌, not, drop}
+use Rattle.std.specs.List.{list_all, enumerate_from}
+use Rattle.xmp_elab.specs.Numbers.{first_place}
 use Rattle.std.specs.Prelude.{is_some}
 use Rattle.xmp_elab.proofs.align_rules.dummies_right.Given as goal
 

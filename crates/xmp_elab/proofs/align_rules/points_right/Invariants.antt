@@ -1,4 +1,4 @@
-use Rattle.std.proofs.Common.{◌≡◌, ◌&&◌, ◌||◌, not, drop}
+use Rattle.std.proofs.Common.{◌≡◌, drop}
 use Rattle.std.specs.List.{list_all, enumerate_from, slice_get}
 use Rattle.xmp_elab.specs.MappingRules.{point_fits, distributes}
 use Rattle.xmp_elab.proofs.align_rules.points_right.Given as goal

@@ -1,4 +1,4 @@
-use Rattle.std.proofs.Common.{◌≡◌, ◌∙◌, ap, arith, min}
+use Rattle.std.proofs.Common.{◌∙◌, ap, arith, min}
 use Rattle.xmp_map.specs.RowMajor.{product}
 use Rattle.xmp_elab.specs.MappingRules.{copies}
 use Rattle.xmp_elab.proofs.Cells.{cells_step}

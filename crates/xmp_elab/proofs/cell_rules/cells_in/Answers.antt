@@ -1,4 +1,4 @@
-use Rattle.std.proofs.Common.{◌≡◌, ◌∙◌, ◌*◌, ap, arith, min}
+use Rattle.std.proofs.Common.{◌∙◌, ◌*◌, ap, arith, min}
 use Rattle.xmp_elab.proofs.Limits.{cell_step, cell_end, one_factor}
 use Rattle.xmp_elab.proofs.cell_rules.cells_in.Goals as goal
 

@@ -1,4 +1,4 @@
-use Rattle.std.proofs.Common.{◌≡◌, ◌∙◌, ap, arith, rules, get_or, ℤ, pos}
+use Rattle.std.proofs.Common.{◌≡◌, ◌∙◌, ap, arith, rules, get_or, pos}
 use Rattle.std.proofs.lemmas.Int.{ints}
 use Rattle.xmp_elab.specs.Directives.{natural}
 use Rattle.xmp_elab.proofs.Limits.{node_step, node_end, one_factor}

@@ -1,4 +1,4 @@
-use Rattle.std.proofs.Common.{◌≡◌, ◌&&◌, ◌||◌, not, drop}
+use Rattle.std.proofs.Common.{◌≡◌, ◌||◌, not, drop}
 use Rattle.std.specs.List.{list_all, enumerate_from, slice_get}
 use Rattle.xmp_elab.specs.MappingRules.{distributes}
 use Rattle.xmp_elab.proofs.shadow_rules.indexed_right.Given as goal

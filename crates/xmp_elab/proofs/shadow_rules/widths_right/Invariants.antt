@@ -1,5 +1,5 @@
-use Rattle.std.proofs.Common.{◌≡◌, ◌&&◌, ◌||◌, not, drop}
-use Rattle.std.specs.List.{list_all, enumerate_from, slice_get}
+use Rattle.std.proofs.Common.{◌≡◌, drop}
+use Rattle.std.specs.List.{list_all, enumerate_from}
 use Rattle.xmp_elab.specs.MappingRules.{width_right}
 use Rattle.xmp_elab.proofs.shadow_rules.widths_right.Given as goal
 

@@ -1,4 +1,4 @@
-use Rattle.std.proofs.Common.{◌≡◌, ◌∙◌, ap, sym}
+use Rattle.std.proofs.Common.{◌∙◌, ap, sym}
 use Rattle.std.specs.Prelude.{is_some}
 use Rattle.xmp_elab.proofs.Places.{noted_as}
 use Rattle.xmp_elab.proofs.numbers.Numbers.push.Goals as goal
