@@ -165,6 +165,15 @@ fn empty(alloc: Global, given: Option<u32>, coarray: bool) -> World {
     }
 }
 
+fn fill(alloc: Global, w: &mut World, lines: &[Line]) -> Result<(), AllocError> {
+    let mut number = 1u32;
+    for line in lines {
+        keep(alloc, w, place(number), *line)?;
+        number = number.saturating_add(1);
+    }
+    Ok(())
+}
+
 // The rules of mappings that these lines break.
 fn broken(
     alloc: Global,
@@ -173,11 +182,7 @@ fn broken(
     lines: &[Line],
 ) -> Result<Items<Broken>, AllocError> {
     let mut w = empty(alloc, given, coarray);
-    let mut number = 1u32;
-    for line in lines {
-        keep(alloc, &mut w, place(number), *line)?;
-        number = number.saturating_add(1);
-    }
+    fill(alloc, &mut w, lines)?;
     mapping_rules(alloc, &w)
 }
 
