@@ -1,0 +1,31 @@
+//! Names, types and mappings: from the tree of a program to the parts of the typed program.
+//!
+//! The definition is one recursion on the tree. It gives, for what is known at a place of the text, the typed part and
+//! the list of the rules that break in it, each with its place. The code makes the same list.
+#![tactic(auto)]
+
+mod constants;
+mod declarations;
+mod expressions;
+mod formats;
+mod mappings;
+mod names;
+mod operators;
+mod rules;
+mod statements;
+mod typed;
+mod walk;
+mod world;
+
+pub use formats::{Mode, fits_format, is_scan_format};
+pub use mappings::{
+    Align, AlignPoint, Distribution, Form, LoopUse, Mappings, NodesLine, Shadow, TemplateLine,
+};
+pub use names::{Array, Environment, Meaning, Region, Signature};
+pub use operators::Operator;
+pub use rules::{Broken, Notes, Rule};
+pub use typed::{Operand, Parts, Typed, Value};
+pub use world::World;
+
+#[cfg(test)]
+mod tests;
