@@ -4,6 +4,7 @@ pub mod Expressions
 pub mod Formats
 pub mod Counted
 pub mod Walk
+pub mod Numbers
 pub mod Declarations
 pub mod Statements
 pub mod Directives

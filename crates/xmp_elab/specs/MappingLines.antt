@@ -1,6 +1,5 @@
 -- The mapping directives where they stand: their names are resolved there, and their numbers kept (XcalableMP 1.4, section 4.3).
-use Rattle.std.specs.Prelude.{⊤, ◌++◌, ◌∷◌, [], ℕ, ◌+◌, ◌==◌, List, ℤ, pos, Bool, false, not, if◌then◌else◌, Option, Some, None, is_some, length, map, slice_get}
-use Rattle.std.specs.List.{list_any}
+use Rattle.std.specs.Prelude.{⊤, ◌++◌, ◌∷◌, [], ℕ, ◌+◌, ◌==◌, List, ℤ, pos, Bool, true, false, not, Option, Some, None, length, map, slice_get}
 use Rattle.xmp_base.specs.declared.place.Place.{Place}
 use Rattle.xmp_tree.specs.declared.parts.Name as named
 use Rattle.xmp_tree.specs.declared.parts.Inside.{Inside}
@@ -95,33 +94,25 @@ distribute_line at t forms onto = do
 
 -- ---- align
 
--- The dummies of an align in the order of the array's dimensions; none twice.
-abbrev pub dummy_of : AlignDimension → Option named.Name
-dummy_of (dimension.Star at) = None
-dummy_of (dimension.Dummy n) = Some n
+-- The dummies of an align are the names of one scope, each with its dimension of the array; none stands there twice.
+abbrev pub Dummies : Type 0
+Dummies = List (List (scope.Name × ℕ))
 
-abbrev pub is_dummy : scope.Name → Option named.Name → Bool
-is_dummy n None = false
-is_dummy n (Some m) = scope.is_same n m.text
+abbrev pub dummy_of : ℕ → Dummies → AlignDimension → Run Dummies
+dummy_of d known (dimension.Star at) = pure known
+dummy_of d known (dimension.Dummy n) = do
+  _ ← judge (not (scope.is_declared_here n.text known)) N2 n.at
+  pure (scope.declare n.text d known)
 
-abbrev pub dummy_once : List (Option named.Name) → Option named.Name → Run ⊤
-dummy_once before None = pure tt
-dummy_once before (Some n) = judge (not (list_any (is_dummy n.text) before)) N2 n.at
+abbrev pub dummies_from : ℕ → Dummies → List AlignDimension → Run Dummies
+dummies_from d known [] = pure known
+dummies_from d known (x ∷ xs) = do
+  more ← dummy_of d known x
+  dummies_from (d + 1) more xs
 
-abbrev pub dummies_once : List (Option named.Name) → List (Option named.Name) → Run ⊤
-dummies_once before [] = pure tt
-dummies_once before (x ∷ xs) = do
-  _ ← dummy_once before x
-  dummies_once (before ++ x ∷ []) xs
-
--- The dimension of the array that a name in a point stands for.
-abbrev pub next_dimension : Option ℕ → Option ℕ
-next_dimension None = None
-next_dimension (Some d) = Some (d + 1)
-
-abbrev pub dimension_of : scope.Name → List (Option named.Name) → Option ℕ
-dimension_of n [] = None
-dimension_of n (x ∷ xs) = if is_dummy n x then Some 0 else next_dimension (dimension_of n xs)
+abbrev pub has_dummy : AlignDimension → Bool
+has_dummy (dimension.Star at) = false
+has_dummy (dimension.Dummy n) = true
 
 -- A name in a point that is no dummy: it isn't known, or it is something else.
 abbrev pub no_dummy : named.Name → Option Meaning → Run ⊤
@@ -135,10 +126,10 @@ dummy_in_point n None = do
   _ ← no_dummy n meaning
   pure 0
 
-abbrev pub align_point : List (Option named.Name) → Point → Run AlignPoint
-align_point dummies (point.Star at) = pure ap.Star
-align_point dummies (point.Index n offset) = do
-  d ← dummy_in_point n (dimension_of n.text dummies)
+abbrev pub align_point : Dummies → Point → Run AlignPoint
+align_point known (point.Star at) = pure ap.Star
+align_point known (point.Index n offset) = do
+  d ← dummy_in_point n (scope.nearest n.text known)
   c ← offset_of offset
   pure (ap.Dummy d c)
 
@@ -155,16 +146,21 @@ keep_align at (Some a) (Some t) dummies points = λ w. Gave tt (record w {
 })
 keep_align at _ _ dummies points = pure tt
 
+-- The points over the dummies of the array, with the template.
+abbrev pub aligned_points : List (Inside AlignDimension) → named.Name → List (Inside Point) → Run (Option ℕ × List AlignPoint)
+aligned_points dimensions t points = do
+  known ← dummies_from 0 [] (inner dimensions)
+  template ← name_of a_template t
+  kept ← each (align_point known) (inner points)
+  pure (template, kept)
+
 abbrev pub align_line : Place → named.Name → List (Inside AlignDimension) → named.Name → List (Inside Point) → Run ⊤
 align_line at a dimensions t points = do
   array ← name_of an_array a
-  let dummies : List (Option named.Name) = map dummy_of (inner dimensions)
-  _ ← match_array array (length dummies) a.at
-  _ ← dummies_once [] dummies
-  template ← name_of a_template t
-  kept ← each (align_point dummies) (inner points)
-  _ ← match_template template (length kept) t.at
-  keep_align at array template (map is_some dummies) kept
+  _ ← match_array array (length dimensions) a.at
+  onto ← aligned_points dimensions t points
+  _ ← match_template onto.0 (length onto.1) t.at
+  keep_align at array onto.0 (map has_dummy (inner dimensions)) onto.1
 
 -- ---- shadow
 
@@ -197,24 +193,33 @@ shadow_line at a widths = do
 -- ---- all of them
 
 -- The name of a nodes array and of a template is known behind its sizes.
-abbrev pub mapping_of : Mapping → Run ⊤
-mapping_of (mapping.Nodes line n sizes) = do
-  _ ← mapping_at line
+abbrev pub nodes_with_sizes : DirectiveLine → named.Name → List (Inside Expr) → Run ⊤
+nodes_with_sizes line n sizes = do
   values ← constants sizes
   nodes_line line.word n (Some values)
-mapping_of (mapping.NodesStar line n star) = do
-  _ ← mapping_at line
-  nodes_line line.word n None
-mapping_of (mapping.Template line n sizes) = do
-  _ ← mapping_at line
+
+abbrev pub template_with_sizes : DirectiveLine → named.Name → List (Inside Expr) → Run ⊤
+template_with_sizes line n sizes = do
   values ← constants sizes
   template_line line.word n values
-mapping_of (mapping.Distribute line t forms at onto) = do
-  _ ← mapping_at line
-  distribute_line line.word t forms onto
-mapping_of (mapping.Align line a dimensions at t points) = do
-  _ ← mapping_at line
-  align_line line.word a dimensions t points
-mapping_of (mapping.Shadow line a widths) = do
-  _ ← mapping_at line
-  shadow_line line.word a widths
+
+abbrev pub mapping_line : Mapping → Run ⊤
+mapping_line (mapping.Nodes line n sizes) = nodes_with_sizes line n sizes
+mapping_line (mapping.NodesStar line n star) = nodes_line line.word n None
+mapping_line (mapping.Template line n sizes) = template_with_sizes line n sizes
+mapping_line (mapping.Distribute line t forms at onto) = distribute_line line.word t forms onto
+mapping_line (mapping.Align line a dimensions at t points) = align_line line.word a dimensions t points
+mapping_line (mapping.Shadow line a widths) = shadow_line line.word a widths
+
+abbrev pub line_of : Mapping → DirectiveLine
+line_of (mapping.Nodes line n sizes) = line
+line_of (mapping.NodesStar line n star) = line
+line_of (mapping.Template line n sizes) = line
+line_of (mapping.Distribute line t forms at onto) = line
+line_of (mapping.Align line a dimensions at t points) = line
+line_of (mapping.Shadow line a widths) = line
+
+abbrev pub mapping_of : Mapping → Run ⊤
+mapping_of x = do
+  _ ← mapping_at (line_of x)
+  mapping_line x

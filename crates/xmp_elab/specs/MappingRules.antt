@@ -1,8 +1,10 @@
 -- The rules of mappings, over the whole program: a mapping holds wherever it stands (XcalableMP 1.4, section 4.3).
-use Rattle.std.specs.Prelude.{◌++◌, ◌∷◌, [], ℕ, ◌+◌, ◌*◌, ◌==◌, List, ℤ, pos, ◌+ℤ◌, int_le, nat_lt, nat_le, Bool, true, false, not, ◌&&◌, ◌||◌, if◌then◌else◌, Option, Some, None, length, map, filter, slice_get}
+-- Where a second `nodes`, or a second distribution, align or shadow of one name stands, it breaks a rule itself, and all
+-- other rules go by the first.
+use Rattle.std.specs.Prelude.{◌++◌, ◌∷◌, [], ℕ, ◌+◌, ◌*◌, ◌==◌, List, ℤ, pos, negsuc, ◌+ℤ◌, int_le, nat_lt, nat_le, Bool, true, false, not, ◌&&◌, ◌||◌, if◌then◌else◌, Option, Some, None, is_some, length, map, slice_get}
 use Rattle.std.specs.Option.{unwrap_or}
 use Rattle.std.specs.Ordering.{int_eq}
-use Rattle.std.specs.List.{list_all, flat_map, count_by, enumerate_from}
+use Rattle.std.specs.List.{list_all, flat_map, count_by, enumerate_from, sum}
 use Rattle.xmp_base.specs.declared.place.Place.{Place}
 use Rattle.xmp_map.specs.RowMajor.{product}
 use Rattle.xmp_elab.specs.declared.names.Array.{Array}
@@ -16,42 +18,52 @@ use Rattle.xmp_elab.specs.declared.mappings.Distribution.{Distribution}
 use Rattle.xmp_elab.specs.declared.mappings.Align.{Align}
 use Rattle.xmp_elab.specs.declared.mappings.Shadow.{Shadow}
 use Rattle.xmp_elab.specs.declared.mappings.LoopUse.{LoopUse}
-use Rattle.xmp_elab.specs.declared.rules.Rule.{Rule}
 use Rattle.xmp_elab.specs.declared.rules.Rule.TheVariants.{M1, M2, M3, M4, M5, M6, M7, M10}
 use Rattle.xmp_elab.specs.declared.rules.Broken.{Broken}
 use Rattle.xmp_elab.specs.declared.world.World.{World}
 use Rattle.xmp_elab.specs.Rules.{unless}
+use Rattle.xmp_elab.specs.Numbers.{first_place, is_at}
 use Rattle.xmp_elab.specs.Declarations.{is_extent, most_cells}
-use Rattle.xmp_elab.specs.Directives.{is_small, natural, given_or_one, line_sizes}
+use Rattle.xmp_elab.specs.Directives.{is_small, natural, given_or_one, line_sizes, sizes_in, extents_in}
 
 -- ---- the first of several
 
--- The first of a list is judged by itself; each other one breaks a rule.
-abbrev pub first_and_rest : {A : Type 0} → (A → List Broken) → (A → Place) → Rule → List A → List Broken
-first_and_rest judged place rule [] = []
-first_and_rest judged place rule (x ∷ xs) = judged x ++ map (λ y. record { rule = rule; at = place y }) xs
+-- An item of a list by its place.
+abbrev pub item_at : {A : Type 0} → List A → Option ℕ → Option A
+item_at xs None = None
+item_at xs (Some i) = slice_get xs i
 
-abbrev pub first_of : {A : Type 0} → List A → Option A
-first_of [] = None
-first_of (x ∷ xs) = Some x
+-- The template of each distribution, and the array of each align and each shadow, by their numbers.
+abbrev pub distributed : World → List ℕ
+distributed w = map (λ d. d.template) w.mappings.distributions
 
--- The distributions of a template, the aligns and the shadows of an array, by their numbers.
-abbrev pub distributions_of : World → ℕ → List Distribution
-distributions_of w k = filter (λ d. d.template == k) w.mappings.distributions
+abbrev pub aligned : World → List ℕ
+aligned w = map (λ a. a.array) w.mappings.aligns
 
-abbrev pub aligns_of : World → ℕ → List Align
-aligns_of w k = filter (λ a. a.array == k) w.mappings.aligns
+abbrev pub shadowed : World → List ℕ
+shadowed w = map (λ s. s.array) w.mappings.shadows
 
-abbrev pub shadows_of : World → ℕ → List Shadow
-shadows_of w k = filter (λ s. s.array == k) w.mappings.shadows
+-- The first distribution of a template, and the first align of an array.
+abbrev pub distribution_of : World → ℕ → Option Distribution
+distribution_of w k = item_at w.mappings.distributions (first_place k (distributed w))
 
--- The forms of a template, in the order of its dimensions; none where it is never distributed.
+abbrev pub align_of : World → ℕ → Option Align
+align_of w k = item_at w.mappings.aligns (first_place k (aligned w))
+
+-- The forms of a template, in the order of its dimensions; none where it is never distributed. And its sizes.
 abbrev pub forms_in : Option Distribution → List Form
 forms_in None = []
 forms_in (Some d) = d.forms
 
 abbrev pub forms_of : World → ℕ → List Form
-forms_of w k = forms_in (first_of (distributions_of w k))
+forms_of w k = forms_in (distribution_of w k)
+
+abbrev pub template_sizes_in : Option TemplateLine → List ℤ
+template_sizes_in None = []
+template_sizes_in (Some t) = t.sizes
+
+abbrev pub template_sizes : World → ℕ → List ℤ
+template_sizes w k = template_sizes_in (slice_get w.mappings.templates k)
 
 -- Whether a form distributes its dimension, and whether by one interval for each node.
 abbrev pub is_distributed : Form → Bool
@@ -66,156 +78,188 @@ has_intervals form.Block = true
 has_intervals (form.Cyclic n) = false
 has_intervals (form.Gblock ns) = true
 
+-- The same of a dimension that may have no form.
+abbrev pub distributes : Option Form → Bool
+distributes None = false
+distributes (Some f) = is_distributed f
+
+abbrev pub spans_intervals : Option Form → Bool
+spans_intervals None = false
+spans_intervals (Some f) = has_intervals f
+
 -- ---- nodes
 
 -- The sizes of the nodes array; none where there is none.
-abbrev pub sizes_of_first : ℕ → Option NodesLine → List ℤ
-sizes_of_first given None = []
-sizes_of_first given (Some l) = line_sizes given l
-
 abbrev pub nodes_of : World → List ℤ
-nodes_of w = sizes_of_first (given_or_one w) (first_of w.mappings.nodes)
+nodes_of w = sizes_in (given_or_one w) (slice_get w.mappings.nodes 0)
+
+-- How many nodes an array of these sizes has.
+abbrev pub node_product : List ℤ → ℕ
+node_product sizes = product (map natural sizes)
 
 -- The number of nodes: the given one, else the product of the sizes, in which `[*]` is 1; 1 without a nodes array.
 abbrev pub number_of_nodes : World → ℕ
-number_of_nodes w = unwrap_or w.given (product (map natural (nodes_of w)))
+number_of_nodes w = unwrap_or w.given (node_product (nodes_of w))
 
 -- One to three sizes, each at least 1, whose product is at most 16 and is the given number.
 abbrev pub is_given : Option ℕ → ℕ → Bool
 is_given None n = true
 is_given (Some given) n = n == given
 
-abbrev pub nodes_right : World → List ℤ → Bool
-nodes_right w sizes =
-    (nat_le 1 (length sizes) && nat_le (length sizes) 3)
-    && (list_all (λ n. int_le (pos 1) n) sizes
-    && (nat_le (product (map natural sizes)) 16 && is_given w.given (product (map natural sizes))))
+abbrev pub one_to_three : ℕ → Bool
+one_to_three n = nat_le 1 n && nat_le n 3
 
--- There is one `nodes`, which is right, and a program with a directive has it.
-abbrev pub has_nodes : World → Option Place → List Broken
-has_nodes w None = []
-has_nodes w (Some at) = unless (nat_lt 0 (length w.mappings.nodes)) M1 at
+abbrev pub nodes_right : Option ℕ → List ℤ → Bool
+nodes_right given sizes =
+    one_to_three (length sizes)
+    && (list_all (λ n. int_le (pos 1) n) sizes && (nat_le (node_product sizes) 16 && is_given given (node_product sizes)))
 
-abbrev pub nodes_rule : World → List Broken
-nodes_rule w =
-    first_and_rest (λ l. unless (nodes_right w (line_sizes (given_or_one w) l)) M1 l.at) (λ l. l.at) M1 w.mappings.nodes
-    ++ has_nodes w w.mappings.first_directive
+-- There is one `nodes`, which is right.
+abbrev pub nodes_rule : World → ℕ × NodesLine → List Broken
+nodes_rule w x = unless ((x.0 == 0) && nodes_right w.given (line_sizes (given_or_one w) x.1)) M1 x.1.at
 
--- ---- templates
+-- A program with a directive has it.
+abbrev pub has_nodes : ℕ → Option Place → List Broken
+has_nodes count None = []
+has_nodes count (Some at) = unless (nat_lt 0 count) M1 at
 
--- A template has one to three dimensions, each of 1 to 4,194,304.
-abbrev pub template_rule : TemplateLine → List Broken
-template_rule t = unless ((nat_le 1 (length t.sizes) && nat_le (length t.sizes) 3) && list_all is_extent t.sizes) M2 t.at
+-- ---- templates and distributions
 
--- It is distributed once, in as many dimensions as the nodes array has.
-abbrev pub spread_right : World → Distribution → List Broken
-spread_right w d = unless (count_by is_distributed d.forms == length (nodes_of w)) M3 d.at
+-- A template has one to three dimensions, each of 1 to 4,194,304, and is distributed.
+abbrev pub template_rule : World → ℕ × TemplateLine → List Broken
+template_rule w x =
+    unless (one_to_three (length x.1.sizes) && list_all is_extent x.1.sizes) M2 x.1.at
+    ++ unless (is_some (first_place x.0 (distributed w))) M3 x.1.at
 
-abbrev pub distributed_rule : World → ℕ × TemplateLine → List Broken
-distributed_rule w x =
-    unless (nat_lt 0 (length (distributions_of w x.0))) M3 x.1.at
-    ++ first_and_rest (spread_right w) (λ d. d.at) M3 (distributions_of w x.0)
+-- It is distributed in as many dimensions as the nodes array has.
+abbrev pub spread_right : List ℤ → List Form → Bool
+spread_right nodes forms = count_by is_distributed forms == length nodes
 
 -- A cyclic width is 1 to 4,194,304; the lengths of a gblock are as many as the nodes along its dimension, none is negative,
 -- and their sum is the size.
-abbrev pub sum_of : List ℤ → ℤ
-sum_of [] = pos 0
-sum_of (n ∷ ns) = n +ℤ sum_of ns
+abbrev pub counts : ℕ → ℤ → Bool
+counts n (pos m) = n == m
+counts n (negsuc m) = false
+
+abbrev pub lengths_right : List ℤ → ℤ → Bool
+lengths_right ns size = list_all (λ n. int_le (pos 0) n) ns && counts (sum (map natural ns)) size
 
 abbrev pub form_right : Form → ℤ → ℤ → Bool
 form_right form.Whole size parts = true
 form_right form.Block size parts = true
 form_right (form.Cyclic n) size parts = is_extent n
-form_right (form.Gblock ns) size parts =
-    int_eq (pos (length ns)) parts && (list_all (λ n. int_le (pos 0) n) ns && int_eq (sum_of ns) size)
+form_right (form.Gblock ns) size parts = counts (length ns) parts && lengths_right ns size
 
--- Each form with its size, and each distributed one with the nodes along it.
+-- The k-th distributed dimension lies on the k-th dimension of the nodes array.
+abbrev pub form_fits : Form → ℤ → List ℤ → Bool
+form_fits f size [] = true
+form_fits f size (parts ∷ more) = form_right f size parts
+
+abbrev pub nodes_behind : Form → List ℤ → List ℤ
+nodes_behind f [] = []
+nodes_behind f (parts ∷ more) = if is_distributed f then more else parts ∷ more
+
 abbrev pub forms_right : List Form → List ℤ → List ℤ → Bool
-forms_right [] sizes parts = true
-forms_right (f ∷ fs) [] parts = true
-forms_right (form.Whole ∷ fs) (n ∷ ns) parts = forms_right fs ns parts
-forms_right (f ∷ fs) (n ∷ ns) [] = true
-forms_right (f ∷ fs) (n ∷ ns) (k ∷ ks) = form_right f n k && forms_right fs ns ks
+forms_right [] sizes nodes = true
+forms_right (f ∷ fs) [] nodes = true
+forms_right (f ∷ fs) (n ∷ ns) nodes = form_fits f n nodes && forms_right fs ns (nodes_behind f nodes)
 
-abbrev pub chunks_right : World → TemplateLine → Option Distribution → List Broken
-chunks_right w t None = []
-chunks_right w t (Some d) = unless (forms_right d.forms t.sizes (nodes_of w)) M4 d.at
+-- A template is distributed once.
+abbrev pub is_first_distribution : World → ℕ × Distribution → Bool
+is_first_distribution w x = is_at x.0 (first_place x.1.template (distributed w))
 
-abbrev pub chunk_rule : World → ℕ × TemplateLine → List Broken
-chunk_rule w x = chunks_right w x.1 (first_of (distributions_of w x.0))
+abbrev pub distribution_rule : World → ℕ × Distribution → List Broken
+distribution_rule w x =
+    unless (is_first_distribution w x && spread_right (nodes_of w) x.1.forms) M3 x.1.at
+    ++ unless (not (is_first_distribution w x) || forms_right x.1.forms (template_sizes w x.1.template) (nodes_of w)) M4 x.1.at
 
 -- ---- aligns
 
--- In how many points a dimension of the array stands.
-abbrev pub stands_for : ℕ → AlignPoint → Bool
-stands_for d ap.Star = false
-stands_for d (ap.Dummy dimension offset) = dimension == d
+-- The dimensions of the array that stand in points, in the order of the template's.
+abbrev pub dimension_in : AlignPoint → List ℕ
+dimension_in ap.Star = []
+dimension_in (ap.Dummy dimension offset) = dimension ∷ []
 
--- Each dummy stands in one point.
-abbrev pub dummies_right : ℕ → List Bool → List AlignPoint → Bool
-dummies_right d [] points = true
-dummies_right d (b ∷ bs) points = (not b || (count_by (stands_for d) points == 1)) && dummies_right (d + 1) bs points
+abbrev pub dimensions_in : List AlignPoint → List ℕ
+dimensions_in points = flat_map dimension_in points
+
+-- No dimension stands in two points, and each one with a dummy stands in one.
+abbrev pub all_different : List ℕ → Bool
+all_different ds = list_all (λ x. is_at x.0 (first_place x.1 ds)) (enumerate_from 0 ds)
+
+abbrev pub dummies_right : List Bool → List ℕ → Bool
+dummies_right dummies ds = list_all (λ x. not x.1 || is_some (first_place x.0 ds)) (enumerate_from 0 dummies)
 
 -- The point of a dimension of the template: a distributed one is named, the constant is small, and no coordinate of the
--- array leaves the template.
+-- array leaves the template. A point that has no size is judged by another rule.
 abbrev pub reaches : ℤ → ℤ → Option ℕ → Bool
 reaches size offset None = true
 reaches size offset (Some extent) = int_le (pos 0) offset && int_le (offset +ℤ pos extent) size
 
-abbrev pub point_right : List ℕ → Form → ℤ → AlignPoint → Bool
-point_right extents f size ap.Star = not (is_distributed f)
-point_right extents f size (ap.Dummy d offset) = is_small offset && reaches size offset (slice_get extents d)
+abbrev pub point_right : List ℕ → Bool → ℤ → AlignPoint → Bool
+point_right extents spread size ap.Star = not spread
+point_right extents spread size (ap.Dummy d offset) = is_small offset && reaches size offset (slice_get extents d)
+
+abbrev pub point_fits : List ℕ → Bool → Option ℤ → AlignPoint → Bool
+point_fits extents spread None p = true
+point_fits extents spread (Some size) p = point_right extents spread size p
 
 abbrev pub points_right : List ℕ → List Form → List ℤ → List AlignPoint → Bool
-points_right extents (f ∷ fs) (n ∷ ns) (p ∷ ps) = point_right extents f n p && points_right extents fs ns ps
-points_right extents _ _ _ = true
+points_right extents forms sizes points =
+    list_all (λ x. point_fits extents (distributes (slice_get forms x.0)) (slice_get sizes x.0) x.1) (enumerate_from 0 points)
 
-abbrev pub sizes_of : Option TemplateLine → List ℤ
-sizes_of None = []
-sizes_of (Some t) = t.sizes
+-- An array is aligned once, and not in a program with a coarray.
+abbrev pub is_first_align : World → ℕ × Align → Bool
+is_first_align w x = is_at x.0 (first_place x.1.array (aligned w))
 
-abbrev pub align_right : World → Array → Align → List Broken
-align_right w array a = unless (not w.names.coarray
-    && (dummies_right 0 a.dummies a.points
-    && points_right array.extents (forms_of w a.template) (sizes_of (slice_get w.mappings.templates a.template)) a.points)) M5 a.at
+abbrev pub align_right : World → Align → Bool
+align_right w a =
+    (all_different (dimensions_in a.points) && dummies_right a.dummies (dimensions_in a.points))
+    && points_right (extents_in (slice_get w.names.arrays a.array)) (forms_of w a.template) (template_sizes w a.template) a.points
 
-abbrev pub align_rule : World → ℕ × Array → List Broken
-align_rule w x = first_and_rest (align_right w x.1) (λ a. a.at) M5 (aligns_of w x.0)
+abbrev pub align_rule : World → ℕ × Align → List Broken
+align_rule w x = unless (is_first_align w x && (not w.names.coarray && align_right w x.1)) M5 x.1.at
 
 -- ---- shadows
 
--- Whether a dimension of the array is aligned with one that has intervals.
-abbrev pub over_intervals : ℕ → List Form → List AlignPoint → Bool
-over_intervals d (f ∷ fs) (p ∷ ps) = (stands_for d p && has_intervals f) || over_intervals d fs ps
-over_intervals d _ _ = false
+-- The dimensions of the array that are aligned with one that has intervals.
+abbrev pub interval_dimension : List Form → ℕ × AlignPoint → List ℕ
+interval_dimension forms x = if spans_intervals (slice_get forms x.0) then dimension_in x.1 else []
+
+abbrev pub interval_dimensions : List Form → List AlignPoint → List ℕ
+interval_dimensions forms points = flat_map (interval_dimension forms) (enumerate_from 0 points)
 
 -- Both widths are 0 to 4,194,304, and 0 unless the dimension has intervals.
 abbrev pub is_width : ℤ → Bool
 is_width n = int_le (pos 0) n && int_le n (pos most_cells)
 
-abbrev pub widths_right : World → Align → ℕ → List (ℤ × ℤ) → Bool
-widths_right w a d [] = true
-widths_right w a d (x ∷ xs) =
-    ((is_width x.0 && is_width x.1) && ((int_eq x.0 (pos 0) && int_eq x.1 (pos 0)) || over_intervals d (forms_of w a.template) a.points))
-    && widths_right w a (d + 1) xs
+abbrev pub width_right : List ℕ → ℕ × (ℤ × ℤ) → Bool
+width_right ds x =
+    (is_width x.1.0 && is_width x.1.1)
+    && ((int_eq x.1.0 (pos 0) && int_eq x.1.1 (pos 0)) || is_some (first_place x.0 ds))
 
-abbrev pub shadow_fits : World → Option Align → Shadow → Bool
-shadow_fits w None s = false
-shadow_fits w (Some a) s = widths_right w a 0 s.widths
+abbrev pub widths_right : List ℕ → List (ℤ × ℤ) → Bool
+widths_right ds widths = list_all (width_right ds) (enumerate_from 0 widths)
 
-abbrev pub shadow_rule : World → ℕ × Array → List Broken
-shadow_rule w x = first_and_rest (λ s. unless (shadow_fits w (first_of (aligns_of w x.0)) s) M6 s.at) (λ s. s.at) M6 (shadows_of w x.0)
+-- The array is aligned, and has one shadow.
+abbrev pub shadow_right : World → Option Align → Shadow → Bool
+shadow_right w None s = false
+shadow_right w (Some a) s = widths_right (interval_dimensions (forms_of w a.template) a.points) s.widths
+
+abbrev pub is_first_shadow : World → ℕ × Shadow → Bool
+is_first_shadow w x = is_at x.0 (first_place x.1.array (shadowed w))
+
+abbrev pub shadow_rule : World → ℕ × Shadow → List Broken
+shadow_rule w x = unless (is_first_shadow w x && shadow_right w (align_of w x.1.array) x.1) M6 x.1.at
 
 -- ---- loop directives
 
 -- The point of each distributed dimension of the template has an index.
 abbrev pub indexed_right : List Form → List Bool → Bool
-indexed_right [] bs = true
-indexed_right (f ∷ fs) [] = true
-indexed_right (f ∷ fs) (b ∷ bs) = (b || not (is_distributed f)) && indexed_right fs bs
+indexed_right forms indexed = list_all (λ x. x.1 || not (distributes (slice_get forms x.0))) (enumerate_from 0 indexed)
 
-abbrev pub loop_rule : World → LoopUse → List Broken
-loop_rule w l = unless (indexed_right (forms_of w l.template) l.indexed) M7 l.at
+abbrev pub loop_rule : World → ℕ × LoopUse → List Broken
+loop_rule w x = unless (indexed_right (forms_of w x.1.template) x.1.indexed) M7 x.1.at
 
 -- ---- cells
 
@@ -230,10 +274,29 @@ cells_from copies before (a ∷ more) =
 
 -- ---- all rules of mappings that are judged over the whole program
 
+abbrev pub nodes_rules : World → List Broken
+nodes_rules w =
+    flat_map (nodes_rule w) (enumerate_from 0 w.mappings.nodes) ++ has_nodes (length w.mappings.nodes) w.mappings.first_directive
+
+abbrev pub template_rules : World → List Broken
+template_rules w = flat_map (template_rule w) (enumerate_from 0 w.mappings.templates)
+
+abbrev pub distribution_rules : World → List Broken
+distribution_rules w = flat_map (distribution_rule w) (enumerate_from 0 w.mappings.distributions)
+
+abbrev pub align_rules : World → List Broken
+align_rules w = flat_map (align_rule w) (enumerate_from 0 w.mappings.aligns)
+
+abbrev pub shadow_rules : World → List Broken
+shadow_rules w = flat_map (shadow_rule w) (enumerate_from 0 w.mappings.shadows)
+
+abbrev pub loop_rules : World → List Broken
+loop_rules w = flat_map (loop_rule w) (enumerate_from 0 w.mappings.loops)
+
+abbrev pub cell_rules : World → List Broken
+cell_rules w = cells_from (copies w) 0 w.names.arrays
+
 abbrev pub mapping_rules : World → List Broken
 mapping_rules w =
-    let templates : List (ℕ × TemplateLine) = enumerate_from 0 w.mappings.templates in
-    let arrays : List (ℕ × Array) = enumerate_from 0 w.names.arrays in
-    nodes_rule w ++ (flat_map template_rule w.mappings.templates ++ (flat_map (distributed_rule w) templates
-    ++ (flat_map (chunk_rule w) templates ++ (flat_map (align_rule w) arrays ++ (flat_map (shadow_rule w) arrays
-    ++ (flat_map (loop_rule w) w.mappings.loops ++ cells_from (copies w) 0 w.names.arrays))))))
+    nodes_rules w ++ (template_rules w ++ (distribution_rules w
+    ++ (align_rules w ++ (shadow_rules w ++ (loop_rules w ++ cell_rules w)))))
