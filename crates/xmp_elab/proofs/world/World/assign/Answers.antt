@@ -1,4 +1,4 @@
-use Rattle.std.proofs.Common.{◌≡◌, ◌∙◌, ap}
+use Rattle.std.proofs.Common.{◌∙◌, ap}
 use Rattle.xmp_elab.specs.Walk.{typed, typed_reference}
 use Rattle.xmp_elab.specs.Statements.{compound_of, set}
 use Rattle.xmp_elab.proofs.Walks.{two_steps}

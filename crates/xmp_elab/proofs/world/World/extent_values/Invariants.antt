@@ -1,4 +1,4 @@
-use Rattle.std.proofs.Common.{◌≡◌, map, drop}
+use Rattle.std.proofs.Common.{◌≡◌, drop}
 use Rattle.xmp_elab.specs.Walk.{each, each_after, typed_constant}
 use Rattle.xmp_elab.specs.Declarations.{inner}
 use Rattle.xmp_elab.proofs.world.World.extent_values.Given as goal

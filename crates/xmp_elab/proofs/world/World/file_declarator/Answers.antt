@@ -1,4 +1,4 @@
-use Rattle.std.proofs.Common.{◌≡◌, ◌∙◌, ap, sym}
+use Rattle.std.proofs.Common.{◌∙◌, ap, sym}
 use Rattle.xmp_elab.specs.Declarations.{declare_array, file_declarator, inner}
 use Rattle.xmp_elab.proofs.Walks.{same_walk}
 use Rattle.xmp_elab.proofs.world.World.file_declarator.Goals as goal

@@ -1,4 +1,4 @@
-use Rattle.std.proofs.Common.{◌≡◌, ◌∙◌, ap, sym, []}
+use Rattle.std.proofs.Common.{◌∙◌, ap, sym, []}
 use Rattle.std.specs.Prelude.{⊤, is_some}
 use Rattle.xmp_elab.specs.Declarations.{declare_array, inner, local_declarator}
 use Rattle.xmp_elab.proofs.Walks.{one_step}
