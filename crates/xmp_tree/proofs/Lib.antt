@@ -14,3 +14,12 @@ pub mod OneStmt
 pub mod OnePlain
 pub mod OneBlock
 pub mod OneProgram
+pub mod TokenKinds
+pub mod Made
+pub mod MadeParts
+pub mod MadeExprs
+pub mod MadeLines
+pub mod MadeStatements
+pub mod MadeBlocks
+pub mod MadeProgram
+pub mod Fronts

@@ -25,7 +25,7 @@ starts (t.Name n) = true
 starts (t.Mark x) = starts_code (mark_code x)
 starts _ = false
 
-same_code : (a b : ℕ) → a == b ≡ true → a ≡ b
+pub same_code : (a b : ℕ) → a == b ≡ true → a ≡ b
 same_code a b e = grind (arith, nat_tests)
 
 pub true_or_false : (b : Bool) → (b ≡ true) ⊎ (b ≡ false)

@@ -9,3 +9,4 @@ pub mod Refused
 pub mod Steps
 pub mod Seen
 pub mod Shape
+pub mod Fronts

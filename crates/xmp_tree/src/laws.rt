@@ -3,6 +3,7 @@ ghost use Rattle.std.specs.Prelude.{◌≡◌, ◌++◌, ℕ, List};
 ghost use Rattle.xmp_lex.specs.declared.token.Token.{Token};
 ghost use Rattle.xmp_tree.specs.declared.program.Tree.{Tree};
 ghost use Rattle.xmp_tree.specs.Fits.{FitsTree};
+ghost use Rattle.xmp_tree.specs.Fronts.{IsFront};
 ghost use Rattle.xmp_tree.specs.Shape.{tree_shape};
 ghost use Rattle.xmp_tree.specs.Spell.{spelling};
 ghost use Rattle.xmp_tree.specs.Refused.{Begins, IsProgram, Stuck, TooDeep, start, program_rules};
@@ -26,4 +27,10 @@ pub fn one_stuck_token()
 /// Two trees that fit and have one spelling are equal, places apart.
 pub fn one_tree()
     ensures { (x y : Tree) → FitsTree x → FitsTree y → spelling x ≡ spelling y → tree_shape x ≡ tree_shape y }
+{}
+
+/// What begins a program by the grammar is the front of the spelling of a tree that fits, and each such front begins one.
+pub fn begins_a_program()
+    ensures front { (ts : List Token) → Begins start program_rules ts → IsFront ts }
+    ensures begins { (ts : List Token) → IsFront ts → Begins start program_rules ts }
 {}

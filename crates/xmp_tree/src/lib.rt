@@ -1,10 +1,14 @@
 //! The syntax tree of a program, its spelling and its grammar.
 #![tactic(auto)]
 
+#[cfg(test)]
+mod builders;
 mod declaration;
 mod directive;
 mod expression;
 mod laws;
+#[cfg(test)]
+mod makers;
 mod parts;
 mod program;
 mod rest;
@@ -22,7 +26,7 @@ pub use directive::{
     ReductionOperator, Section, Sections, TaskLine,
 };
 pub use expression::Expr;
-pub use laws::{one_stuck_token, one_tree, program_or_refused, shorter_begins};
+pub use laws::{begins_a_program, one_stuck_token, one_tree, program_or_refused, shorter_begins};
 pub use parts::{
     Call, CommaList, Format, Image, Inside, Link, Name, Next, Placed, Reference, TypeWords,
 };

@@ -1,117 +1,12 @@
-use super::*;
-use sqlite_items::{Boxed, Items};
+use crate::builders::*;
+use crate::makers::*;
+use crate::*;
+use sqlite_items::Items;
 use std::alloc::Global;
 use std::fmt::Write;
 use std::test::Fail;
-use xmp_base::{Bytes, Place};
 use xmp_lex::{Mark, TokenKind, lex};
 use xmp_num::Ty;
-
-const AT: Place = Place { line: 1, column: 1 };
-
-const LINE: DirectiveLine = DirectiveLine {
-    start: AT,
-    word: AT,
-    end: AT,
-};
-
-fn bytes(alloc: Global, text: &str) -> Result<Bytes, Fail> {
-    let mut bytes = Bytes::new(alloc);
-    bytes.push_all(text.as_bytes())?;
-    Ok(bytes)
-}
-
-fn name(alloc: Global, text: &str) -> Result<Name, Fail> {
-    let text = bytes(alloc, text)?;
-    Ok(Name { text, at: AT })
-}
-
-fn mark(mark: Mark) -> Placed<Mark> {
-    Placed { what: mark, at: AT }
-}
-
-fn inside<T>(item: T) -> Inside<T> {
-    Inside {
-        open: AT,
-        item,
-        close: AT,
-    }
-}
-
-fn none<T: Drop>(alloc: Global) -> Items<T> {
-    Items::new(alloc)
-}
-
-fn pair<T: Drop>(alloc: Global, first: T, second: T) -> Result<CommaList<T>, Fail> {
-    let more = one(
-        alloc,
-        Next {
-            comma: AT,
-            item: second,
-        },
-    )?;
-    Ok(CommaList { first, more })
-}
-
-fn one<T: Drop>(alloc: Global, a: T) -> Result<Items<T>, Fail> {
-    let mut items = Items::new(alloc);
-    items.push(a)?;
-    Ok(items)
-}
-
-fn two<T: Drop>(alloc: Global, a: T, b: T) -> Result<Items<T>, Fail> {
-    let mut items = one(alloc, a)?;
-    items.push(b)?;
-    Ok(items)
-}
-
-fn single<T: Drop>(alloc: Global, first: T) -> CommaList<T> {
-    CommaList {
-        first,
-        more: Items::new(alloc),
-    }
-}
-
-fn number(value: i64) -> Expr {
-    Expr::Number(AT, value, Ty::Int)
-}
-
-fn boxed(alloc: Global, x: Expr) -> Result<Boxed<Expr>, Fail> {
-    Ok(Boxed::new(alloc, x)?)
-}
-
-/// `text[1]:[2]`
-fn element(alloc: Global, text: &str) -> Result<Reference<Boxed<Expr>>, Fail> {
-    let name = name(alloc, text)?;
-    let subscripts = one(alloc, inside(boxed(alloc, number(1))?))?;
-    let number = inside(boxed(alloc, number(2))?);
-    let image = Some(Image { colon: AT, number });
-    Ok(Reference {
-        name,
-        subscripts,
-        image,
-    })
-}
-
-fn call(
-    alloc: Global,
-    text: &str,
-    arguments: Option<CommaList<Boxed<Expr>>>,
-) -> Result<Call<Boxed<Expr>>, Fail> {
-    let name = name(alloc, text)?;
-    Ok(Call {
-        name,
-        arguments: inside(arguments),
-    })
-}
-
-fn sections(alloc: Global, text: &str, items: Items<Inside<Section>>) -> Result<Sections, Fail> {
-    let name = name(alloc, text)?;
-    Ok(Sections {
-        name,
-        sections: items,
-    })
-}
 
 fn show_bytes(row: &mut String, bytes: &[u8]) -> Result<(), Fail> {
     for byte in bytes {
@@ -165,152 +60,36 @@ fn spelled(alloc: Global, tree: &Tree) -> Result<String, Fail> {
     Ok(row)
 }
 
-/// `int f(){ .. }`
-fn function(alloc: Global, items: Items<BlockItem<Stmt>>) -> Result<TopItem, Fail> {
-    let name = name(alloc, "f")?;
-    Ok(TopItem::Function(Function {
-        ty: TypeWords::Int(AT),
-        name,
-        parameters: inside(None),
-        body: inside(items),
-    }))
-}
-
-fn program(alloc: Global, items: Items<BlockItem<Stmt>>) -> Result<Tree, Fail> {
-    let parts = one(alloc, function(alloc, items)?)?;
-    Ok(Tree { parts, finish: AT })
-}
-
-type Row = (BlockItem<Stmt>, &'static str);
-
-fn plain(x: Plain) -> BlockItem<Stmt> {
-    BlockItem::Stmt(Stmt::Plain(x))
-}
-
-fn empty() -> Stmt {
-    Stmt::Plain(Plain::Empty(AT))
-}
-
-fn boxed_stmt(alloc: Global, x: Stmt) -> Result<Boxed<Stmt>, Fail> {
-    Ok(Boxed::new(alloc, x)?)
-}
-
-fn simple_1(alloc: Global) -> Result<Row, Fail> {
-    let assign = Simple::Assign(element(alloc, "x")?, mark(Mark::AddAssign), number(3));
-    Ok((plain(Plain::Simple(assign, AT)), "x[1]:[2] += 3;"))
-}
-
-fn expression_2(alloc: Global) -> Result<Row, Fail> {
-    let called = Expr::Call(call(alloc, "f", Some(single(alloc, boxed(alloc, number(1))?)))?);
-    let chosen = Expr::Conditional(
-        boxed(alloc, called)?,
-        AT,
-        boxed(alloc, number(2))?,
-        AT,
-        boxed(alloc, number(3))?,
-    );
-    Ok((plain(Plain::Return(AT, chosen, AT)), "return f(1) ? 2 : 3;"))
-}
-
-fn head(first: Option<ForFirst>, test: Option<Expr>, next: Option<Simple>) -> ForHead {
-    ForHead {
-        word: AT,
-        open: AT,
-        first,
-        first_end: AT,
-        test,
-        test_end: AT,
-        next,
-        close: AT,
+/// `int f() { .. }`
+fn function(
+    alloc: Global,
+    text: &str,
+    parameters: Option<Option<Parameters>>,
+    items: Option<Items<BlockItem<Stmt>>>,
+) -> Option<TopItem> {
+    match both(both(name(alloc, text), inside(parameters)), inside(items)) {
+        Some(((name, parameters), body)) => Some(TopItem::Function(Function {
+            ty: TypeWords::Int(AT),
+            name,
+            parameters,
+            body,
+        })),
+        None => None,
     }
 }
 
-fn nested_0(alloc: Global) -> Result<Row, Fail> {
-    let block = Stmt::Block(inside(one(alloc, BlockItem::Stmt(boxed_stmt(alloc, empty())?))?));
-    let inner = Stmt::If(
-        AT,
-        inside(number(1)),
-        boxed_stmt(alloc, block)?,
-        Some((AT, boxed_stmt(alloc, empty())?)),
-    );
-    Ok((BlockItem::Stmt(inner), "if (1) {;} else ;"))
-}
-
-fn point(alloc: Global) -> Result<Items<Inside<Point>>, Fail> {
-    let offset = Some((mark(Mark::Plus), number(1)));
-    two(
-        alloc,
-        inside(Point::Index(name(alloc, "i")?, offset)),
-        inside(Point::Star(AT)),
-    )
-}
-
-fn mapping_4(alloc: Global) -> Result<Row, Fail> {
-    let dimensions = two(
-        alloc,
-        inside(AlignDimension::Dummy(name(alloc, "i")?)),
-        inside(AlignDimension::Star(AT)),
-    )?;
-    let align = Mapping::Align(
-        LINE,
-        name(alloc, "a")?,
-        dimensions,
-        AT,
-        name(alloc, "t")?,
-        point(alloc)?,
-    );
-    Ok((
-        BlockItem::Mapping(align),
-        "#pragma xmp align a[i][*] with t[i + 1][*]\n",
-    ))
-}
-
-fn names(alloc: Global) -> Result<Inside<CommaList<Name>>, Fail> {
-    let list = pair(alloc, name(alloc, "a")?, name(alloc, "b")?)?;
-    Ok(inside(list))
-}
-
-fn directive_3(alloc: Global) -> Result<Row, Fail> {
-    let triple = Section::Numbers(number(0), Some((AT, number(4))), Some((AT, number(2))));
-    let target = sections(alloc, "a", one(alloc, inside(triple))?)?;
-    let source = sections(alloc, "b", none(alloc))?;
-    Ok((
-        plain(Plain::Gmove(LINE, target, AT, source, AT)),
-        "#pragma xmp gmove\na[0:4:2] = b;",
-    ))
-}
-
-fn directive_4(alloc: Global) -> Result<Row, Fail> {
-    let sum = ReductionOperator::Mark(mark(Mark::Plus));
-    let most = ReductionOperator::Max(AT);
-    let least = ReductionOperator::Min(AT);
-    let mut reductions = Items::new(alloc);
-    for operator in [sum, most, least] {
-        let names = single(alloc, name(alloc, "s")?);
-        reductions.push(Reduction {
-            word: AT,
-            list: inside((operator, AT, names)),
-        })?;
+/// The tokens of a program of these parts.
+fn spelled_parts(alloc: Global, parts: Option<Items<TopItem>>) -> Result<String, Fail> {
+    match parts {
+        Some(parts) => spelled(alloc, &Tree { parts, finish: AT }),
+        None => Ok(String::new(alloc)),
     }
-    let line = LoopLine {
-        line: LINE,
-        names: Some(names(alloc)?),
-        on: AT,
-        template: name(alloc, "t")?,
-        points: point(alloc)?,
-        reductions,
-    };
-    let loop_row = Stmt::Loop(line, head(None, None, None), boxed_stmt(alloc, empty())?);
-    Ok((
-        BlockItem::Stmt(loop_row),
-        "#pragma xmp loop (a, b) on t[i + 1][*] reduction(+:s) reduction(max:s) reduction(min:s)\nfor (;;) ;",
-    ))
 }
 
 /// The tokens of a program whose one function has this one item.
-fn spelled_alone(alloc: Global, item: BlockItem<Stmt>) -> Result<String, Fail> {
-    let tree = program(alloc, one(alloc, item)?)?;
-    spelled(alloc, &tree)
+fn spelled_alone(alloc: Global, item: Item) -> Result<String, Fail> {
+    let body = one(alloc, item);
+    spelled_parts(alloc, one(alloc, function(alloc, "f", Some(None), body)))
 }
 
 /// The tokens of the text of such a program.
@@ -320,59 +99,303 @@ fn lexed_alone(alloc: Global, text: &str) -> Result<String, Fail> {
     lexed(alloc, whole.as_str())
 }
 
-#[test]
-fn the_tokens_of_a_form_are_those_of_its_text(rt: HostRuntime) -> Result<(), Fail> {
-    let alloc = rt.alloc();
-    let (item, text) = simple_1(alloc)?;
-    assert_eq!(rt;
-        spelled_alone(alloc, item)?.as_str(),
-        lexed_alone(alloc, text)?.as_str()
-    );
-    let (item, text) = expression_2(alloc)?;
-    assert_eq!(rt;
-        spelled_alone(alloc, item)?.as_str(),
-        lexed_alone(alloc, text)?.as_str()
-    );
-    let (item, text) = nested_0(alloc)?;
-    assert_eq!(rt;
-        spelled_alone(alloc, item)?.as_str(),
-        lexed_alone(alloc, text)?.as_str()
-    );
-    let (item, text) = mapping_4(alloc)?;
-    assert_eq!(rt;
-        spelled_alone(alloc, item)?.as_str(),
-        lexed_alone(alloc, text)?.as_str()
-    );
-    let (item, text) = directive_3(alloc)?;
-    assert_eq!(rt;
-        spelled_alone(alloc, item)?.as_str(),
-        lexed_alone(alloc, text)?.as_str()
-    );
-    let (item, text) = directive_4(alloc)?;
-    assert_eq!(rt;
-        spelled_alone(alloc, item)?.as_str(),
-        lexed_alone(alloc, text)?.as_str()
-    );
+/// Notes a text whose tokens are not those of the item.
+fn row(wrong: &mut String, alloc: Global, item: Item, text: &str) -> Result<(), Fail> {
+    let made = spelled_alone(alloc, item)?;
+    let expected = lexed_alone(alloc, text)?;
+    if made.as_str() != expected.as_str() {
+        wrong.push_str(text)?;
+    }
     Ok(())
+}
+
+fn simple_rows(wrong: &mut String, alloc: Global) -> Result<(), Fail> {
+    row(wrong, alloc, plain(Some(Plain::Empty(AT))), ";")?;
+    let target = element(alloc, "x", boxed_number(alloc, 1), boxed_number(alloc, 2));
+    let item = simple(assign(target, Mark::AddAssign, number(3)));
+    row(wrong, alloc, item, "x[1]:[2] += 3;")?;
+    let item = simple(postfix(reference(alloc, "x"), Mark::Increment));
+    row(wrong, alloc, item, "x++;")?;
+    let item = simple(prefix(Mark::Decrement, reference(alloc, "x")));
+    row(wrong, alloc, item, "--x;")?;
+    let item = simple(called_alone(call(alloc, "f", Some(None))));
+    row(wrong, alloc, item, "f();")?;
+    let list = pair(alloc, boxed_number(alloc, 1), boxed_number(alloc, 2));
+    let item = simple(called_alone(call(alloc, "f", some(list))));
+    row(wrong, alloc, item, "f(1, 2);")?;
+    let item = printed(format(alloc, "a"), one(alloc, next(number(1))));
+    row(wrong, alloc, item, "printf(\"a\", 1);")?;
+    let item = scanned(format(alloc, "a"), reference(alloc, "x"));
+    row(wrong, alloc, item, "scanf(\"a\", &x);")?;
+    row(
+        wrong,
+        alloc,
+        synced(reference(alloc, "x")),
+        "xmp_sync_all(&x);",
+    )
+}
+
+fn expression_rows(wrong: &mut String, alloc: Global) -> Result<(), Fail> {
+    let product = chain(alloc, number(2), Mark::Star, number(3));
+    let item = returned(chain(alloc, read(alloc, "x"), Mark::Plus, product));
+    row(wrong, alloc, item, "return x + 2 * 3;")?;
+    let negative = boxed(alloc, unary(Mark::Minus, boxed_number(alloc, 1)));
+    let converted = boxed(alloc, cast(Ty::Long, negative));
+    row(
+        wrong,
+        alloc,
+        returned(parens(converted)),
+        "return ((long)-1);",
+    )?;
+    let list = single(alloc, boxed_number(alloc, 1));
+    let condition = boxed(alloc, called(call(alloc, "f", some(list))));
+    let item = returned(conditional(condition, boxed_number(alloc, 2), boxed_number(alloc, 3)));
+    row(wrong, alloc, item, "return f(1) ? 2 : 3;")
+}
+
+fn nested_rows(wrong: &mut String, alloc: Global) -> Result<(), Fail> {
+    let body = boxed(alloc, block(inner(empty(alloc)), alloc));
+    let item = statement(condition(number(1), body, some(behind(empty(alloc)))));
+    row(wrong, alloc, item, "if (1) {;} else ;")?;
+    let item = statement(condition(number(1), empty(alloc), Some(None)));
+    row(wrong, alloc, item, "if (1) ;")?;
+    let item = statement(while_loop(number(1), empty(alloc)));
+    row(wrong, alloc, item, "while (1) ;")?;
+    let step = postfix(reference(alloc, "i"), Mark::Increment);
+    let first = first_declared(name(alloc, "i"), number(0));
+    let head_whole = head(some(first), some(number(1)), some(step));
+    let item = statement(for_loop(head_whole, empty(alloc)));
+    row(wrong, alloc, item, "for (int i = 0; 1; i++) ;")?;
+    let first = first_assigned(reference(alloc, "i"), number(0));
+    let item = statement(for_loop(head(some(first), Some(None), Some(None)), empty(alloc)));
+    row(wrong, alloc, item, "for (i = 0;;) ;")
+}
+
+fn declaration_rows(wrong: &mut String, alloc: Global) -> Result<(), Fail> {
+    let first = scalar(name(alloc, "x"), some(behind(number(1))));
+    let second = coarray(name(alloc, "c"), one(alloc, inside(number(2))));
+    let item = declaration(TypeWords::LongInt(AT, AT), pair(alloc, first, second));
+    row(wrong, alloc, item, "long int x = 1, c[2]:[*];")?;
+    let item = declaration(
+        TypeWords::Int(AT),
+        single(alloc, scalar(name(alloc, "x"), Some(None))),
+    );
+    row(wrong, alloc, item, "int x;")
+}
+
+fn mapping_rows(wrong: &mut String, alloc: Global) -> Result<(), Fail> {
+    let extents = two(alloc, inside(number(2)), inside(number(2)));
+    row(
+        wrong,
+        alloc,
+        mapping(nodes(name(alloc, "p"), extents)),
+        "#pragma xmp nodes p[2][2]\n",
+    )?;
+    row(
+        wrong,
+        alloc,
+        mapping(nodes_star(name(alloc, "p"))),
+        "#pragma xmp nodes p[*]\n",
+    )?;
+    let item = mapping(template(name(alloc, "t"), one(alloc, inside(number(8)))));
+    row(wrong, alloc, item, "#pragma xmp template t[8]\n")?;
+    let forms = two(
+        alloc,
+        inside(Some(DistForm::Whole(AT))),
+        inside(Some(DistForm::Block(AT))),
+    );
+    let forms = push(forms, inside(cyclic(Some(None))));
+    let forms = push(forms, inside(cyclic(some(inside(number(2))))));
+    let forms = push(forms, inside(gblock(pair(alloc, number(1), number(2)))));
+    let item = mapping(distribute(name(alloc, "t"), forms, name(alloc, "p")));
+    row(
+        wrong,
+        alloc,
+        item,
+        "#pragma xmp distribute t[*][block][cyclic][cyclic(2)][gblock({1, 2})] onto p\n",
+    )?;
+    let dimensions = two(
+        alloc,
+        inside(dummy(name(alloc, "i"))),
+        inside(Some(AlignDimension::Star(AT))),
+    );
+    let item = mapping(align(
+        name(alloc, "a"),
+        dimensions,
+        name(alloc, "t"),
+        points(alloc),
+    ));
+    row(
+        wrong,
+        alloc,
+        item,
+        "#pragma xmp align a[i][*] with t[i + 1][*]\n",
+    )?;
+    let widths = two(
+        alloc,
+        inside(both(number(1), Some(None))),
+        inside(both(number(1), some(behind(number(2))))),
+    );
+    row(
+        wrong,
+        alloc,
+        mapping(shadow(name(alloc, "a"), widths)),
+        "#pragma xmp shadow a[1][1:2]\n",
+    )
+}
+
+fn directive_rows(wrong: &mut String, alloc: Global) -> Result<(), Fail> {
+    row(
+        wrong,
+        alloc,
+        reflect(names(alloc)),
+        "#pragma xmp reflect (a, b)\n",
+    )?;
+    row(
+        wrong,
+        alloc,
+        plain(Some(Plain::Barrier(LINE))),
+        "#pragma xmp barrier\n",
+    )?;
+    row(
+        wrong,
+        alloc,
+        bcast(names(alloc), set(alloc)),
+        "#pragma xmp bcast (a, b) from p[0:1][:]\n",
+    )?;
+    let triple = numbers(number(0), some(behind(number(4))), some(behind(number(2))));
+    let target = sections(name(alloc, "a"), one(alloc, inside(triple)));
+    let item = gmove(target, sections(name(alloc, "b"), none(alloc)));
+    row(wrong, alloc, item, "#pragma xmp gmove\na[0:4:2] = b;")?;
+    let item = statement(task(task_line(set(alloc)), empty(alloc)));
+    row(wrong, alloc, item, "#pragma xmp task on p[0:1][:]\n;")?;
+    let item = statement(tasks(one(alloc, both(task_line(set(alloc)), empty(alloc)))));
+    row(
+        wrong,
+        alloc,
+        item,
+        "#pragma xmp tasks\n{\n#pragma xmp task on p[0:1][:]\n; }",
+    )
+}
+
+fn loop_rows(wrong: &mut String, alloc: Global) -> Result<(), Fail> {
+    let sum = ReductionOperator::Mark(mark(Mark::Plus));
+    let reductions = one(alloc, reduction(sum, single(alloc, name(alloc, "s"))));
+    let reductions = push(
+        reductions,
+        reduction(ReductionOperator::Max(AT), single(alloc, name(alloc, "s"))),
+    );
+    let reductions = push(
+        reductions,
+        reduction(ReductionOperator::Min(AT), single(alloc, name(alloc, "s"))),
+    );
+    let line = loop_line(
+        some(names(alloc)),
+        name(alloc, "t"),
+        points(alloc),
+        reductions,
+    );
+    let empty_head = head(Some(None), Some(None), Some(None));
+    let item = statement(loop_statement(line, empty_head, empty(alloc)));
+    row(
+        wrong,
+        alloc,
+        item,
+        "#pragma xmp loop (a, b) on t[i + 1][*] reduction(+:s) reduction(max:s) reduction(min:s)\nfor (;;) ;",
+    )?;
+    let line = loop_line(Some(None), name(alloc, "t"), points(alloc), none(alloc));
+    let empty_head = head(Some(None), Some(None), Some(None));
+    let item = statement(loop_statement(line, empty_head, empty(alloc)));
+    row(
+        wrong,
+        alloc,
+        item,
+        "#pragma xmp loop on t[i + 1][*]\nfor (;;) ;",
+    )
+}
+
+#[test]
+fn the_tokens_of_each_form_are_those_of_its_text(rt: HostRuntime) -> Result<(), Fail> {
+    let alloc = rt.alloc();
+    let mut wrong = String::new(alloc);
+    simple_rows(&mut wrong, alloc)?;
+    expression_rows(&mut wrong, alloc)?;
+    nested_rows(&mut wrong, alloc)?;
+    declaration_rows(&mut wrong, alloc)?;
+    mapping_rows(&mut wrong, alloc)?;
+    directive_rows(&mut wrong, alloc)?;
+    loop_rows(&mut wrong, alloc)?;
+    assert_eq!(rt; wrong.as_str(), "");
+    Ok(())
+}
+
+fn parameters(alloc: Global) -> Option<Parameters> {
+    let first = both(Some(TypeWords::Int(AT)), name(alloc, "x"));
+    let second = both(Some(TypeWords::Long(AT)), name(alloc, "y"));
+    match pair(alloc, first, second) {
+        Some(list) => Some(Parameters::Named(list)),
+        None => None,
+    }
+}
+
+fn top_mapping(mapping: Option<Mapping>) -> Option<TopItem> {
+    match mapping {
+        Some(mapping) => Some(TopItem::Mapping(mapping)),
+        None => None,
+    }
+}
+
+fn top_declaration(ty: TypeWords, items: Option<CommaList<Declarator>>) -> Option<TopItem> {
+    match items {
+        Some(items) => Some(TopItem::Declaration(Declaration { ty, items, end: AT })),
+        None => None,
+    }
+}
+
+#[test]
+fn the_tokens_of_a_program_are_those_of_its_text(rt: HostRuntime) -> Result<(), Fail> {
+    let alloc = rt.alloc();
+    let nodes = nodes(name(alloc, "p"), one(alloc, inside(number(4))));
+    let scalar = single(alloc, scalar(name(alloc, "x"), Some(None)));
+    let parts = two(
+        alloc,
+        top_mapping(nodes),
+        top_declaration(TypeWords::Long(AT), scalar),
+    );
+    let void = function(alloc, "g", some(Some(Parameters::Void(AT))), none(alloc));
+    let named = function(alloc, "h", some(parameters(alloc)), none(alloc));
+    let made = spelled_parts(alloc, push(push(parts, void), named))?;
+    let text = "#pragma xmp nodes p[4]\nlong x; int g(void) {} int h(int x, long y) {}";
+    let expected = lexed(alloc, text)?;
+    assert_eq!(rt; made.as_str(), expected.as_str());
+    Ok(())
+}
+
+/// A statement in so many blocks.
+fn deep(alloc: Global, depth: usize) -> Item {
+    let mut made = empty(alloc);
+    for _ in 0..depth {
+        made = boxed(alloc, block(inner(made), alloc));
+    }
+    match made {
+        Some(made) => statement(block(Some(BlockItem::Stmt(made)), alloc)),
+        None => None,
+    }
 }
 
 #[test]
 fn a_deep_tree_is_spelled_and_dropped(rt: HostRuntime) -> Result<(), Fail> {
     let alloc = rt.alloc();
-    let mut stmt = empty();
     let mut text = String::new(alloc);
     for _ in 0..128 {
-        stmt = Stmt::Block(inside(one(alloc, BlockItem::Stmt(boxed_stmt(alloc, stmt)?))?));
         text.push_str("{ ")?;
     }
     text.push(';')?;
     for _ in 0..128 {
         text.push_str("} ")?;
     }
-    let tree = program(alloc, one(alloc, BlockItem::Stmt(stmt))?)?;
-    let mut whole = String::new(alloc);
-    write!(whole, "int f() {{\n{text}\n}}")?;
-    let expected = lexed(alloc, whole.as_str())?;
-    assert_eq!(rt; spelled(alloc, &tree)?.as_str(), expected.as_str());
+    let made = spelled_alone(alloc, deep(alloc, 127))?;
+    let expected = lexed_alone(alloc, text.as_str())?;
+    assert_eq!(rt; made.as_str(), expected.as_str());
     Ok(())
 }
