@@ -19,8 +19,6 @@ mod lines;
 mod mappings;
 mod marks;
 mod parameter_lists;
-#[cfg(test)]
-mod part_tests;
 mod parts;
 mod plain_statements;
 #[cfg(test)]
@@ -28,8 +26,6 @@ mod program_tests;
 mod programs;
 mod reader;
 mod refusals;
-#[cfg(test)]
-mod tests;
 mod words;
 
 pub use declarations::declaration;
