@@ -28,10 +28,4 @@ mod reader;
 mod refusals;
 mod words;
 
-pub use declarations::declaration;
-pub use depth::Depth;
-pub use expressions::{expression, level};
-pub use mappings::mapping;
 pub use programs::parse;
-pub use reader::{Parsed, Reader, Stop};
-pub use refusals::refusal;
