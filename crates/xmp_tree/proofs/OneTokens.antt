@@ -1,0 +1,66 @@
+-- Parts with the same tokens, places too, are equal.
+use Rattle.std.proofs.Common.{◌≡◌, List, ◌∷◌, refl, ap, ◌∙◌}
+use Rattle.std.specs.Prelude.{ℤ}
+use Rattle.xmp_base.specs.declared.place.Place.{Place}
+use Rattle.xmp_num.specs.declared.types.Ty.{Ty}
+use Rattle.xmp_num.specs.declared.types.Ty.TheVariants as ty
+use Rattle.xmp_lex.specs.declared.token.Token.{Token}
+use Rattle.xmp_lex.specs.declared.token.TokenKind.{TokenKind}
+use Rattle.xmp_lex.specs.declared.token.TokenKind.TheVariants as t
+use Rattle.xmp_lex.specs.declared.token.Mark.{Mark}
+use Rattle.xmp_tree.specs.declared.parts.Name.{Name}
+use Rattle.xmp_tree.specs.Trees.{Expr, number, read, call, parens, unary, cast, chain, conditional, Ref, ref, Subscripts, no_more, subscript, Image, no_image, image, Arguments, no_arguments, arguments, Rest, end, comma, Links, last, link}
+use Rattle.xmp_tree.specs.Spell.{◌at◌, type_word}
+
+-- from the same tokens, the same part and the same tokens behind it
+abbrev pub Exact : {A : Type 0} → (A → List Token → List Token) → A → A → List Token → List Token → Type 0
+Exact f x y r s = f x r ≡ f y s → (x ≡ y) × (r ≡ s)
+
+-- the first tokens, and those behind them
+pub apart : {j k : TokenKind} {p q : Place} {us vs : List Token} → j at p ∷ us ≡ k at q ∷ vs → (j ≡ k) × (p ≡ q) × (us ≡ vs)
+apart {j} {k} {p} {q} h = let x : j at p ≡ k at q = cc in (ap (λ (u : Token). u.kind) x, ap (λ (u : Token). u.at) x, cc)
+
+pub name_is : (x y : Name) → t.Name x.text ≡ t.Name y.text → x.at ≡ y.at → x ≡ y
+name_is x y h k = let q : x.text ≡ y.text = cc in ap (λ v. record { text = v; at = x.at }) q ∙ ap (λ v. record { text = y.text; at = v }) k
+
+pub type_is : (x y : Ty) → t.Word (type_word x) ≡ t.Word (type_word y) → x ≡ y
+type_is ty.Int ty.Int h = refl
+type_is ty.Long ty.Long h = refl
+type_is ty.Int ty.Long h = cc
+type_is ty.Long ty.Int h = cc
+
+pub number_is : {p p' : Place} {n n' : ℤ} {ty ty' : Ty} → t.Number n ty ≡ t.Number n' ty' → p ≡ p' → number p n ty ≡ number p' n' ty'
+number_is h k = cc
+
+pub call_is : {f f' : Name} {o o' c c' : Place} {xs ys : Arguments} → f ≡ f' → o ≡ o' → xs ≡ ys → c ≡ c' → call f o xs c ≡ call f' o' ys c'
+call_is h i j k = cc
+
+pub parens_is : {o o' c c' : Place} {x y : Expr} → o ≡ o' → x ≡ y → c ≡ c' → parens o x c ≡ parens o' y c'
+parens_is h i j = cc
+
+pub unary_is : {op op' : Mark} {p p' : Place} {x y : Expr} → t.Mark op ≡ t.Mark op' → p ≡ p' → x ≡ y → unary op p x ≡ unary op' p' y
+unary_is h i j = cc
+
+pub cast_is : {o o' p p' c c' : Place} {ty ty' : Ty} {x y : Expr} → o ≡ o' → ty ≡ ty' → p ≡ p' → c ≡ c' → x ≡ y → cast o ty p c x ≡ cast o' ty' p' c' y
+cast_is h i j k l = cc
+
+pub conditional_is : {x x' y y' z z' : Expr} {p p' q q' : Place} → x ≡ x' → p ≡ p' → y ≡ y' → q ≡ q' → z ≡ z' → conditional x p y q z ≡ conditional x' p' y' q' z'
+conditional_is h i j k l = cc
+
+pub ref_is : {n n' : Name} {ds es : Subscripts} {i j : Image} → n ≡ n' → ds ≡ es → i ≡ j → ref n ds i ≡ ref n' es j
+ref_is h k l = cc
+
+pub subscript_is : {o o' c c' : Place} {x y : Expr} {ds es : Subscripts} → o ≡ o' → x ≡ y → c ≡ c' → ds ≡ es → subscript o x c ds ≡ subscript o' y c' es
+subscript_is h i j k = cc
+
+pub image_is : {p p' o o' c c' : Place} {x y : Expr} → p ≡ p' → o ≡ o' → x ≡ y → c ≡ c' → image p o x c ≡ image p' o' y c'
+image_is h i j k = cc
+
+pub arguments_is : {x y : Expr} {es fs : Rest} → x ≡ y → es ≡ fs → arguments x es ≡ arguments y fs
+arguments_is h i = cc
+
+pub comma_is : {p p' : Place} {x y : Expr} {es fs : Rest} → p ≡ p' → x ≡ y → es ≡ fs → comma p x es ≡ comma p' y fs
+comma_is h i j = cc
+
+pub link_is : {op op' : Mark} {p p' : Place} {x y : Expr} {ls ms : Links} → t.Mark op ≡ t.Mark op' → p ≡ p' → x ≡ y → ls ≡ ms → link op p x ls ≡ link op' p' y ms
+link_is h i j k = cc
