@@ -8,6 +8,7 @@ pub mod Blocks
 pub mod Programs
 pub mod Shorter
 pub mod OneTokens
+pub mod Backward
 pub mod OneExpr
 pub mod OneLine
 pub mod OneDirective

@@ -1,6 +1,6 @@
 -- Parts with the same tokens, places too, are equal.
 use Rattle.std.proofs.Common.{◌≡◌, List, ◌∷◌, refl, ap, ◌∙◌}
-use Rattle.std.specs.Prelude.{ℤ}
+use Rattle.std.specs.Prelude.{ℤ, Option, None, Some}
 use Rattle.xmp_base.specs.declared.place.Place.{Place}
 use Rattle.xmp_num.specs.declared.types.Ty.{Ty}
 use Rattle.xmp_num.specs.declared.types.Ty.TheVariants as ty
@@ -9,6 +9,20 @@ use Rattle.xmp_lex.specs.declared.token.TokenKind.{TokenKind}
 use Rattle.xmp_lex.specs.declared.token.TokenKind.TheVariants as t
 use Rattle.xmp_lex.specs.declared.token.Mark.{Mark}
 use Rattle.xmp_tree.specs.declared.parts.Name.{Name}
+use Rattle.xmp_tree.specs.declared.parts.Next.{Next}
+use Rattle.xmp_tree.specs.declared.parts.CommaList.{CommaList}
+use Rattle.xmp_tree.specs.declared.parts.Inside.{Inside}
+use Rattle.xmp_tree.specs.declared.parts.TypeWords.{TypeWords}
+use Rattle.xmp_tree.specs.declared.declaration.Declarator.{Declarator}
+use Rattle.xmp_tree.specs.declared.declaration.Declaration.{Declaration}
+use Rattle.xmp_tree.specs.declared.parts.Placed.{Placed}
+use Rattle.xmp_tree.specs.declared.directive.DirectiveLine.{DirectiveLine}
+use Rattle.xmp_tree.specs.declared.directive.Section.{Section}
+use Rattle.xmp_tree.specs.declared.directive.Sections.{Sections}
+use Rattle.xmp_tree.specs.declared.directive.DistForm.{DistForm}
+use Rattle.xmp_tree.specs.declared.directive.AlignDimension.{AlignDimension}
+use Rattle.xmp_tree.specs.declared.directive.Point.{Point}
+use Rattle.xmp_tree.specs.declared.directive.Mapping.TheVariants as mp
 use Rattle.xmp_tree.specs.Trees.{Expr, number, read, call, parens, unary, cast, chain, conditional, Ref, ref, Subscripts, no_more, subscript, Image, no_image, image, Arguments, no_arguments, arguments, Rest, end, comma, Links, last, link}
 use Rattle.xmp_tree.specs.Spell.{◌at◌, type_word}
 
@@ -64,3 +78,56 @@ comma_is h i j = cc
 
 pub link_is : {op op' : Mark} {p p' : Place} {x y : Expr} {ls ms : Links} → t.Mark op ≡ t.Mark op' → p ≡ p' → x ≡ y → ls ≡ ms → link op p x ls ≡ link op' p' y ms
 link_is h i j k = cc
+
+-- Lists, and items between marks.
+pub more_is : {A : Type 0} {x y : A} {xs ys : List A} → x ≡ y → xs ≡ ys → (x ∷ xs) ≡ (y ∷ ys)
+more_is h k = cc
+
+pub next_is : {A : Type 0} (x y : Next A) → x.comma ≡ y.comma → x.item ≡ y.item → x ≡ y
+next_is {A} x y h k = let f : Place → Next A = λ v. record { comma = v; item = x.item } in let g : A → Next A = λ v. record { comma = y.comma; item = v } in ap f h ∙ ap g k
+
+pub list_is : {A : Type 0} (x y : CommaList A) → x.first ≡ y.first → x.more ≡ y.more → x ≡ y
+list_is {A} x y h k = let f : A → CommaList A = λ v. record { first = v; more = x.more } in let g : List (Next A) → CommaList A = λ v. record { first = y.first; more = v } in ap f h ∙ ap g k
+
+pub inside_is : {A : Type 0} (x y : Inside A) → x.open ≡ y.open → x.item ≡ y.item → x.close ≡ y.close → x ≡ y
+inside_is {A} x y h i j =
+    let f : Place → Inside A = λ v. record { «open» = v; item = x.item; close = x.close } in
+    let g : A → Inside A = λ v. record { «open» = y.open; item = v; close = x.close } in
+    let k : Place → Inside A = λ v. record { «open» = y.open; item = y.item; close = v } in ap f h ∙ ap g i ∙ ap k j
+
+pub pair_is : {A B : Type 0} (x y : A × B) → x.0 ≡ y.0 → x.1 ≡ y.1 → x ≡ y
+pair_is {A} {B} x y h k = let f : A → A × B = λ v. (v, x.1) in let g : B → A × B = λ v. (y.0, v) in ap f h ∙ ap g k
+
+pub some_pair_is : {A B : Type 0} (x y : A × B) → x.0 ≡ y.0 → x.1 ≡ y.1 → Some x ≡ Some y
+some_pair_is x y h k = ap Some (pair_is x y h k)
+
+pub declaration_is : (x y : Declaration) → x.ty ≡ y.ty → x.items ≡ y.items → x.end ≡ y.end → x ≡ y
+declaration_is x y h i j =
+    let f : TypeWords → Declaration = λ v. record { ty = v; items = x.items; end = x.end } in
+    let g : CommaList Declarator → Declaration = λ v. record { ty = y.ty; items = v; end = x.end } in
+    let k : Place → Declaration = λ v. record { ty = y.ty; items = y.items; end = v } in ap f h ∙ ap g i ∙ ap k j
+
+pub mark_is : (x y : Placed Mark) → t.Mark x.what ≡ t.Mark y.what → x.at ≡ y.at → x ≡ y
+mark_is x y h k =
+    let q : x.what ≡ y.what = cc in
+    let f : Mark → Placed Mark = λ v. record { what = v; at = x.at } in
+    let g : Place → Placed Mark = λ v. record { what = y.what; at = v } in ap f q ∙ ap g k
+
+-- Directives.
+pub sections_is : (x y : Sections) → x.name ≡ y.name → x.sections ≡ y.sections → x ≡ y
+sections_is x y h k =
+    let f : Name → Sections = λ v. record { name = v; sections = x.sections } in
+    let g : List (Inside Section) → Sections = λ v. record { name = y.name; sections = v } in ap f h ∙ ap g k
+
+pub line_is : (x y : DirectiveLine) → x.start ≡ y.start → x.word ≡ y.word → x.end ≡ y.end → x ≡ y
+line_is x y h i j =
+    let f : Place → DirectiveLine = λ v. record { start = v; word = x.word; end = x.end } in
+    let g : Place → DirectiveLine = λ v. record { start = y.start; word = v; end = x.end } in
+    let k : Place → DirectiveLine = λ v. record { start = y.start; word = y.word; end = v } in ap f h ∙ ap g i ∙ ap k j
+
+pub distribute_is : {l k : DirectiveLine} {n n' o o' : Name} {fs gs : List (Inside DistForm)} {p q : Place} → l ≡ k → n ≡ n' → fs ≡ gs → p ≡ q → o ≡ o' → mp.Distribute l n fs p o ≡ mp.Distribute k n' gs q o'
+distribute_is a b c d e = cc
+
+pub align_is : {l k : DirectiveLine} {n n' o o' : Name} {xs ys : List (Inside AlignDimension)} {ps qs : List (Inside Point)} {p q : Place} → l ≡ k → n ≡ n' → xs ≡ ys → p ≡ q → o ≡ o' → ps ≡ qs
+    → mp.Align l n xs p o ps ≡ mp.Align k n' ys q o' qs
+align_is a b c d e f = cc
