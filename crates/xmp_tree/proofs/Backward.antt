@@ -18,7 +18,7 @@ use Rattle.xmp_tree.specs.declared.expression.Expr.TheOpen.{Expr-F}
 use Rattle.xmp_tree.specs.declared.expression.Expr.TheVariants as e
 use Rattle.xmp_tree.specs.Trees.{Expr, number, read, call, parens, unary, cast, chain, conditional, Ref, ref, Subscripts, no_more, subscript, Image, no_image, image, Arguments, no_arguments, arguments, Rest, end, comma, Links, last, link}
 use Rattle.xmp_tree.proofs.OneTokens.{more_is}
-use Rattle.xmp_tree.specs.View.{inside_view, next_view, link_view, expr_step, expr_view, ref_view, call_view, rest_view, subscripts_of, image_of, arguments_of, rest_of, links_of}
+use Rattle.xmp_tree.specs.View.{subscripts_view, image_view, arguments_view, inside_view, next_view, link_view, expr_step, expr_view, ref_view, call_view, rest_view, subscripts_of, image_of, arguments_of, rest_of, links_of}
 
 abbrev mutual
   pub back : Expr → made.Expr
@@ -129,3 +129,46 @@ back_view = ind-Expr Back (λ x y h. subst (λ z. Back (roll-Expr z)) h (ap back
 
 pub expr_is : (x y : made.Expr) → expr_view x ≡ expr_view y → x ≡ y
 expr_is x y h = sym (back_view x) ∙ ap back h ∙ back_view y
+
+-- What holds of expressions, of the parts that hold them.
+subscripts_seen : (xs : List (Inside made.Expr)) → back_subscripts (subscripts_view xs) ≡ xs
+subscripts_seen [] = refl
+subscripts_seen (x ∷ xs) = let f : made.Expr → Inside made.Expr = λ v. record { «open» = x.open; item = v; close = x.close } in more_is (ap f (back_view x.item)) (subscripts_seen xs)
+
+image_seen : (x : Option (made_image.Image made.Expr)) → back_image (image_view x) ≡ x
+image_seen None = refl
+image_seen (Some x) =
+    let f : made.Expr → Option (made_image.Image made.Expr) = λ v. Some (record { colon = x.colon; number = record { «open» = x.number.open; item = v; close = x.number.close } }) in ap f (back_view x.number.item)
+
+rest_seen : (xs : List (Next made.Expr)) → back_rest (rest_view xs) ≡ xs
+rest_seen [] = refl
+rest_seen (x ∷ xs) = let f : made.Expr → Next made.Expr = λ v. record { comma = x.comma; item = v } in more_is (ap f (back_view x.item)) (rest_seen xs)
+
+arguments_seen : (x : Option (CommaList made.Expr)) → back_arguments (arguments_view x) ≡ x
+arguments_seen None = refl
+arguments_seen (Some x) =
+    let f : made.Expr → Option (CommaList made.Expr) = λ v. Some (record { first = v; more = back_rest (rest_view x.more) }) in
+    let g : List (Next made.Expr) → Option (CommaList made.Expr) = λ v. Some (record { first = x.first; more = v }) in ap f (back_view x.first) ∙ ap g (rest_seen x.more)
+
+reference_seen : (x : Reference made.Expr) → back_ref (ref_view x) ≡ x
+reference_seen x =
+    let f : List (Inside made.Expr) → Reference made.Expr = λ v. record { name = x.name; subscripts = v; image = back_image (image_view x.image) } in
+    let g : Option (made_image.Image made.Expr) → Reference made.Expr = λ v. record { name = x.name; subscripts = x.subscripts; image = v } in ap f (subscripts_seen x.subscripts) ∙ ap g (image_seen x.image)
+
+pub reference_is : (x y : Reference made.Expr) → ref_view x ≡ ref_view y → x ≡ y
+reference_is x y h = sym (reference_seen x) ∙ ap back_ref h ∙ reference_seen y
+
+pub rest_is : (xs ys : List (Next made.Expr)) → rest_view xs ≡ rest_view ys → xs ≡ ys
+rest_is xs ys h = sym (rest_seen xs) ∙ ap back_rest h ∙ rest_seen ys
+
+-- a call that an expression is
+abbrev back_call : Call made.Expr → Expr → Call made.Expr
+back_call d (call f o xs c) = record { name = f; arguments = record { «open» = o; item = back_arguments xs; close = c } }
+back_call d _ = d
+
+call_seen : (d x : Call made.Expr) → back_call d (call_view x) ≡ x
+call_seen d x =
+    let f : Option (CommaList made.Expr) → Call made.Expr = λ v. record { name = x.name; arguments = record { «open» = x.arguments.open; item = v; close = x.arguments.close } } in ap f (arguments_seen x.arguments.item)
+
+pub call_view_is : (x y : Call made.Expr) → call_view x ≡ call_view y → x ≡ y
+call_view_is x y h = sym (call_seen x x) ∙ ap (back_call x) h ∙ call_seen x y

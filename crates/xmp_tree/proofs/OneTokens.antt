@@ -23,6 +23,14 @@ use Rattle.xmp_tree.specs.declared.directive.DistForm.{DistForm}
 use Rattle.xmp_tree.specs.declared.directive.AlignDimension.{AlignDimension}
 use Rattle.xmp_tree.specs.declared.directive.Point.{Point}
 use Rattle.xmp_tree.specs.declared.directive.Mapping.TheVariants as mp
+use Rattle.xmp_tree.specs.declared.expression.Expr as made
+use Rattle.xmp_tree.specs.declared.directive.ReductionOperator.{ReductionOperator}
+use Rattle.xmp_tree.specs.declared.directive.Reduction.{Reduction}
+use Rattle.xmp_tree.specs.declared.directive.LoopLine.{LoopLine}
+use Rattle.xmp_tree.specs.declared.directive.TaskLine.{TaskLine}
+use Rattle.xmp_tree.specs.declared.statement.Simple.{Simple}
+use Rattle.xmp_tree.specs.declared.statement.ForFirst.{ForFirst}
+use Rattle.xmp_tree.specs.declared.statement.ForHead.{ForHead}
 use Rattle.xmp_tree.specs.Trees.{Expr, number, read, call, parens, unary, cast, chain, conditional, Ref, ref, Subscripts, no_more, subscript, Image, no_image, image, Arguments, no_arguments, arguments, Rest, end, comma, Links, last, link}
 use Rattle.xmp_tree.specs.Spell.{◌at◌, type_word}
 
@@ -98,6 +106,12 @@ inside_is {A} x y h i j =
 pub pair_is : {A B : Type 0} (x y : A × B) → x.0 ≡ y.0 → x.1 ≡ y.1 → x ≡ y
 pair_is {A} {B} x y h k = let f : A → A × B = λ v. (v, x.1) in let g : B → A × B = λ v. (y.0, v) in ap f h ∙ ap g k
 
+pub triple_is : {A B C : Type 0} (x y : A × B × C) → x.0 ≡ y.0 → x.1 ≡ y.1 → x.2 ≡ y.2 → x ≡ y
+triple_is {A} {B} {C} x y h i j =
+    let f : A → A × B × C = λ v. (v, x.1, x.2) in
+    let g : B → A × B × C = λ v. (y.0, v, x.2) in
+    let k : C → A × B × C = λ v. (y.0, y.1, v) in ap f h ∙ ap g i ∙ ap k j
+
 pub some_pair_is : {A B : Type 0} (x y : A × B) → x.0 ≡ y.0 → x.1 ≡ y.1 → Some x ≡ Some y
 some_pair_is x y h k = ap Some (pair_is x y h k)
 
@@ -131,3 +145,35 @@ distribute_is a b c d e = cc
 pub align_is : {l k : DirectiveLine} {n n' o o' : Name} {xs ys : List (Inside AlignDimension)} {ps qs : List (Inside Point)} {p q : Place} → l ≡ k → n ≡ n' → xs ≡ ys → p ≡ q → o ≡ o' → ps ≡ qs
     → mp.Align l n xs p o ps ≡ mp.Align k n' ys q o' qs
 align_is a b c d e f = cc
+
+pub reduction_is : (x y : Reduction) → x.word ≡ y.word → x.list ≡ y.list → x ≡ y
+reduction_is x y h k =
+    let f : Place → Reduction = λ v. record { word = v; list = x.list } in
+    let g : Inside (ReductionOperator × Place × CommaList Name) → Reduction = λ v. record { word = y.word; list = v } in ap f h ∙ ap g k
+
+pub loop_is : (x y : LoopLine) → x.line ≡ y.line → x.names ≡ y.names → x.on ≡ y.on → x.template ≡ y.template → x.points ≡ y.points → x.reductions ≡ y.reductions → x ≡ y
+loop_is x y a b c d e f =
+    let h1 : DirectiveLine → LoopLine = λ v. record { line = v; names = x.names; on = x.on; template = x.template; points = x.points; reductions = x.reductions } in
+    let h2 : Option (Inside (CommaList Name)) → LoopLine = λ v. record { line = y.line; names = v; on = x.on; template = x.template; points = x.points; reductions = x.reductions } in
+    let h3 : Place → LoopLine = λ v. record { line = y.line; names = y.names; on = v; template = x.template; points = x.points; reductions = x.reductions } in
+    let h4 : Name → LoopLine = λ v. record { line = y.line; names = y.names; on = y.on; template = v; points = x.points; reductions = x.reductions } in
+    let h5 : List (Inside Point) → LoopLine = λ v. record { line = y.line; names = y.names; on = y.on; template = y.template; points = v; reductions = x.reductions } in
+    let h6 : List Reduction → LoopLine = λ v. record { line = y.line; names = y.names; on = y.on; template = y.template; points = y.points; reductions = v } in
+    ap h1 a ∙ ap h2 b ∙ ap h3 c ∙ ap h4 d ∙ ap h5 e ∙ ap h6 f
+
+pub task_is : (x y : TaskLine) → x.line ≡ y.line → x.on ≡ y.on → x.set ≡ y.set → x ≡ y
+task_is x y a b c =
+    let f : DirectiveLine → TaskLine = λ v. record { line = v; on = x.on; set = x.set } in
+    let g : Place → TaskLine = λ v. record { line = y.line; on = v; set = x.set } in
+    let h : Sections → TaskLine = λ v. record { line = y.line; on = y.on; set = v } in ap f a ∙ ap g b ∙ ap h c
+
+-- The head of a for.
+abbrev head : Place → Place → Option ForFirst → Place → Option made.Expr → Place → Option Simple → Place → ForHead
+head a b c d e f g h = record { word = a; «open» = b; first = c; first_end = d; test = e; test_end = f; next = g; close = h }
+
+pub head_is : (x y : ForHead) → x.word ≡ y.word → x.open ≡ y.open → x.first ≡ y.first → x.first_end ≡ y.first_end → x.test ≡ y.test → x.test_end ≡ y.test_end → x.next ≡ y.next → x.close ≡ y.close → x ≡ y
+head_is x y a b c d e f g h =
+    ap (λ v. head v x.open x.first x.first_end x.test x.test_end x.next x.close) a ∙ ap (λ v. head y.word v x.first x.first_end x.test x.test_end x.next x.close) b
+    ∙ ap (λ v. head y.word y.open v x.first_end x.test x.test_end x.next x.close) c ∙ ap (λ v. head y.word y.open y.first v x.test x.test_end x.next x.close) d
+    ∙ ap (λ v. head y.word y.open y.first y.first_end v x.test_end x.next x.close) e ∙ ap (λ v. head y.word y.open y.first y.first_end y.test v x.next x.close) f
+    ∙ ap (λ v. head y.word y.open y.first y.first_end y.test y.test_end v x.close) g ∙ ap (head y.word y.open y.first y.first_end y.test y.test_end y.next) h
