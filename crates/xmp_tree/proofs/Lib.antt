@@ -9,6 +9,7 @@ pub mod Programs
 pub mod Shorter
 pub mod OneTokens
 pub mod Backward
+pub mod BackStatements
 pub mod OneExpr
 pub mod OneLine
 pub mod OneDirective

@@ -9,6 +9,7 @@ use Rattle.xmp_lex.specs.declared.token.TokenKind.{TokenKind}
 use Rattle.xmp_lex.specs.declared.token.TokenKind.TheVariants as t
 use Rattle.xmp_lex.specs.declared.token.Mark.{Mark}
 use Rattle.xmp_tree.specs.declared.parts.Name.{Name}
+use Rattle.xmp_tree.specs.declared.parts.Format.{Format}
 use Rattle.xmp_tree.specs.declared.parts.Next.{Next}
 use Rattle.xmp_tree.specs.declared.parts.CommaList.{CommaList}
 use Rattle.xmp_tree.specs.declared.parts.Inside.{Inside}
@@ -31,6 +32,10 @@ use Rattle.xmp_tree.specs.declared.directive.TaskLine.{TaskLine}
 use Rattle.xmp_tree.specs.declared.statement.Simple.{Simple}
 use Rattle.xmp_tree.specs.declared.statement.ForFirst.{ForFirst}
 use Rattle.xmp_tree.specs.declared.statement.ForHead.{ForHead}
+use Rattle.xmp_tree.specs.declared.statement.BlockItem.{BlockItem}
+use Rattle.xmp_tree.specs.declared.statement.Stmt as made_stmt
+use Rattle.xmp_tree.specs.declared.program.Parameters.{Parameters}
+use Rattle.xmp_tree.specs.declared.program.Function.{Function}
 use Rattle.xmp_tree.specs.Trees.{Expr, number, read, call, parens, unary, cast, chain, conditional, Ref, ref, Subscripts, no_more, subscript, Image, no_image, image, Arguments, no_arguments, arguments, Rest, end, comma, Links, last, link}
 use Rattle.xmp_tree.specs.Spell.{◌at◌, type_word}
 
@@ -44,6 +49,9 @@ apart {j} {k} {p} {q} h = let x : j at p ≡ k at q = cc in (ap (λ (u : Token).
 
 pub name_is : (x y : Name) → t.Name x.text ≡ t.Name y.text → x.at ≡ y.at → x ≡ y
 name_is x y h k = let q : x.text ≡ y.text = cc in ap (λ v. record { text = v; at = x.at }) q ∙ ap (λ v. record { text = y.text; at = v }) k
+
+pub format_is : (x y : Format) → t.Text x.text ≡ t.Text y.text → x.at ≡ y.at → x ≡ y
+format_is x y h k = let q : x.text ≡ y.text = cc in ap (λ v. record { text = v; at = x.at }) q ∙ ap (λ v. record { text = y.text; at = v }) k
 
 pub type_is : (x y : Ty) → t.Word (type_word x) ≡ t.Word (type_word y) → x ≡ y
 type_is ty.Int ty.Int h = refl
@@ -112,6 +120,13 @@ triple_is {A} {B} {C} x y h i j =
     let g : B → A × B × C = λ v. (y.0, v, x.2) in
     let k : C → A × B × C = λ v. (y.0, y.1, v) in ap f h ∙ ap g i ∙ ap k j
 
+pub four_is : {A B C D : Type 0} (x y : A × B × C × D) → x.0 ≡ y.0 → x.1 ≡ y.1 → x.2 ≡ y.2 → x.3 ≡ y.3 → x ≡ y
+four_is {A} {B} {C} {D} x y h i j l =
+    let f : A → A × B × C × D = λ v. (v, x.1, x.2, x.3) in
+    let g : B → A × B × C × D = λ v. (y.0, v, x.2, x.3) in
+    let k : C → A × B × C × D = λ v. (y.0, y.1, v, x.3) in
+    let n : D → A × B × C × D = λ v. (y.0, y.1, y.2, v) in ap f h ∙ ap g i ∙ ap k j ∙ ap n l
+
 pub some_pair_is : {A B : Type 0} (x y : A × B) → x.0 ≡ y.0 → x.1 ≡ y.1 → Some x ≡ Some y
 some_pair_is x y h k = ap Some (pair_is x y h k)
 
@@ -177,3 +192,10 @@ head_is x y a b c d e f g h =
     ∙ ap (λ v. head y.word y.open v x.first_end x.test x.test_end x.next x.close) c ∙ ap (λ v. head y.word y.open y.first v x.test x.test_end x.next x.close) d
     ∙ ap (λ v. head y.word y.open y.first y.first_end v x.test_end x.next x.close) e ∙ ap (λ v. head y.word y.open y.first y.first_end y.test v x.next x.close) f
     ∙ ap (λ v. head y.word y.open y.first y.first_end y.test y.test_end v x.close) g ∙ ap (head y.word y.open y.first y.first_end y.test y.test_end y.next) h
+
+-- Functions.
+abbrev whole : TypeWords → Name → Inside (Option Parameters) → Inside (List (BlockItem made_stmt.Stmt)) → Function
+whole a b c d = record { ty = a; name = b; parameters = c; body = d }
+
+pub function_is : (x y : Function) → x.ty ≡ y.ty → x.name ≡ y.name → x.parameters ≡ y.parameters → x.body ≡ y.body → x ≡ y
+function_is x y a b c d = ap (λ v. whole v x.name x.parameters x.body) a ∙ ap (λ v. whole y.ty v x.parameters x.body) b ∙ ap (λ v. whole y.ty y.name v x.body) c ∙ ap (whole y.ty y.name y.parameters) d
