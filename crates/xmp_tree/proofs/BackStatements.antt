@@ -2,7 +2,6 @@
 use Rattle.std.proofs.Common.{◌≡◌, List, [], ◌∷◌, map, refl, sym, ap, ◌∙◌, subst}
 use Rattle.std.specs.Prelude.{Option, None, Some}
 use Rattle.xmp_base.specs.declared.place.Place.{Place}
-use Rattle.xmp_tree.specs.declared.parts.Inside.{Inside}
 use Rattle.xmp_tree.specs.declared.expression.Expr as made
 use Rattle.xmp_tree.specs.declared.declaration.Declaration.{Declaration}
 use Rattle.xmp_tree.specs.declared.directive.Mapping.{Mapping}
@@ -15,7 +14,7 @@ use Rattle.xmp_tree.specs.declared.statement.Stmt.TheViews.{roll-Stmt}
 use Rattle.xmp_tree.specs.declared.statement.Stmt.TheOpen.{Stmt-F}
 use Rattle.xmp_tree.specs.declared.statement.Stmt.TheVariants as s
 use Rattle.xmp_tree.specs.Trees.{Stmt, plain, block, if_then, if_else, while_do, for_do, loop, task, tasks, BlockItems, none, mapping, declaration, statement, Tasks, no_task, a_task}
-use Rattle.xmp_tree.specs.View.{stmt_step, stmt_view, items_of, item_view, items_view, tasks_of, task_view, tasks_view}
+use Rattle.xmp_tree.specs.View.{stmt_step, stmt_view, items_of, items_view, tasks_of, task_view}
 use Rattle.xmp_tree.proofs.OneTokens.{more_is}
 
 abbrev mutual

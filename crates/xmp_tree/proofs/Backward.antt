@@ -3,7 +3,6 @@ use Rattle.std.proofs.Common.{◌≡◌, List, [], ◌∷◌, map, refl, sym, ap
 use Rattle.std.specs.Prelude.{Option, None, Some}
 use Rattle.xmp_base.specs.declared.place.Place.{Place}
 use Rattle.xmp_tree.specs.declared.parts.Name.{Name}
-use Rattle.xmp_tree.specs.declared.parts.Placed.{Placed}
 use Rattle.xmp_tree.specs.declared.parts.CommaList.{CommaList}
 use Rattle.xmp_tree.specs.declared.parts.Next.{Next}
 use Rattle.xmp_tree.specs.declared.parts.Inside.{Inside}
@@ -18,7 +17,7 @@ use Rattle.xmp_tree.specs.declared.expression.Expr.TheOpen.{Expr-F}
 use Rattle.xmp_tree.specs.declared.expression.Expr.TheVariants as e
 use Rattle.xmp_tree.specs.Trees.{Expr, number, read, call, parens, unary, cast, chain, conditional, Ref, ref, Subscripts, no_more, subscript, Image, no_image, image, Arguments, no_arguments, arguments, Rest, end, comma, Links, last, link}
 use Rattle.xmp_tree.proofs.OneTokens.{more_is}
-use Rattle.xmp_tree.specs.View.{subscripts_view, image_view, arguments_view, inside_view, next_view, link_view, expr_step, expr_view, ref_view, call_view, rest_view, subscripts_of, image_of, arguments_of, rest_of, links_of}
+use Rattle.xmp_tree.specs.View.{subscripts_view, image_view, arguments_view, inside_view, next_view, link_view, expr_step, expr_view, ref_view, call_view, rest_view, subscripts_of, rest_of, links_of}
 
 abbrev mutual
   pub back : Expr → made.Expr
@@ -95,7 +94,7 @@ call_known {f} {o} {c} {x} {y} {es} h k =
 
 read_known : {f : Name} {p o c : Place} {ds es : List (Inside made.Expr)} {x y : made.Expr} → ds ≡ es → x ≡ y
     → e.Read (record { name = f; subscripts = ds; image = Some (record { colon = p; number = record { «open» = o; item = x; close = c } }) })
-        ≡ e.Read (record { name = f; subscripts = es; image = Some (record { colon = p; number = record { «open» = o; item = y; close = c } }) })
+    ≡ e.Read (record { name = f; subscripts = es; image = Some (record { colon = p; number = record { «open» = o; item = y; close = c } }) })
 read_known {f} {p} {o} {c} {ds} {es} {x} h k =
     ap (λ v. e.Read (record { name = f; subscripts = v; image = Some (record { colon = p; number = record { «open» = o; item = x; close = c } }) })) h
     ∙ ap (λ v. e.Read (record { name = f; subscripts = es; image = Some (record { colon = p; number = record { «open» = o; item = v; close = c } }) })) k

@@ -1,4 +1,4 @@
--- Expressions that fit and have the same kinds of tokens have one shape.
+-- Expressions that fit and have the same kinds of tokens have one shape; with the same tokens they are equal.
 use Rattle.std.proofs.Common.{◌≡◌, ◌≤◌, ◌<◌, ℕ, zero, suc, ◌+◌, ◌*◌, Bool, true, false, ◌&&◌, nat_le, List, [], ◌∷◌, length, inl, inr, refl, sym, ap, ◌∙◌, subst, arith}
 use Rattle.std.proofs.lemmas.Bool.Decides.{nat_tests}
 use Rattle.xmp_base.specs.declared.place.Place.{Place}
@@ -271,9 +271,11 @@ mutual
       let a : kinds (spell_subscripts ds (spell_image i r)) ≡ kinds (spell_subscripts es (spell_image j s)) = cc in
       let l = long_subscripts ds (spell_image i r) in
       let u = same_subscripts f ds es (spell_image i r) (spell_image j s) (omega arith) F.0 G.0 (image_first i r (ends_bracket 0 c r en)) (image_first j s (ends_bracket 0 c s em)) a in
-      let w = same_image f c i j r s (omega (arith, l)) F.1 G.1 en em u.1 in
-      (λ q. ap (λ v. token v ▸ subscripts_shape ds (image_shape i q)) k ∙ ap (λ v. token (t.Name n'.text) ▸ v) (u.0 (image_shape i q) ∙ ap (subscripts_shape es) (w.0 q)), w.1,
-      λ h. let t = apart h in let g = u.2 t.2 in let o = w.2 g.1 in (ref_is (name_is n n' t.0 t.1) g.0 o.0, o.1))
+      let w = same_image f c i j r s (omega (arith, l)) F.1 G.1 en em u.1 in (
+        λ q. ap (λ v. token v ▸ subscripts_shape ds (image_shape i q)) k ∙ ap (λ v. token (t.Name n'.text) ▸ v) (u.0 (image_shape i q) ∙ ap (subscripts_shape es) (w.0 q)),
+        w.1,
+        λ h. let t = apart h in let g = u.2 t.2 in let o = w.2 g.1 in (ref_is (name_is n n' t.0 t.1) g.0 o.0, o.1),
+      )
 
   same_subscripts : (f : ℕ) (x y : Subscripts) (r s : List Token) → 16 * length (spell_subscripts x r) + 1 < f → FitsSubscripts x → FitsSubscripts y → Not (is_mark m.OpenBracket) r → Not (is_mark m.OpenBracket) s
       → kinds (spell_subscripts x r) ≡ kinds (spell_subscripts y s) → ((q : Shapes) → subscripts_shape x q ≡ subscripts_shape y q) × (kinds r ≡ kinds s) × Exact spell_subscripts x y r s
@@ -302,9 +304,11 @@ mutual
   same_image (suc f) c (image p o x z) no_image r s b F G en em e = absurd (no_image_first c s _ em (sym e))
   same_image (suc f) c (image p o x z) (image p' o' y z') r s b F G en em e =
       let a : kinds (spell x (t.Mark m.CloseBracket at z ∷ r)) ≡ kinds (spell y (t.Mark m.CloseBracket at z' ∷ s)) = cc in
-      let w = same_full f false x y (t.Mark m.CloseBracket at z ∷ r) (t.Mark m.CloseBracket at z' ∷ s) (omega arith) F G ((refl, refl, refl, refl), refl) ((refl, refl, refl, refl), refl) a in
-      (λ q. ap (λ v. token (t.Mark m.Colon) ▸ token (t.Mark m.OpenBracket) ▸ v ▸ token (t.Mark m.CloseBracket) ▸ q) w.0, (let k = w.1 in cc),
-      λ h. let t = apart h in let i = apart t.2 in let g = w.2 i.2 in let j = apart g.1 in (image_is t.1 i.1 g.0 j.1, j.2))
+      let w = same_full f false x y (t.Mark m.CloseBracket at z ∷ r) (t.Mark m.CloseBracket at z' ∷ s) (omega arith) F G ((refl, refl, refl, refl), refl) ((refl, refl, refl, refl), refl) a in (
+        λ q. ap (λ v. token (t.Mark m.Colon) ▸ token (t.Mark m.OpenBracket) ▸ v ▸ token (t.Mark m.CloseBracket) ▸ q) w.0,
+        (let k = w.1 in cc),
+        λ h. let t = apart h in let i = apart t.2 in let g = w.2 i.2 in let j = apart g.1 in (image_is t.1 i.1 g.0 j.1, j.2),
+      )
 
   pub same_arguments : (f : ℕ) (x y : Arguments) (z z' : Place) (r s : List Token) → 16 * length (spell_arguments x (t.Mark m.CloseParen at z ∷ r)) + 12 < f → FitsArguments x → FitsArguments y
       → kinds (spell_arguments x (t.Mark m.CloseParen at z ∷ r)) ≡ kinds (spell_arguments y (t.Mark m.CloseParen at z' ∷ s))
@@ -320,9 +324,11 @@ mutual
       let u : List Token = t.Mark m.CloseParen at z ∷ r in
       let v : List Token = t.Mark m.CloseParen at z' ∷ s in
       let w = same_full f false x y (spell_rest es u) (spell_rest fs v) (omega arith) F.0 G.0 (ends_rest es u ((refl, refl, refl, refl), refl)) (ends_rest fs v ((refl, refl, refl, refl), refl)) e in
-      let k = same_rest f es fs u v (omega (arith, long x (spell_rest es u))) F.1 G.1 ((refl, refl, refl, refl), refl) ((refl, refl, refl, refl), refl) refl refl w.1 in
-      (λ q. ap (λ v. v ▸ rest_shape es q) w.0 ∙ ap (λ v. shape y ▸ v) (k.0 q), (let j = k.1 in cc),
-      λ h. let g = w.2 h in let j = k.2 g.1 in let t = apart j.1 in (arguments_is g.0 j.0, t.1, t.2))
+      let k = same_rest f es fs u v (omega (arith, long x (spell_rest es u))) F.1 G.1 ((refl, refl, refl, refl), refl) ((refl, refl, refl, refl), refl) refl refl w.1 in (
+        λ q. ap (λ v. v ▸ rest_shape es q) w.0 ∙ ap (λ v. shape y ▸ v) (k.0 q),
+        (let j = k.1 in cc),
+        λ h. let g = w.2 h in let j = k.2 g.1 in let t = apart j.1 in (arguments_is g.0 j.0, t.1, t.2),
+      )
 
   pub same_rest : (f : ℕ) (x y : Rest) (r s : List Token) → 16 * length (spell_rest x r) + 1 < f → FitsRest x → FitsRest y → EndsExpr false r → EndsExpr false s → Not (is_mark m.Comma) r → Not (is_mark m.Comma) s
       → kinds (spell_rest x r) ≡ kinds (spell_rest y s) → ((q : Shapes) → rest_shape x q ≡ rest_shape y q) × (kinds r ≡ kinds s) × Exact spell_rest x y r s
@@ -333,6 +339,8 @@ mutual
   same_rest (suc f) (comma p x es) (comma p' y fs) r s b F G en em h i e =
       let a : kinds (spell x (spell_rest es r)) ≡ kinds (spell y (spell_rest fs s)) = cc in
       let w = same_full f false x y (spell_rest es r) (spell_rest fs s) (omega arith) F.0 G.0 (ends_rest es r en) (ends_rest fs s em) a in
-      let k = same_rest f es fs r s (omega (arith, long x (spell_rest es r))) F.1 G.1 en em h i w.1 in
-      (λ q. ap (λ v. token (t.Mark m.Comma) ▸ v ▸ rest_shape es q) w.0 ∙ ap (λ v. token (t.Mark m.Comma) ▸ shape y ▸ v) (k.0 q), k.1,
-      λ h. let t = apart h in let g = w.2 t.2 in let j = k.2 g.1 in (comma_is t.1 g.0 j.0, j.1))
+      let k = same_rest f es fs r s (omega (arith, long x (spell_rest es r))) F.1 G.1 en em h i w.1 in (
+        λ q. ap (λ v. token (t.Mark m.Comma) ▸ v ▸ rest_shape es q) w.0 ∙ ap (λ v. token (t.Mark m.Comma) ▸ shape y ▸ v) (k.0 q),
+        k.1,
+        λ h. let t = apart h in let g = w.2 t.2 in let j = k.2 g.1 in (comma_is t.1 g.0 j.0, j.1),
+      )

@@ -1,4 +1,4 @@
--- Lists, declarations and lines that fit and have the same kinds of tokens have one shape.
+-- Lists, declarations and lines that fit and have the same kinds of tokens have one shape; with the same tokens they are equal.
 use Rattle.std.proofs.Common.{◌≡◌, ◌+◌, ◌*◌, Bool, false, List, [], ◌∷◌, length, refl, sym, ap, ◌∙◌, arith}
 use Rattle.std.specs.Prelude.{⊤, Option, None, Some}
 use Rattle.xmp_base.specs.declared.place.Place.{Place}
@@ -22,7 +22,7 @@ use Rattle.xmp_tree.specs.View.{expr_view}
 use Rattle.xmp_tree.specs.Spell.{Text, ◌at◌, each, next, list, dims, expr, names, name, optional, value, coarray, declarator, type_words, spell_declaration}
 use Rattle.xmp_tree.specs.Fits.{FitsExpr, FitsSecond, Each, If, FitsList, FitsDims, FitsDeclarator, FitsDeclaration}
 use Rattle.xmp_tree.specs.Shape as sh
-use Rattle.xmp_tree.specs.Shape.{Shape, Shapes, token, group, done, ◌▸◌, shape, Outline, kinds}
+use Rattle.xmp_tree.specs.Shape.{Shapes, token, ◌▸◌, shape, Outline, kinds}
 use Rattle.xmp_tree.proofs.Backward.{expr_is}
 use Rattle.xmp_tree.proofs.OneTokens.{Exact, apart, name_is, more_is, next_is, list_is, inside_is, some_pair_is, declaration_is}
 use Rattle.xmp_tree.proofs.Done.{Not}
@@ -77,9 +77,11 @@ module _ {A : Type 0} (f : A → Text) (h : A → Outline) (P : A → Type 0)
   same_dims (x ∷ xs) (y ∷ ys) F G r s n k e =
       let z : kinds (f x.item (t.Mark m.CloseBracket at x.close ∷ dims f xs r)) ≡ kinds (f y.item (t.Mark m.CloseBracket at y.close ∷ dims f ys s)) = cc in
       let a = item x.item y.item F.0 G.0 x.close y.close (dims f xs r) (dims f ys s) z in
-      let b = same_dims xs ys F.1 G.1 r s n k a.1 in
-      (λ q. ap (λ u. token (t.Mark m.OpenBracket) ▸ u) (a.0 (token (t.Mark m.CloseBracket) ▸ sh.dims h xs q) ∙ ap (λ u. h y.item (token (t.Mark m.CloseBracket) ▸ u)) (b.0 q)), b.1,
-      λ i. let t = apart i in let g = a.2 t.2 in let j = b.2 g.2 in (more_is (inside_is x y t.1 g.0 g.1) j.0, j.1))
+      let b = same_dims xs ys F.1 G.1 r s n k a.1 in (
+        λ q. ap (λ u. token (t.Mark m.OpenBracket) ▸ u) (a.0 (token (t.Mark m.CloseBracket) ▸ sh.dims h xs q) ∙ ap (λ u. h y.item (token (t.Mark m.CloseBracket) ▸ u)) (b.0 q)),
+        b.1,
+        λ i. let t = apart i in let g = a.2 t.2 in let j = b.2 g.2 in (more_is (inside_is x y t.1 g.0 g.1) j.0, j.1),
+      )
 
 -- Expressions.
 pub same_colon : (c : Bool) (x y : made.Expr) → FitsExpr x → FitsExpr y → (r s : List Token) → EndsExpr c r → EndsExpr c s → kinds (expr x r) ≡ kinds (expr y s) → Alike expr sh.expr x y r s
@@ -139,15 +141,19 @@ value_first (Some x) r w = refl
 pub same_declarator : (x y : Declarator) → FitsDeclarator x → FitsDeclarator y → (r s : List Token) → EndsDeclarator r → EndsDeclarator s → kinds (declarator x r) ≡ kinds (declarator y s) → Alike declarator sh.declarator x y r s
 same_declarator (d.Scalar n v) (d.Scalar n' v') F G r s w u e =
     let k : t.Name n.text ≡ t.Name n'.text = cc in
-    let a = same_value v v' F G r s w u (cc) in
-    (λ q. ap (λ z. token z ▸ sh.optional sh.value v q) k ∙ ap (λ z. token (t.Name n'.text) ▸ z) (a.0 q), a.1,
-      λ h. let t = apart h in let g = a.2 t.2 in (ap (λ z. d.Scalar z v) (name_is n n' t.0 t.1) ∙ ap (d.Scalar n') g.0, g.1))
+    let a = same_value v v' F G r s w u (cc) in (
+      λ q. ap (λ z. token z ▸ sh.optional sh.value v q) k ∙ ap (λ z. token (t.Name n'.text) ▸ z) (a.0 q),
+      a.1,
+      λ h. let t = apart h in let g = a.2 t.2 in (ap (λ z. d.Scalar z v) (name_is n n' t.0 t.1) ∙ ap (d.Scalar n') g.0, g.1),
+    )
 same_declarator (d.Array n ds c) (d.Array n' es c') F G r s w u e =
     let k : t.Name n.text ≡ t.Name n'.text = cc in
     let a = same_dims expr sh.expr FitsExpr same_closed ds es F.1 G.1 (optional coarray c r) (optional coarray c' s) (coarray_first c r w.0) (coarray_first c' s u.0) (cc) in
-    let b = same_coarray c c' r s w.0 u.0 a.1 in
-    (λ q. ap (λ z. token z ▸ sh.dims sh.expr ds (sh.optional sh.coarray c q)) k ∙ ap (λ z. token (t.Name n'.text) ▸ z) (a.0 (sh.optional sh.coarray c q) ∙ ap (sh.dims sh.expr es) (b.0 q)), b.1,
-      λ h. let t = apart h in let g = a.2 t.2 in let j = b.2 g.1 in (ap (λ z. d.Array z ds c) (name_is n n' t.0 t.1) ∙ ap (λ z. d.Array n' z c) g.0 ∙ ap (d.Array n' es) j.0, j.1))
+    let b = same_coarray c c' r s w.0 u.0 a.1 in (
+      λ q. ap (λ z. token z ▸ sh.dims sh.expr ds (sh.optional sh.coarray c q)) k ∙ ap (λ z. token (t.Name n'.text) ▸ z) (a.0 (sh.optional sh.coarray c q) ∙ ap (sh.dims sh.expr es) (b.0 q)),
+      b.1,
+      λ h. let t = apart h in let g = a.2 t.2 in let j = b.2 g.1 in (ap (λ z. d.Array z ds c) (name_is n n' t.0 t.1) ∙ ap (λ z. d.Array n' z c) g.0 ∙ ap (d.Array n' es) j.0, j.1),
+    )
 same_declarator (d.Scalar n v) (d.Array n' [] c) F G r s w u e = absurd G.0
 same_declarator (d.Scalar n v) (d.Array n' (y ∷ es) c) F G r s w u e = absurd (no_first (is_mark m.OpenBracket) (t.Mark m.OpenBracket) (optional value v r) (kinds (expr y.item (t.Mark m.CloseBracket at y.close ∷ dims expr es (optional coarray c s)))) refl (value_first v r w) (cc))
 same_declarator (d.Array n [] c) (d.Scalar n' v) F G r s w u e = absurd F.0
@@ -168,6 +174,8 @@ same_declaration x y F G r s e =
     let v : List Token = t.Mark m.Semicolon at y.end ∷ s in
     let a = same_type x.ty y.ty (list declarator x.items u) (list declarator y.items v) (declarators_first x.items u) (declarators_first y.items v) e in
     let b = same_list declarator sh.declarator FitsDeclarator EndsDeclarator same_declarator (λ q vs. (((refl, refl, refl, refl), refl), refl)) x.items y.items F G u v
-    (((refl, refl, refl, refl), refl), refl) (((refl, refl, refl, refl), refl), refl) refl refl a.1 in
-    (λ q. a.0 (sh.list sh.declarator x.items (token (t.Mark m.Semicolon) ▸ q)) ∙ ap (sh.type_words y.ty) (b.0 (token (t.Mark m.Semicolon) ▸ q)), (let k = b.1 in cc),
-      λ h. let g = a.2 h in let j = b.2 g.1 in let t = apart j.1 in (declaration_is x y g.0 j.0 t.1, t.2))
+    (((refl, refl, refl, refl), refl), refl) (((refl, refl, refl, refl), refl), refl) refl refl a.1 in (
+      λ q. a.0 (sh.list sh.declarator x.items (token (t.Mark m.Semicolon) ▸ q)) ∙ ap (sh.type_words y.ty) (b.0 (token (t.Mark m.Semicolon) ▸ q)),
+      (let k = b.1 in cc),
+      λ h. let g = a.2 h in let j = b.2 g.1 in let t = apart j.1 in (declaration_is x y g.0 j.0 t.1, t.2),
+    )

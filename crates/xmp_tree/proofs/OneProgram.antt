@@ -1,4 +1,4 @@
--- Programs that fit and have the same kinds of tokens have one shape.
+-- Programs that fit and have the same kinds of tokens have one shape; with the same tokens they are equal.
 use Rattle.std.proofs.Common.{◌≡◌, true, false, List, [], ◌∷◌, refl, sym, ap, ◌∙◌}
 use Rattle.std.specs.Prelude.{⊤, Option, None, Some}
 use Rattle.xmp_base.specs.declared.place.Place.{Place}
@@ -18,7 +18,7 @@ use Rattle.xmp_tree.specs.Grammar.{is_mark}
 use Rattle.xmp_tree.specs.Spell.{◌at◌, each, name, optional, in_parens, spell_declaration}
 use Rattle.xmp_tree.specs.Fits.{Each, FitsDeclaration, FitsItems}
 use Rattle.xmp_tree.specs.Shape as sh
-use Rattle.xmp_tree.specs.Shape.{Shape, Shapes, token, group, done, ◌▸◌, shape, ref_shape, rest_shape, stmt_shape, items_shape, tasks_shape, Outline, kinds}
+use Rattle.xmp_tree.specs.Shape.{token, done, ◌▸◌, shape, kinds}
 use Rattle.xmp_tree.proofs.OneLine.{Alike, AlikeTo, same_declaration}
 use Rattle.xmp_tree.proofs.OneDirective.{same_mapping, first_of}
 use Rattle.xmp_tree.specs.declared.parts.Next as after

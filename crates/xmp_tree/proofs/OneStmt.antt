@@ -1,4 +1,4 @@
--- Statements that fit and have the same kinds of tokens have one shape.
+-- Statements that fit and have the same kinds of tokens have one shape; with the same tokens they are equal.
 use Rattle.std.proofs.Common.{◌≡◌, ℕ, ◌+◌, ◌*◌, true, false, List, [], ◌∷◌, length, refl, sym, ap, ◌∙◌, subst, arith}
 use Rattle.std.specs.Prelude.{Option, None, Some, codes}
 use Rattle.xmp_base.specs.declared.place.Place.{Place}
@@ -28,7 +28,7 @@ use Rattle.xmp_tree.specs.View.{expr_view, ref_view, call_view, arguments_view}
 use Rattle.xmp_tree.specs.Spell.{◌at◌, spell, spell_ref, spell_arguments, each, dims, expr, names, name, optional, in_parens, point, reduction, reduction_operator, loop_line, task_line, spell_simple, for_first, for_head}
 use Rattle.xmp_tree.specs.Fits.{FitsRef, FitsExpr, If, FitsPoint, FitsSet, FitsLoopLine, FitsSimple, FitsFirst, FitsHead}
 use Rattle.xmp_tree.specs.Shape as sh
-use Rattle.xmp_tree.specs.Shape.{Shape, Shapes, token, group, done, ◌▸◌, shape, ref_shape, rest_shape, stmt_shape, items_shape, tasks_shape, Outline, kinds}
+use Rattle.xmp_tree.specs.Shape.{Shapes, token, ◌▸◌, shape, ref_shape, kinds}
 use Rattle.xmp_tree.proofs.Done.{Not}
 use Rattle.xmp_tree.proofs.TokenFacts.{starts, Ends}
 use Rattle.xmp_tree.proofs.Lines.{EndsPlain}
@@ -66,7 +66,7 @@ same_reductions (x ∷ xs) (y ∷ ys) r s n k e =
           (b.0 rest ∙ ap (λ z. sh.names y.list.item.2 (token (t.Mark m.CloseParen) ▸ z)) (c.0 q))),
       c.1,
       λ h. let t = apart h in let o = apart t.2 in let g = a.2 o.2 in let i = apart g.1 in let j = b.2 i.2 in let l = apart j.1 in let z = c.2 l.2 in
-      (more_is (reduction_is x y t.1 (inside_is x.list y.list o.1 (triple_is x.list.item y.list.item g.0 i.1 j.0) l.1)) z.0, z.1),
+          (more_is (reduction_is x y t.1 (inside_is x.list y.list o.1 (triple_is x.list.item y.list.item g.0 i.1 j.0) l.1)) z.0, z.1),
     )
 
 same_loop_names : (x y : Option (Inside (CommaList Name))) (a b : Place) (r s : List Token) → kinds (optional (in_parens names) x (t.Name (codes "on") at a ∷ r)) ≡ kinds (optional (in_parens names) y (t.Name (codes "on") at b ∷ s))
@@ -75,9 +75,11 @@ same_loop_names None None a b r s e = (λ q. refl, cc, λ h. let t = apart h in 
 same_loop_names None (Some y) a b r s e = cc
 same_loop_names (Some x) None a b r s e = cc
 same_loop_names (Some x) (Some y) a b r s e =
-    let w = same_names x.item y.item (t.Mark m.CloseParen at x.close ∷ t.Name (codes "on") at a ∷ r) (t.Mark m.CloseParen at y.close ∷ t.Name (codes "on") at b ∷ s) refl refl (cc) in
-    (λ q. ap (λ z. token (t.Mark m.OpenParen) ▸ z) (w.0 (token (t.Mark m.CloseParen) ▸ q)), (let k = w.1 in cc),
-      λ h. let t = apart h in let g = w.2 t.2 in let i = apart g.1 in let j = apart i.2 in (ap Some (inside_is x y t.1 g.0 i.1), j.1, j.2))
+    let w = same_names x.item y.item (t.Mark m.CloseParen at x.close ∷ t.Name (codes "on") at a ∷ r) (t.Mark m.CloseParen at y.close ∷ t.Name (codes "on") at b ∷ s) refl refl (cc) in (
+      λ q. ap (λ z. token (t.Mark m.OpenParen) ▸ z) (w.0 (token (t.Mark m.CloseParen) ▸ q)),
+      (let k = w.1 in cc),
+      λ h. let t = apart h in let g = w.2 t.2 in let i = apart g.1 in let j = apart i.2 in (ap Some (inside_is x y t.1 g.0 i.1), j.1, j.2),
+    )
 
 reduction_first : (xs : List Reduction) (r : List Token) → Not (is_mark m.OpenBracket) r → Not (is_mark m.OpenBracket) (each reduction xs r)
 reduction_first [] r h = h
@@ -99,14 +101,16 @@ same_loop x y F G r s e =
           ∙ ap (λ z. token (t.Name y.template.text) ▸ z) (b.0 (sh.each sh.reduction x.reductions end) ∙ ap (sh.dims sh.point y.points) (c.0 end)))),
       (let z = c.1 in cc),
       λ h. let t = apart h in let i = apart t.2 in let g = a.2 i.2 in let n = apart g.2 in let u = b.2 n.2 in let v = c.2 u.1 in let l = apart v.1 in
-      (loop_is x y (line_is x.line y.line t.1 i.1 l.1) g.0 g.1 (name_is x.template y.template n.0 n.1) u.0 v.0, l.2),
+          (loop_is x y (line_is x.line y.line t.1 i.1 l.1) g.0 g.1 (name_is x.template y.template n.0 n.1) u.0 v.0, l.2),
     )
 
 pub same_task_line : (x y : TaskLine) → FitsSet x.set → FitsSet y.set → (r s : List Token) → kinds (task_line x r) ≡ kinds (task_line y s) → Alike task_line sh.task_line x y r s
 same_task_line x y F G r s e =
-    let a = same_set x.set y.set F G (t.Close at x.line.end ∷ r) (t.Close at y.line.end ∷ s) refl refl (cc) in
-    (λ q. ap (λ z. token t.Pragma ▸ token (t.Name (codes "task")) ▸ token (t.Name (codes "on")) ▸ z) (a.0 (token t.Close ▸ q)), (let z = a.1 in cc),
-      λ h. let t = apart h in let i = apart t.2 in let o = apart i.2 in let g = a.2 o.2 in let l = apart g.1 in (task_is x y (line_is x.line y.line t.1 i.1 l.1) o.1 g.0, l.2))
+    let a = same_set x.set y.set F G (t.Close at x.line.end ∷ r) (t.Close at y.line.end ∷ s) refl refl (cc) in (
+      λ q. ap (λ z. token t.Pragma ▸ token (t.Name (codes "task")) ▸ token (t.Name (codes "on")) ▸ z) (a.0 (token t.Close ▸ q)),
+      (let z = a.1 in cc),
+      λ h. let t = apart h in let i = apart t.2 in let o = apart i.2 in let g = a.2 o.2 in let l = apart g.1 in (task_is x y (line_is x.line y.line t.1 i.1 l.1) o.1 g.0, l.2),
+    )
 
 pub tail_of : {a b : TokenKind} {ks js : List TokenKind} → a ∷ ks ≡ b ∷ js → ks ≡ js
 tail_of e = cc
@@ -126,19 +130,25 @@ same_simple (si.Assign x o e) (si.Assign y k f) F G r s en em z =
     let j = assign_ends k.what G.1 in
     let a = same_reference x y F.0 G.0 (t.Mark o.what at o.at ∷ expr e r) (t.Mark k.what at k.at ∷ expr f s) (h.0, h.1, h.2, h.3) (j.0, j.1, j.2, j.3) z in
     let i : t.Mark o.what ≡ t.Mark k.what = (let v = a.1 in cc) in
-    let b = same_expr e f F.2 G.2 r s en em (let v = a.1 in cc) in
-    (λ q. a.0 (token (t.Mark o.what) ▸ sh.expr e q) ∙ ap (λ v. ref_shape (ref_view y) (token v ▸ sh.expr e q)) i ∙ ap (λ v. ref_shape (ref_view y) (token (t.Mark k.what) ▸ v)) (b.0 q), b.1,
-      λ h. let g = a.2 h in let t = apart g.1 in let j = b.2 t.2 in (ap (λ v. si.Assign v o e) g.0 ∙ ap (λ v. si.Assign y v e) (mark_is o k t.0 t.1) ∙ ap (si.Assign y k) j.0, j.1))
+    let b = same_expr e f F.2 G.2 r s en em (let v = a.1 in cc) in (
+      λ q. a.0 (token (t.Mark o.what) ▸ sh.expr e q) ∙ ap (λ v. ref_shape (ref_view y) (token v ▸ sh.expr e q)) i ∙ ap (λ v. ref_shape (ref_view y) (token (t.Mark k.what) ▸ v)) (b.0 q),
+      b.1,
+      λ h. let g = a.2 h in let t = apart g.1 in let j = b.2 t.2 in (ap (λ v. si.Assign v o e) g.0 ∙ ap (λ v. si.Assign y v e) (mark_is o k t.0 t.1) ∙ ap (si.Assign y k) j.0, j.1),
+    )
 same_simple (si.Postfix x o) (si.Postfix y k) F G r s en em z =
     let a = same_reference x y F.0 G.0 (t.Mark o.what at o.at ∷ r) (t.Mark k.what at k.at ∷ s) (step_ends o.what F.1) (step_ends k.what G.1) z in
-    let i : t.Mark o.what ≡ t.Mark k.what = (let v = a.1 in cc) in
-    (λ q. a.0 (token (t.Mark o.what) ▸ q) ∙ ap (λ v. ref_shape (ref_view y) (token v ▸ q)) i, (let v = a.1 in cc),
-      λ h. let g = a.2 h in let t = apart g.1 in (ap (λ v. si.Postfix v o) g.0 ∙ ap (si.Postfix y) (mark_is o k t.0 t.1), t.2))
+    let i : t.Mark o.what ≡ t.Mark k.what = (let v = a.1 in cc) in (
+      λ q. a.0 (token (t.Mark o.what) ▸ q) ∙ ap (λ v. ref_shape (ref_view y) (token v ▸ q)) i,
+      (let v = a.1 in cc),
+      λ h. let g = a.2 h in let t = apart g.1 in (ap (λ v. si.Postfix v o) g.0 ∙ ap (si.Postfix y) (mark_is o k t.0 t.1), t.2),
+    )
 same_simple (si.Prefix o x) (si.Prefix k y) F G r s en em z =
     let i : t.Mark o.what ≡ t.Mark k.what = cc in
-    let a = same_reference x y F.1 G.1 r s (ends_plain r en) (ends_plain s em) (cc) in
-    (λ q. ap (λ v. token v ▸ ref_shape (ref_view x) q) i ∙ ap (λ v. token (t.Mark k.what) ▸ v) (a.0 q), a.1,
-      λ h. let t = apart h in let g = a.2 t.2 in (ap (λ v. si.Prefix v x) (mark_is o k t.0 t.1) ∙ ap (si.Prefix k) g.0, g.1))
+    let a = same_reference x y F.1 G.1 r s (ends_plain r en) (ends_plain s em) (cc) in (
+      λ q. ap (λ v. token v ▸ ref_shape (ref_view x) q) i ∙ ap (λ v. token (t.Mark k.what) ▸ v) (a.0 q),
+      a.1,
+      λ h. let t = apart h in let g = a.2 t.2 in (ap (λ v. si.Prefix v x) (mark_is o k t.0 t.1) ∙ ap (si.Prefix k) g.0, g.1),
+    )
 same_simple (si.Call x) (si.Call y) F G r s en em z =
     let a = same_full (16 * length (spell (call_view x) r) + 12) false (call_view x) (call_view y) r s (omega arith) F G en em z in
     (λ q. ap (λ v. v ▸ q) a.0, a.1, λ h. let g = a.2 h in (ap si.Call (call_view_is x y g.0), g.1))
@@ -169,16 +179,20 @@ same_for_first : (x y : Option ForFirst) → If FitsFirst x → If FitsFirst y �
 same_for_first None None F G a b r s e = (λ q. refl, cc, λ h. let t = apart h in (refl, t.1, t.2))
 same_for_first (Some (ff.Assign x p v)) (Some (ff.Assign y p' u)) F G a b r s e =
     let c = same_reference x y F.0 G.0 (t.Mark m.Assign at p ∷ expr v (t.Mark m.Semicolon at a ∷ r)) (t.Mark m.Assign at p' ∷ expr u (t.Mark m.Semicolon at b ∷ s)) (refl, refl, refl, refl) (refl, refl, refl, refl) e in
-    let d = same_expr v u F.1 G.1 (t.Mark m.Semicolon at a ∷ r) (t.Mark m.Semicolon at b ∷ s) ((refl, refl, refl, refl), refl) ((refl, refl, refl, refl), refl) (let z = c.1 in cc) in
-    (λ q. c.0 (token (t.Mark m.Assign) ▸ sh.expr v q) ∙ ap (λ z. ref_shape (ref_view y) (token (t.Mark m.Assign) ▸ z)) (d.0 q), (let z = d.1 in cc),
+    let d = same_expr v u F.1 G.1 (t.Mark m.Semicolon at a ∷ r) (t.Mark m.Semicolon at b ∷ s) ((refl, refl, refl, refl), refl) ((refl, refl, refl, refl), refl) (let z = c.1 in cc) in (
+      λ q. c.0 (token (t.Mark m.Assign) ▸ sh.expr v q) ∙ ap (λ z. ref_shape (ref_view y) (token (t.Mark m.Assign) ▸ z)) (d.0 q),
+      (let z = d.1 in cc),
       λ h. let g = c.2 h in let t = apart g.1 in let j = d.2 t.2 in let l = apart j.1 in
-      (ap Some (ap (λ z. ff.Assign z p v) g.0 ∙ ap (λ z. ff.Assign y z v) t.1 ∙ ap (ff.Assign y p') j.0), l.1, l.2))
+          (ap Some (ap (λ z. ff.Assign z p v) g.0 ∙ ap (λ z. ff.Assign y z v) t.1 ∙ ap (ff.Assign y p') j.0), l.1, l.2),
+    )
 same_for_first (Some (ff.Declare i n p v)) (Some (ff.Declare i' n' p' u)) F G a b r s e =
     let k : t.Name n.text ≡ t.Name n'.text = cc in
-    let d = same_expr v u F G (t.Mark m.Semicolon at a ∷ r) (t.Mark m.Semicolon at b ∷ s) ((refl, refl, refl, refl), refl) ((refl, refl, refl, refl), refl) (cc) in
-    (λ q. ap (λ z. token (t.Word w.Int) ▸ token z ▸ token (t.Mark m.Assign) ▸ sh.expr v q) k ∙ ap (λ z. token (t.Word w.Int) ▸ token (t.Name n'.text) ▸ token (t.Mark m.Assign) ▸ z) (d.0 q), (let z = d.1 in cc),
+    let d = same_expr v u F G (t.Mark m.Semicolon at a ∷ r) (t.Mark m.Semicolon at b ∷ s) ((refl, refl, refl, refl), refl) ((refl, refl, refl, refl), refl) (cc) in (
+      λ q. ap (λ z. token (t.Word w.Int) ▸ token z ▸ token (t.Mark m.Assign) ▸ sh.expr v q) k ∙ ap (λ z. token (t.Word w.Int) ▸ token (t.Name n'.text) ▸ token (t.Mark m.Assign) ▸ z) (d.0 q),
+      (let z = d.1 in cc),
       λ h. let t = apart h in let o = apart t.2 in let g = apart o.2 in let j = d.2 g.2 in let l = apart j.1 in
-      (ap Some (ap (λ z. ff.Declare z n p v) t.1 ∙ ap (λ z. ff.Declare i' z p v) (name_is n n' o.0 o.1) ∙ ap (λ z. ff.Declare i' n' z v) g.1 ∙ ap (ff.Declare i' n' p') j.0), l.1, l.2))
+          (ap Some (ap (λ z. ff.Declare z n p v) t.1 ∙ ap (λ z. ff.Declare i' z p v) (name_is n n' o.0 o.1) ∙ ap (λ z. ff.Declare i' n' z v) g.1 ∙ ap (ff.Declare i' n' p') j.0), l.1, l.2),
+    )
 same_for_first None (Some (ff.Assign y p' u)) F G a b r s e = cc
 same_for_first None (Some (ff.Declare i n p v)) F G a b r s e = cc
 same_for_first (Some (ff.Assign y p' u)) None F G a b r s e = cc

@@ -36,7 +36,7 @@ use Rattle.xmp_tree.specs.declared.statement.BlockItem.{BlockItem}
 use Rattle.xmp_tree.specs.declared.statement.Stmt as made_stmt
 use Rattle.xmp_tree.specs.declared.program.Parameters.{Parameters}
 use Rattle.xmp_tree.specs.declared.program.Function.{Function}
-use Rattle.xmp_tree.specs.Trees.{Expr, number, read, call, parens, unary, cast, chain, conditional, Ref, ref, Subscripts, no_more, subscript, Image, no_image, image, Arguments, no_arguments, arguments, Rest, end, comma, Links, last, link}
+use Rattle.xmp_tree.specs.Trees.{Expr, number, call, parens, unary, cast, conditional, ref, Subscripts, subscript, Image, image, Arguments, arguments, Rest, end, comma, Links, link}
 use Rattle.xmp_tree.specs.Spell.{◌at◌, type_word}
 
 -- from the same tokens, the same part and the same tokens behind it
