@@ -7,6 +7,9 @@ pub mod Statements
 pub mod Blocks
 pub mod Programs
 pub mod Shorter
+pub mod OneTokens
+pub mod Backward
+pub mod BackStatements
 pub mod OneExpr
 pub mod OneLine
 pub mod OneDirective

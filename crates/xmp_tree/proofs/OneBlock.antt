@@ -1,4 +1,4 @@
--- Blocks, and statements with statements inside, that fit and have the same kinds of tokens have one shape.
+-- Blocks, and statements with statements inside, that fit and have the same kinds of tokens have one shape; with the same tokens they are equal.
 use Rattle.std.proofs.Common.{◌≡◌, Bool, true, false, ◌&&◌, List, ◌∷◌, refl, sym, ap, ◌∙◌}
 use Rattle.std.specs.Prelude.{codes}
 use Rattle.xmp_base.specs.declared.place.Place.{Place}
@@ -28,11 +28,12 @@ use Rattle.xmp_tree.specs.Trees.{Stmt, BlockItems, Tasks}
 use Rattle.xmp_tree.specs.Spell.{◌at◌, expr, in_parens, spell_mapping, for_head, spell_plain, spell_stmt, spell_items, spell_tasks}
 use Rattle.xmp_tree.specs.Fits.{FitsExpr, FitsPlain, FitsStmt, FitsItems, FitsTasks, takes_else}
 use Rattle.xmp_tree.specs.Shape as sh
-use Rattle.xmp_tree.specs.Shape.{Shape, Shapes, token, group, done, ◌▸◌, shape, ref_shape, rest_shape, stmt_shape, items_shape, tasks_shape, Outline, kinds}
+use Rattle.xmp_tree.specs.Shape.{token, group, done, ◌▸◌, shape, stmt_shape, items_shape, tasks_shape, kinds}
 use Rattle.xmp_tree.proofs.Done.{Not}
 use Rattle.xmp_tree.proofs.Blocks.{Quiet, no_else_quiet, quiet_no_else, stmt_inner, mapping_inner, declaration_inner}
 use Rattle.xmp_tree.proofs.OneExpr.{no_first}
-use Rattle.xmp_tree.proofs.OneLine.{Alike, same_expr, same_declaration}
+use Rattle.xmp_tree.proofs.OneTokens.{Exact, apart, inside_is, line_is}
+use Rattle.xmp_tree.proofs.OneLine.{Alike, AlikeTo, same_expr, same_declaration}
 use Rattle.xmp_tree.proofs.OneDirective.{same_mapping}
 use Rattle.xmp_tree.specs.Spell.{type_words}
 use Rattle.xmp_tree.proofs.OneStmt.{same_loop, same_task_line, same_head, tail_of}
@@ -126,10 +127,13 @@ if_only P f g (tr.if_then q c x) h = f q c x
 if_only P f g (tr.if_else q c x z u) h = g q c x z u
 if_only P f g _ h = cc
 
-same_condition : (x y : Inside made.Expr) → FitsExpr x.item → FitsExpr y.item → (r s : List Token) → kinds (in_parens expr x r) ≡ kinds (in_parens expr y s) → Alike (sh.in_parens sh.expr) x y r s
+same_condition : (x y : Inside made.Expr) → FitsExpr x.item → FitsExpr y.item → (r s : List Token) → kinds (in_parens expr x r) ≡ kinds (in_parens expr y s) → Alike (in_parens expr) (sh.in_parens sh.expr) x y r s
 same_condition x y F G r s e =
-    let c = same_expr x.item y.item F G (t.Mark m.CloseParen at x.close ∷ r) (t.Mark m.CloseParen at y.close ∷ s) ((refl, refl, refl, refl), refl) ((refl, refl, refl, refl), refl) (cc) in
-    (λ q. ap (λ z. token (t.Mark m.OpenParen) ▸ z) (c.0 (token (t.Mark m.CloseParen) ▸ q)), (let z = c.1 in cc))
+    let c = same_expr x.item y.item F G (t.Mark m.CloseParen at x.close ∷ r) (t.Mark m.CloseParen at y.close ∷ s) ((refl, refl, refl, refl), refl) ((refl, refl, refl, refl), refl) (cc) in (
+      λ q. ap (λ z. token (t.Mark m.OpenParen) ▸ z) (c.0 (token (t.Mark m.CloseParen) ▸ q)),
+      (let z = c.1 in cc),
+      λ h. let t = apart h in let g = c.2 t.2 in let i = apart g.1 in (inside_is x y t.1 g.0 i.1, i.2),
+    )
 
 pub mapping_class : (x : Mapping) (r : List Token) → sort (class (kinds (spell_mapping x r))) ≡ p.mapping
 mapping_class (mp.Nodes l v ds) r = refl
@@ -203,50 +207,73 @@ tasks_no_else (tr.a_task l s xs) c r = refl
 quiet_word : (b : Bool) (q : Place) (r : List Token) → b ≡ false → Quiet b (t.Word w.Else at q ∷ r)
 quiet_word b q r h = ap (λ v. v && true) h
 
-two_plain : (x y : Plain) → FitsPlain x → FitsPlain y → (r s : List Token) → kinds (spell_plain x r) ≡ kinds (spell_plain y s) → (stmt_shape (tr.plain x) ≡ stmt_shape (tr.plain y)) × (kinds r ≡ kinds s)
-two_plain x y F G r s e = let c = same_plain x y F G r s e in (ap group (c.0 done), c.1)
+two_plain : (x y : Plain) → FitsPlain x → FitsPlain y → (r s : List Token) → kinds (spell_plain x r) ≡ kinds (spell_plain y s) → (stmt_shape (tr.plain x) ≡ stmt_shape (tr.plain y)) × (kinds r ≡ kinds s) × Exact spell_stmt (tr.plain x) (tr.plain y) r s
+two_plain x y F G r s e = let c = same_plain x y F G r s e in (ap group (c.0 done), c.1, λ h. let g = c.2 h in (ap tr.plain g.0, g.1))
 
 abbrev SameStmt : Stmt → List Token → List Token → Stmt → Type 0
-SameStmt x r s y = FitsStmt y → Quiet (takes_else y) s → kinds (spell_stmt x r) ≡ kinds (spell_stmt y s) → (stmt_shape x ≡ stmt_shape y) × (kinds r ≡ kinds s)
+SameStmt x r s y = FitsStmt y → Quiet (takes_else y) s → kinds (spell_stmt x r) ≡ kinds (spell_stmt y s) → (stmt_shape x ≡ stmt_shape y) × (kinds r ≡ kinds s) × Exact spell_stmt x y r s
 
 one_sort : (x y : Stmt) → FitsStmt x → FitsStmt y → (r s : List Token) → kinds (spell_stmt x r) ≡ kinds (spell_stmt y s) → stmt_sort y ≡ stmt_sort x
 one_sort x y F G r s e = sym (stmt_class y G s) ∙ ap (λ (ks : List TokenKind). sort (class ks)) (sym e) ∙ stmt_class x F r
 
 abbrev SameItems : BlockItems → Place → Place → List Token → List Token → BlockItems → Type 0
-SameItems x c b r s y = FitsItems y → kinds (spell_items x (t.Mark m.CloseBrace at c ∷ r)) ≡ kinds (spell_items y (t.Mark m.CloseBrace at b ∷ s)) → Alike items_shape x y r s
+SameItems x c b r s y = FitsItems y → kinds (spell_items x (t.Mark m.CloseBrace at c ∷ r)) ≡ kinds (spell_items y (t.Mark m.CloseBrace at b ∷ s)) → AlikeTo (t.Mark m.CloseBrace) spell_items items_shape x y c b r s
 
 one_items_sort : (x y : BlockItems) → FitsItems x → FitsItems y → (c b : Place) (r s : List Token) → kinds (spell_items x (t.Mark m.CloseBrace at c ∷ r)) ≡ kinds (spell_items y (t.Mark m.CloseBrace at b ∷ s)) → items_sort y ≡ items_sort x
 one_items_sort x y F G c b r s e = sym (items_class y G b s) ∙ ap (λ (ks : List TokenKind). outer (sort (class ks))) (sym e) ∙ items_class x F c r
 
 mutual
-  pub same_stmt : (x y : Stmt) → FitsStmt x → FitsStmt y → (r s : List Token) → Quiet (takes_else x) r → Quiet (takes_else y) s → kinds (spell_stmt x r) ≡ kinds (spell_stmt y s) → (stmt_shape x ≡ stmt_shape y) × (kinds r ≡ kinds s)
+  pub same_stmt : (x y : Stmt) → FitsStmt x → FitsStmt y → (r s : List Token) → Quiet (takes_else x) r → Quiet (takes_else y) s → kinds (spell_stmt x r) ≡ kinds (spell_stmt y s) → (stmt_shape x ≡ stmt_shape y) × (kinds r ≡ kinds s) × Exact spell_stmt x y r s
   same_stmt (tr.plain x) y F G r s a b e = plain_only (SameStmt (tr.plain x) r s) (λ y G b e. two_plain x y F G r s e) y (one_sort (tr.plain x) y F G r s e) G b e
   same_stmt (tr.block o xs c) y F G r s a b e = block_only (SameStmt (tr.block o xs c) r s) (λ o' ys c' G b e.
-      let v = same_items xs ys F G c c' r s (cc) in (ap group (ap (λ z. token (t.Mark m.OpenBrace) ▸ z) (v.0 (token (t.Mark m.CloseBrace) ▸ done))), v.1)) y (one_sort (tr.block o xs c) y F G r s e) G b e
+      let v = same_items xs ys F G c c' r s (cc) in (
+        ap group (ap (λ z. token (t.Mark m.OpenBrace) ▸ z) (v.0 (token (t.Mark m.CloseBrace) ▸ done))),
+        v.1,
+        λ h. let t = apart h in let g = v.2 t.2 in (ap (λ z. tr.block z xs c) t.1 ∙ ap (λ z. tr.block o' z c) g.0 ∙ ap (tr.block o' ys) g.1, g.2),
+      )) y (one_sort (tr.block o xs c) y F G r s e) G b e
   same_stmt (tr.while_do q c x) y F G r s a b e = while_only (SameStmt (tr.while_do q c x) r s) (λ q' d y G b e.
       let v = same_condition c d F.0 G.0 (spell_stmt x r) (spell_stmt y s) (cc) in
-      let i = same_stmt x y F.1 G.1 r s a b v.1 in
-      (ap group (ap (λ z. token (t.Word w.While) ▸ z) (v.0 (stmt_shape x ▸ done) ∙ ap (λ z. sh.in_parens sh.expr d (z ▸ done)) i.0)), i.1)) y (one_sort (tr.while_do q c x) y F G r s e) G b e
+      let i = same_stmt x y F.1 G.1 r s a b v.1 in (
+        ap group (ap (λ z. token (t.Word w.While) ▸ z) (v.0 (stmt_shape x ▸ done) ∙ ap (λ z. sh.in_parens sh.expr d (z ▸ done)) i.0)),
+        i.1,
+        λ h. let t = apart h in let g = v.2 t.2 in let j = i.2 g.1 in (ap (λ z. tr.while_do z c x) t.1 ∙ ap (λ z. tr.while_do q' z x) g.0 ∙ ap (tr.while_do q' d) j.0, j.1),
+      )) y (one_sort (tr.while_do q c x) y F G r s e) G b e
   same_stmt (tr.for_do h x) y F G r s a b e = for_only (SameStmt (tr.for_do h x) r s) (λ k y G b e.
       let v = same_head h k F.0 G.0 (spell_stmt x r) (spell_stmt y s) e in
-      let i = same_stmt x y F.1 G.1 r s a b v.1 in
-      (ap group (v.0 (stmt_shape x ▸ done) ∙ ap (λ z. sh.for_head k (z ▸ done)) i.0), i.1)) y (one_sort (tr.for_do h x) y F G r s e) G b e
+      let i = same_stmt x y F.1 G.1 r s a b v.1 in (
+        ap group (v.0 (stmt_shape x ▸ done) ∙ ap (λ z. sh.for_head k (z ▸ done)) i.0),
+        i.1,
+        λ h'. let g = v.2 h' in let j = i.2 g.1 in (ap (λ z. tr.for_do z x) g.0 ∙ ap (tr.for_do k) j.0, j.1),
+      )) y (one_sort (tr.for_do h x) y F G r s e) G b e
   same_stmt (tr.loop l h x) y F G r s a b e = loop_only (SameStmt (tr.loop l h x) r s) (λ l' k y G b e.
       let u = same_loop l l' F.0 G.0 (for_head h (spell_stmt x r)) (for_head k (spell_stmt y s)) e in
       let v = same_head h k F.1 G.1 (spell_stmt x r) (spell_stmt y s) u.1 in
-      let i = same_stmt x y F.2 G.2 r s a b v.1 in
-      (ap group (u.0 (sh.for_head h (stmt_shape x ▸ done)) ∙ ap (sh.loop_line l') (v.0 (stmt_shape x ▸ done) ∙ ap (λ z. sh.for_head k (z ▸ done)) i.0)), i.1)) y (one_sort (tr.loop l h x) y F G r s e) G b e
+      let i = same_stmt x y F.2 G.2 r s a b v.1 in (
+        ap group (u.0 (sh.for_head h (stmt_shape x ▸ done)) ∙ ap (sh.loop_line l') (v.0 (stmt_shape x ▸ done) ∙ ap (λ z. sh.for_head k (z ▸ done)) i.0)),
+        i.1,
+        λ h'. let f = u.2 h' in let g = v.2 f.1 in let j = i.2 g.1 in (ap (λ z. tr.loop z h x) f.0 ∙ ap (λ z. tr.loop l' z x) g.0 ∙ ap (tr.loop l' k) j.0, j.1),
+      )) y (one_sort (tr.loop l h x) y F G r s e) G b e
   same_stmt (tr.task l x) y F G r s a b e = task_only (SameStmt (tr.task l x) r s) (λ l' y G b e.
       let u = same_task_line l l' F.0 G.0 (spell_stmt x r) (spell_stmt y s) e in
-      let i = same_stmt x y F.1 G.1 r s a b u.1 in
-      (ap group (u.0 (stmt_shape x ▸ done) ∙ ap (λ z. sh.task_line l' (z ▸ done)) i.0), i.1)) y (one_sort (tr.task l x) y F G r s e) G b e
+      let i = same_stmt x y F.1 G.1 r s a b u.1 in (
+        ap group (u.0 (stmt_shape x ▸ done) ∙ ap (λ z. sh.task_line l' (z ▸ done)) i.0),
+        i.1,
+        λ h. let f = u.2 h in let j = i.2 f.1 in (ap (λ z. tr.task z x) f.0 ∙ ap (tr.task l') j.0, j.1),
+      )) y (one_sort (tr.task l x) y F G r s e) G b e
   same_stmt (tr.tasks l o xs c) y F G r s a b e = tasks_only (SameStmt (tr.tasks l o xs c) r s) (λ l' o' ys c' G b e.
-      let v = same_tasks xs ys F G c c' r s (cc) in
-      (ap group (ap (λ z. token t.Pragma ▸ token (t.Name (codes "tasks")) ▸ token t.Close ▸ token (t.Mark m.OpenBrace) ▸ z) (v.0 (token (t.Mark m.CloseBrace) ▸ done))), v.1)) y (one_sort (tr.tasks l o xs c) y F G r s e) G b e
+      let v = same_tasks xs ys F G c c' r s (cc) in (
+        ap group (ap (λ z. token t.Pragma ▸ token (t.Name (codes "tasks")) ▸ token t.Close ▸ token (t.Mark m.OpenBrace) ▸ z) (v.0 (token (t.Mark m.CloseBrace) ▸ done))),
+        v.1,
+        λ h. let t = apart h in let i = apart t.2 in let j = apart i.2 in let k = apart j.2 in let g = v.2 k.2 in
+            (ap (λ z. tr.tasks z o xs c) (line_is l l' t.1 i.1 j.1) ∙ ap (λ z. tr.tasks l' z xs c) k.1 ∙ ap (λ z. tr.tasks l' o' z c) g.0 ∙ ap (tr.tasks l' o' ys) g.1, g.2),
+      )) y (one_sort (tr.tasks l o xs c) y F G r s e) G b e
   same_stmt (tr.if_then q c x) y F G r s a b e = if_only (SameStmt (tr.if_then q c x) r s) (λ q' d y G b e.
       let v = same_condition c d F.0 G.0 (spell_stmt x r) (spell_stmt y s) (cc) in
-      let i = same_stmt x y F.1 G.1 r s (no_else_quiet (takes_else x) r (quiet_no_else r a)) (no_else_quiet (takes_else y) s (quiet_no_else s b)) v.1 in
-      (ap group (ap (λ z. token (t.Word w.If) ▸ z) (v.0 (stmt_shape x ▸ done) ∙ ap (λ z. sh.in_parens sh.expr d (z ▸ done)) i.0)), i.1))
+      let i = same_stmt x y F.1 G.1 r s (no_else_quiet (takes_else x) r (quiet_no_else r a)) (no_else_quiet (takes_else y) s (quiet_no_else s b)) v.1 in (
+        ap group (ap (λ z. token (t.Word w.If) ▸ z) (v.0 (stmt_shape x ▸ done) ∙ ap (λ z. sh.in_parens sh.expr d (z ▸ done)) i.0)),
+        i.1,
+        λ h. let t = apart h in let g = v.2 t.2 in let j = i.2 g.1 in (ap (λ z. tr.if_then z c x) t.1 ∙ ap (λ z. tr.if_then q' z x) g.0 ∙ ap (tr.if_then q' d) j.0, j.1),
+      ))
       (λ q' d y p' k G b e.
       let v = same_condition c d F.0 G.0 (spell_stmt x r) (spell_stmt y (t.Word w.Else at p' ∷ spell_stmt k s)) (cc) in
       let i = same_stmt x y F.1 G.1 r (t.Word w.Else at p' ∷ spell_stmt k s) (no_else_quiet (takes_else x) r (quiet_no_else r a)) (quiet_word (takes_else y) p' (spell_stmt k s) G.2) v.1 in
@@ -262,27 +289,40 @@ mutual
         ap group (ap (λ z. token (t.Word w.If) ▸ z) (v.0 (stmt_shape x ▸ token (t.Word w.Else) ▸ stmt_shape u ▸ done)
             ∙ ap (λ z. sh.in_parens sh.expr d (z ▸ token (t.Word w.Else) ▸ stmt_shape u ▸ done)) i.0 ∙ ap (λ z. sh.in_parens sh.expr d (stmt_shape y ▸ token (t.Word w.Else) ▸ z ▸ done)) j.0)),
         j.1,
+        λ h. let t = apart h in let g = v.2 t.2 in let f = i.2 g.1 in let n = apart f.1 in let l = j.2 n.2 in (
+          ap (λ z. tr.if_else z c x p u) t.1 ∙ ap (λ z. tr.if_else q' z x p u) g.0 ∙ ap (λ z. tr.if_else q' d z p u) f.0 ∙ ap (λ z. tr.if_else q' d y z u) n.1 ∙ ap (tr.if_else q' d y p') l.0,
+          l.1,
+        ),
       )) y (one_sort (tr.if_else q c x p u) y F G r s e) G b e
 
-  pub same_items : (x y : BlockItems) → FitsItems x → FitsItems y → (c b : Place) (r s : List Token) → kinds (spell_items x (t.Mark m.CloseBrace at c ∷ r)) ≡ kinds (spell_items y (t.Mark m.CloseBrace at b ∷ s)) → Alike items_shape x y r s
-  same_items tr.none y F G c b r s e = none_only (SameItems tr.none c b r s) (λ G e. (λ q. refl, tail_of e)) y (one_items_sort tr.none y F G c b r s e) G e
+  pub same_items : (x y : BlockItems) → FitsItems x → FitsItems y → (c b : Place) (r s : List Token) → kinds (spell_items x (t.Mark m.CloseBrace at c ∷ r)) ≡ kinds (spell_items y (t.Mark m.CloseBrace at b ∷ s)) → AlikeTo (t.Mark m.CloseBrace) spell_items items_shape x y c b r s
+  same_items tr.none y F G c b r s e = none_only (SameItems tr.none c b r s) (λ G e. (λ q. refl, tail_of e, λ h. let t = apart h in (refl, t.1, t.2))) y (one_items_sort tr.none y F G c b r s e) G e
   same_items (tr.mapping x xs) y F G c b r s e = mapping_only (SameItems (tr.mapping x xs) c b r s) (λ y ys G e.
       let a = same_mapping x y F.0 G.0 (spell_items xs (t.Mark m.CloseBrace at c ∷ r)) (spell_items ys (t.Mark m.CloseBrace at b ∷ s)) e in
-      let i = same_items xs ys F.1 G.1 c b r s a.1 in
-      (λ q. a.0 (items_shape xs q) ∙ ap (sh.mapping_shape y) (i.0 q), i.1)) y (one_items_sort (tr.mapping x xs) y F G c b r s e) G e
+      let i = same_items xs ys F.1 G.1 c b r s a.1 in (
+        λ q. a.0 (items_shape xs q) ∙ ap (sh.mapping_shape y) (i.0 q),
+        i.1,
+        λ h. let f = a.2 h in let g = i.2 f.1 in (ap (λ z. tr.mapping z xs) f.0 ∙ ap (tr.mapping y) g.0, g.1, g.2),
+      )) y (one_items_sort (tr.mapping x xs) y F G c b r s e) G e
   same_items (tr.declaration x xs) y F G c b r s e = declaration_only (SameItems (tr.declaration x xs) c b r s) (λ y ys G e.
       let a = same_declaration x y F.0 G.0 (spell_items xs (t.Mark m.CloseBrace at c ∷ r)) (spell_items ys (t.Mark m.CloseBrace at b ∷ s)) e in
-      let i = same_items xs ys F.1 G.1 c b r s a.1 in
-      (λ q. a.0 (items_shape xs q) ∙ ap (sh.declaration_shape y) (i.0 q), i.1)) y (one_items_sort (tr.declaration x xs) y F G c b r s e) G e
+      let i = same_items xs ys F.1 G.1 c b r s a.1 in (
+        λ q. a.0 (items_shape xs q) ∙ ap (sh.declaration_shape y) (i.0 q),
+        i.1,
+        λ h. let f = a.2 h in let g = i.2 f.1 in (ap (λ z. tr.declaration z xs) f.0 ∙ ap (tr.declaration y) g.0, g.1, g.2),
+      )) y (one_items_sort (tr.declaration x xs) y F G c b r s e) G e
   same_items (tr.statement x xs) y F G c b r s e = statement_only (SameItems (tr.statement x xs) c b r s) (λ y ys G e.
       let u : List Token = spell_items xs (t.Mark m.CloseBrace at c ∷ r) in
       let v : List Token = spell_items ys (t.Mark m.CloseBrace at b ∷ s) in
       let a = same_stmt x y F.0 G.0 u v (no_else_quiet (takes_else x) u (items_no_else xs F.1 c r)) (no_else_quiet (takes_else y) v (items_no_else ys G.1 b s)) e in
-      let i = same_items xs ys F.1 G.1 c b r s a.1 in
-      (λ q. ap (λ z. z ▸ items_shape xs q) a.0 ∙ ap (λ z. stmt_shape y ▸ z) (i.0 q), i.1)) y (one_items_sort (tr.statement x xs) y F G c b r s e) G e
+      let i = same_items xs ys F.1 G.1 c b r s a.1 in (
+        λ q. ap (λ z. z ▸ items_shape xs q) a.0 ∙ ap (λ z. stmt_shape y ▸ z) (i.0 q),
+        i.1,
+        λ h. let f = a.2 h in let g = i.2 f.1 in (ap (λ z. tr.statement z xs) f.0 ∙ ap (tr.statement y) g.0, g.1, g.2),
+      )) y (one_items_sort (tr.statement x xs) y F G c b r s e) G e
 
-  pub same_tasks : (x y : Tasks) → FitsTasks x → FitsTasks y → (c b : Place) (r s : List Token) → kinds (spell_tasks x (t.Mark m.CloseBrace at c ∷ r)) ≡ kinds (spell_tasks y (t.Mark m.CloseBrace at b ∷ s)) → Alike tasks_shape x y r s
-  same_tasks tr.no_task tr.no_task F G c b r s e = (λ q. refl, cc)
+  pub same_tasks : (x y : Tasks) → FitsTasks x → FitsTasks y → (c b : Place) (r s : List Token) → kinds (spell_tasks x (t.Mark m.CloseBrace at c ∷ r)) ≡ kinds (spell_tasks y (t.Mark m.CloseBrace at b ∷ s)) → AlikeTo (t.Mark m.CloseBrace) spell_tasks tasks_shape x y c b r s
+  same_tasks tr.no_task tr.no_task F G c b r s e = (λ q. refl, cc, λ h. let t = apart h in (refl, t.1, t.2))
   same_tasks tr.no_task (tr.a_task l y ys) F G c b r s e = cc
   same_tasks (tr.a_task l x xs) tr.no_task F G c b r s e = cc
   same_tasks (tr.a_task l x xs) (tr.a_task l' y ys) F G c b r s e =
@@ -290,5 +330,8 @@ mutual
       let v : List Token = spell_tasks ys (t.Mark m.CloseBrace at b ∷ s) in
       let a = same_task_line l l' F.0 G.0 (spell_stmt x u) (spell_stmt y v) e in
       let i = same_stmt x y F.1 G.1 u v (no_else_quiet (takes_else x) u (tasks_no_else xs c r)) (no_else_quiet (takes_else y) v (tasks_no_else ys b s)) a.1 in
-      let j = same_tasks xs ys F.2 G.2 c b r s i.1 in
-      (λ q. a.0 (stmt_shape x ▸ tasks_shape xs q) ∙ ap (sh.task_line l') (ap (λ z. z ▸ tasks_shape xs q) i.0 ∙ ap (λ z. stmt_shape y ▸ z) (j.0 q)), j.1)
+      let j = same_tasks xs ys F.2 G.2 c b r s i.1 in (
+        λ q. a.0 (stmt_shape x ▸ tasks_shape xs q) ∙ ap (sh.task_line l') (ap (λ z. z ▸ tasks_shape xs q) i.0 ∙ ap (λ z. stmt_shape y ▸ z) (j.0 q)),
+        j.1,
+        λ h. let f = a.2 h in let g = i.2 f.1 in let n = j.2 g.1 in (ap (λ z. tr.a_task z x xs) f.0 ∙ ap (λ z. tr.a_task l' z xs) g.0 ∙ ap (tr.a_task l' y) n.0, n.1, n.2),
+      )

@@ -1,4 +1,4 @@
--- Expressions that fit and have the same kinds of tokens have one shape.
+-- Expressions that fit and have the same kinds of tokens have one shape; with the same tokens they are equal.
 use Rattle.std.proofs.Common.{◌≡◌, ◌≤◌, ◌<◌, ℕ, zero, suc, ◌+◌, ◌*◌, Bool, true, false, ◌&&◌, nat_le, List, [], ◌∷◌, length, inl, inr, refl, sym, ap, ◌∙◌, subst, arith}
 use Rattle.std.proofs.lemmas.Bool.Decides.{nat_tests}
 use Rattle.xmp_base.specs.declared.place.Place.{Place}
@@ -8,6 +8,7 @@ use Rattle.xmp_lex.specs.declared.token.TokenKind.TheVariants as t
 use Rattle.xmp_lex.specs.declared.token.Mark.{Mark}
 use Rattle.xmp_lex.specs.declared.token.Mark.TheVariants as m
 use Rattle.xmp_tree.specs.Reading.{Test}
+use Rattle.xmp_tree.proofs.OneTokens.{Exact, apart, name_is, type_is, number_is, call_is, parens_is, unary_is, cast_is, conditional_is, ref_is, subscript_is, image_is, arguments_is, comma_is, link_is}
 use Rattle.xmp_tree.specs.Grammar.{is_mark, mark_binds, is_unary_mark}
 use Rattle.xmp_tree.specs.Trees.{Expr, number, read, call, parens, unary, cast, chain, conditional, Ref, ref, Subscripts, no_more, subscript, Image, no_image, image, Arguments, no_arguments, arguments, Rest, end, comma, Links, last, link}
 use Rattle.xmp_tree.specs.Spell.{◌at◌, spell, spell_ref, spell_subscripts, spell_image, spell_arguments, spell_rest, spell_links, type_word}
@@ -135,7 +136,7 @@ ends_rest (comma p e es) r en = ((refl, refl, refl, refl), refl)
 -- f bounds the tokens and the level
 mutual
   pub same : (f n : ℕ) (c : Bool) (x y : Expr) (r s : List Token) → 16 * length (spell x r) + n < f → Fits x → Fits y → level_of x ≤ n → level_of y ≤ n → n ≤ 10 → Ends n c r → Ends n c s
-      → kinds (spell x r) ≡ kinds (spell y s) → (shape x ≡ shape y) × (kinds r ≡ kinds s)
+      → kinds (spell x r) ≡ kinds (spell y s) → (shape x ≡ shape y) × (kinds r ≡ kinds s) × Exact spell x y r s
   same zero n c x y r s b F G h i k en em e = absurd (omega arith)
   same (suc f) zero c x y r s b F G h i k en em e = same_operand f c x y r s (omega arith) F G h i en em e
   same (suc f) (suc n) c x y r s b F G h i k en em e =
@@ -146,12 +147,12 @@ mutual
       let q = same f n c a.head d.head (spell_links a.links r) (spell_links d.links s) (omega arith) a.fits d.fits a.low d.low (omega arith)
       (ends_links n c a.links r a.all en) (ends_links n c d.links s d.all em) z in
       let w = same_links f n c a.links d.links r s (omega (arith, long a.head (spell_links a.links r))) a.all d.all (omega arith) en em q.1 in
-      (ap shape a.same ∙ join_shape a.head d.head a.links d.links q.0 w.0 ∙ ap shape (sym d.same), w.1)
+      (ap shape a.same ∙ join_shape a.head d.head a.links d.links q.0 w.0 ∙ ap shape (sym d.same), w.1, λ h. let g = q.2 (sym a.text ∙ h ∙ d.text) in let k = w.2 g.1 in (a.same ∙ ap (λ v. join v a.links) g.0 ∙ ap (join d.head) k.0 ∙ sym d.same, k.1))
 
   same_links : (f n : ℕ) (c : Bool) (x y : Links) (r s : List Token) → 16 * length (spell_links x r) + n < f → FitsLinks (suc n) x → FitsLinks (suc n) y → n ≤ 10 → Ends (suc n) c r → Ends (suc n) c s
-      → kinds (spell_links x r) ≡ kinds (spell_links y s) → (links_shape x ≡ links_shape y) × (kinds r ≡ kinds s)
+      → kinds (spell_links x r) ≡ kinds (spell_links y s) → (links_shape x ≡ links_shape y) × (kinds r ≡ kinds s) × Exact spell_links x y r s
   same_links zero n c x y r s b F G k en em e = absurd (omega arith)
-  same_links (suc f) n c last last r s b F G k en em e = (refl, e)
+  same_links (suc f) n c last last r s b F G k en em e = (refl, e, λ h. (refl, h))
   same_links (suc f) n c last (link op p x ls) r s b F G k en em e = absurd (no_link op n c r _ G.0 en e)
   same_links (suc f) n c (link op p x ls) last r s b F G k en em e = absurd (no_link op n c s _ F.0 em (sym e))
   same_links (suc f) n c (link op p x ls) (link op' p' y ms) r s b F G k en em e =
@@ -159,11 +160,11 @@ mutual
       let o : t.Mark op ≡ t.Mark op' = cc in
       let q = same f n c x y (spell_links ls r) (spell_links ms s) (omega arith) F.2 G.2 (omega (arith, F.1)) (omega (arith, G.1)) k (ends_links n c ls r F.3 en) (ends_links n c ms s G.3 em) z in
       let w = same_links f n c ls ms r s (omega (arith, long x (spell_links ls r))) F.3 G.3 k en em q.1 in
-      (ap (λ v. token v ▸ shape x ▸ links_shape ls) o ∙ ap (λ v. token (t.Mark op') ▸ v ▸ links_shape ls) q.0 ∙ ap (λ v. token (t.Mark op') ▸ shape y ▸ v) w.0, w.1)
+      (ap (λ v. token v ▸ shape x ▸ links_shape ls) o ∙ ap (λ v. token (t.Mark op') ▸ v ▸ links_shape ls) q.0 ∙ ap (λ v. token (t.Mark op') ▸ shape y ▸ v) w.0, w.1, λ h. let t = apart h in let g = q.2 t.2 in let j = w.2 g.1 in (link_is t.0 t.1 g.0 j.0, j.1))
 
   -- whole expressions
   pub same_full : (f : ℕ) (c : Bool) (x y : Expr) (r s : List Token) → 16 * length (spell x r) + 11 < f → Fits x → Fits y → EndsExpr c r → EndsExpr c s
-      → kinds (spell x r) ≡ kinds (spell y s) → (shape x ≡ shape y) × (kinds r ≡ kinds s)
+      → kinds (spell x r) ≡ kinds (spell y s) → (shape x ≡ shape y) × (kinds r ≡ kinds s) × Exact spell x y r s
   same_full zero c x y r s b F G en em e = absurd (omega arith)
   same_full (suc f) c (conditional x p y q z) (conditional x' p' y' q' z') r s b F G en em e =
       let u : List Token = t.Mark m.Colon at q ∷ spell z r in
@@ -181,6 +182,7 @@ mutual
             ∙ ap (λ k. shape x' ▸ token (t.Mark m.Question) ▸ k ▸ token (t.Mark m.Colon) ▸ shape z ▸ done) d.0
             ∙ ap (λ k. shape x' ▸ token (t.Mark m.Question) ▸ shape y' ▸ token (t.Mark m.Colon) ▸ k ▸ done) w.0),
         w.1,
+        λ h. let g = a.2 h in let t = apart g.1 in let i = d.2 t.2 in let o = apart i.1 in let j = w.2 o.2 in (conditional_is g.0 t.1 i.0 o.1 j.0, j.1),
       )
   same_full (suc f) c (conditional x p y q z) (chain e' ls) r s b F G en em e =
       let u : List Token = t.Mark m.Question at p ∷ spell y (t.Mark m.Colon at q ∷ spell z r) in
@@ -207,15 +209,15 @@ mutual
 
   -- operands
   same_operand : (f : ℕ) (c : Bool) (x y : Expr) (r s : List Token) → 16 * length (spell x r) + 0 < suc f → Fits x → Fits y → level_of x ≤ 0 → level_of y ≤ 0 → Ends 0 c r → Ends 0 c s
-      → kinds (spell x r) ≡ kinds (spell y s) → (shape x ≡ shape y) × (kinds r ≡ kinds s)
+      → kinds (spell x r) ≡ kinds (spell y s) → (shape x ≡ shape y) × (kinds r ≡ kinds s) × Exact spell x y r s
   same_operand zero c x y r s b F G h i en em e = absurd (omega (arith, long x r))
   same_operand (suc f) c (chain e' ls) y r s b F G h i en em e = absurd (omega (arith, F.0))
   same_operand (suc f) c x (chain e' ls) r s b F G h i en em e = absurd (omega (arith, G.0))
   same_operand (suc f) c (conditional x p y' q z) y r s b F G h i en em e = absurd (omega arith)
   same_operand (suc f) c x (conditional x' p y q z) r s b F G h i en em e = absurd (omega arith)
   same_operand (suc f) c (number p n ty) (number p' n' ty') r s b F G h i en em e =
-      let k : t.Number n ty ≡ t.Number n' ty' = cc in (ap (λ v. group (token v ▸ done)) k, cc)
-  same_operand (suc f) c (read x) (read y) r s b F G h i en em e = let w = same_ref f c x y r s b F G en em e in (ap group (w.0 done), w.1)
+      let k : t.Number n ty ≡ t.Number n' ty' = cc in (ap (λ v. group (token v ▸ done)) k, cc, λ h. let t = apart h in (number_is t.0 t.1, t.2))
+  same_operand (suc f) c (read x) (read y) r s b F G h i en em e = let w = same_ref f c x y r s b F G en em e in (ap group (w.0 done), w.1, λ h. let g = w.2 h in (ap read g.0, g.1))
   same_operand (suc f) c (read (ref n ds i)) (call v o xs z) r s b F G h j en em e =
       absurd (no_first (is_mark m.OpenParen) (t.Mark m.OpenParen) (spell_subscripts ds (spell_image i r)) (kinds (spell_arguments xs (t.Mark m.CloseParen at z ∷ s))) refl (ref_first ds i r (ends_paren 0 c r en)) (cc))
   same_operand (suc f) c (call v o xs z) (read (ref n ds i)) r s b F G h j en em e =
@@ -227,11 +229,12 @@ mutual
         ap group (ap (λ u. token u ▸ token (t.Mark m.OpenParen) ▸ arguments_shape xs (token (t.Mark m.CloseParen) ▸ done)) k
             ∙ ap (λ u. token (t.Name v'.text) ▸ token (t.Mark m.OpenParen) ▸ u) (w.0 (token (t.Mark m.CloseParen) ▸ done))),
         w.1,
+        λ h. let t = apart h in let j = apart t.2 in let g = w.2 j.2 in (call_is (name_is v v' t.0 t.1) j.1 g.0 g.1, g.2),
       )
   same_operand (suc f) c (parens o x z) (parens o' y z') r s b F G h i en em e =
       let a : kinds (spell x (t.Mark m.CloseParen at z ∷ r)) ≡ kinds (spell y (t.Mark m.CloseParen at z' ∷ s)) = cc in
       let w = same_full f false x y (t.Mark m.CloseParen at z ∷ r) (t.Mark m.CloseParen at z' ∷ s) (omega arith) F G ((refl, refl, refl, refl), refl) ((refl, refl, refl, refl), refl) a in
-      (ap (λ u. group (token (t.Mark m.OpenParen) ▸ u ▸ token (t.Mark m.CloseParen) ▸ done)) w.0, (let k = w.1 in cc))
+      (ap (λ u. group (token (t.Mark m.OpenParen) ▸ u ▸ token (t.Mark m.CloseParen) ▸ done)) w.0, (let k = w.1 in cc), λ h. let t = apart h in let g = w.2 t.2 in let j = apart g.1 in (parens_is t.1 g.0 j.1, j.2))
   same_operand (suc f) c (parens o x z) (cast o' ty p z' y) r s b F G h i en em e =
       let k : starts (t.Word (type_word ty)) ≡ true = first_kind x F (t.Mark m.CloseParen at z ∷ r) (t.Word (type_word ty)) (kinds (t.Mark m.CloseParen at z' ∷ spell y s)) (cc) in cc
   same_operand (suc f) c (cast o' ty p z' x) (parens o y z) r s b F G h i en em e =
@@ -243,12 +246,13 @@ mutual
         ap group (ap (λ u. token (t.Mark m.OpenParen) ▸ token u ▸ token (t.Mark m.CloseParen) ▸ shape x ▸ done) k
             ∙ ap (λ u. token (t.Mark m.OpenParen) ▸ token (t.Word (type_word ty')) ▸ token (t.Mark m.CloseParen) ▸ u ▸ done) w.0),
         w.1,
+        λ h. let t = apart h in let i = apart t.2 in let j = apart i.2 in let g = w.2 j.2 in (cast_is t.1 (type_is ty ty' i.0) i.1 j.1 g.0, g.1),
       )
   same_operand (suc f) c (unary op p x) (unary op' p' y) r s b F G h i en em e =
       let k : t.Mark op ≡ t.Mark op' = cc in
       let a : kinds (spell x r) ≡ kinds (spell y s) = cc in
       let w = same f 0 c x y r s (omega arith) F.2 G.2 F.1 G.1 (omega arith) en em a in
-      (ap group (ap (λ u. token u ▸ shape x ▸ done) k ∙ ap (λ u. token (t.Mark op') ▸ u ▸ done) w.0), w.1)
+      (ap group (ap (λ u. token u ▸ shape x ▸ done) k ∙ ap (λ u. token (t.Mark op') ▸ u ▸ done) w.0), w.1, λ h. let t = apart h in let g = w.2 t.2 in (unary_is t.0 t.1 g.0, g.1))
   same_operand (suc f) c (unary op p x) (parens o y z) r s b F G h i en em e = absurd (unary_no_paren op F.0 (cc))
   same_operand (suc f) c (unary op p x) (cast o ty q z y) r s b F G h i en em e = absurd (unary_no_paren op F.0 (cc))
   same_operand (suc f) c (parens o x z) (unary op p y) r s b F G h i en em e = absurd (unary_no_paren op G.0 (let k : t.Mark m.OpenParen ≡ t.Mark op = cc in sym k))
@@ -260,20 +264,23 @@ mutual
   same_operand (suc f) c x y r s b F G h i en em e = cc
 
   pub same_ref : (f : ℕ) (c : Bool) (x y : Ref) (r s : List Token) → 16 * length (spell_ref x r) + 0 < suc (suc f) → FitsRef x → FitsRef y → Ends 0 c r → Ends 0 c s
-      → kinds (spell_ref x r) ≡ kinds (spell_ref y s) → ((q : Shapes) → ref_shape x q ≡ ref_shape y q) × (kinds r ≡ kinds s)
+      → kinds (spell_ref x r) ≡ kinds (spell_ref y s) → ((q : Shapes) → ref_shape x q ≡ ref_shape y q) × (kinds r ≡ kinds s) × Exact spell_ref x y r s
   same_ref zero c x y r s b F G en em e = absurd (omega (arith, long_ref x r))
   same_ref (suc f) c (ref n ds i) (ref n' es j) r s b F G en em e =
       let k : t.Name n.text ≡ t.Name n'.text = cc in
       let a : kinds (spell_subscripts ds (spell_image i r)) ≡ kinds (spell_subscripts es (spell_image j s)) = cc in
       let l = long_subscripts ds (spell_image i r) in
       let u = same_subscripts f ds es (spell_image i r) (spell_image j s) (omega arith) F.0 G.0 (image_first i r (ends_bracket 0 c r en)) (image_first j s (ends_bracket 0 c s em)) a in
-      let w = same_image f c i j r s (omega (arith, l)) F.1 G.1 en em u.1 in
-      (λ q. ap (λ v. token v ▸ subscripts_shape ds (image_shape i q)) k ∙ ap (λ v. token (t.Name n'.text) ▸ v) (u.0 (image_shape i q) ∙ ap (subscripts_shape es) (w.0 q)), w.1)
+      let w = same_image f c i j r s (omega (arith, l)) F.1 G.1 en em u.1 in (
+        λ q. ap (λ v. token v ▸ subscripts_shape ds (image_shape i q)) k ∙ ap (λ v. token (t.Name n'.text) ▸ v) (u.0 (image_shape i q) ∙ ap (subscripts_shape es) (w.0 q)),
+        w.1,
+        λ h. let t = apart h in let g = u.2 t.2 in let o = w.2 g.1 in (ref_is (name_is n n' t.0 t.1) g.0 o.0, o.1),
+      )
 
   same_subscripts : (f : ℕ) (x y : Subscripts) (r s : List Token) → 16 * length (spell_subscripts x r) + 1 < f → FitsSubscripts x → FitsSubscripts y → Not (is_mark m.OpenBracket) r → Not (is_mark m.OpenBracket) s
-      → kinds (spell_subscripts x r) ≡ kinds (spell_subscripts y s) → ((q : Shapes) → subscripts_shape x q ≡ subscripts_shape y q) × (kinds r ≡ kinds s)
+      → kinds (spell_subscripts x r) ≡ kinds (spell_subscripts y s) → ((q : Shapes) → subscripts_shape x q ≡ subscripts_shape y q) × (kinds r ≡ kinds s) × Exact spell_subscripts x y r s
   same_subscripts zero x y r s b F G h i e = absurd (omega arith)
-  same_subscripts (suc f) no_more no_more r s b F G h i e = (λ q. refl, e)
+  same_subscripts (suc f) no_more no_more r s b F G h i e = (λ q. refl, e, λ h. (refl, h))
   same_subscripts (suc f) no_more (subscript o y z es) r s b F G h i e = absurd (no_first (is_mark m.OpenBracket) (t.Mark m.OpenBracket) r _ refl h e)
   same_subscripts (suc f) (subscript o x z ds) no_more r s b F G h i e = absurd (no_first (is_mark m.OpenBracket) (t.Mark m.OpenBracket) s _ refl i (sym e))
   same_subscripts (suc f) (subscript o x z ds) (subscript o' y z' es) r s b F G h i e =
@@ -286,24 +293,29 @@ mutual
         λ q. ap (λ v. token (t.Mark m.OpenBracket) ▸ v ▸ token (t.Mark m.CloseBracket) ▸ subscripts_shape ds q) w.0
             ∙ ap (λ v. token (t.Mark m.OpenBracket) ▸ shape y ▸ token (t.Mark m.CloseBracket) ▸ v) (k.0 q),
         k.1,
+        λ h. let t = apart h in let g = w.2 t.2 in let j = apart g.1 in let n = k.2 j.2 in (subscript_is t.1 g.0 j.1 n.0, n.1),
       )
 
   same_image : (f : ℕ) (c : Bool) (x y : Image) (r s : List Token) → 16 * length (spell_image x r) + 1 < f → FitsImage x → FitsImage y → Ends 0 c r → Ends 0 c s
-      → kinds (spell_image x r) ≡ kinds (spell_image y s) → ((q : Shapes) → image_shape x q ≡ image_shape y q) × (kinds r ≡ kinds s)
+      → kinds (spell_image x r) ≡ kinds (spell_image y s) → ((q : Shapes) → image_shape x q ≡ image_shape y q) × (kinds r ≡ kinds s) × Exact spell_image x y r s
   same_image zero c x y r s b F G en em e = absurd (omega arith)
-  same_image (suc f) c no_image no_image r s b F G en em e = (λ q. refl, e)
+  same_image (suc f) c no_image no_image r s b F G en em e = (λ q. refl, e, λ h. (refl, h))
   same_image (suc f) c no_image (image p o y z) r s b F G en em e = absurd (no_image_first c r _ en e)
   same_image (suc f) c (image p o x z) no_image r s b F G en em e = absurd (no_image_first c s _ em (sym e))
   same_image (suc f) c (image p o x z) (image p' o' y z') r s b F G en em e =
       let a : kinds (spell x (t.Mark m.CloseBracket at z ∷ r)) ≡ kinds (spell y (t.Mark m.CloseBracket at z' ∷ s)) = cc in
-      let w = same_full f false x y (t.Mark m.CloseBracket at z ∷ r) (t.Mark m.CloseBracket at z' ∷ s) (omega arith) F G ((refl, refl, refl, refl), refl) ((refl, refl, refl, refl), refl) a in
-      (λ q. ap (λ v. token (t.Mark m.Colon) ▸ token (t.Mark m.OpenBracket) ▸ v ▸ token (t.Mark m.CloseBracket) ▸ q) w.0, (let k = w.1 in cc))
+      let w = same_full f false x y (t.Mark m.CloseBracket at z ∷ r) (t.Mark m.CloseBracket at z' ∷ s) (omega arith) F G ((refl, refl, refl, refl), refl) ((refl, refl, refl, refl), refl) a in (
+        λ q. ap (λ v. token (t.Mark m.Colon) ▸ token (t.Mark m.OpenBracket) ▸ v ▸ token (t.Mark m.CloseBracket) ▸ q) w.0,
+        (let k = w.1 in cc),
+        λ h. let t = apart h in let i = apart t.2 in let g = w.2 i.2 in let j = apart g.1 in (image_is t.1 i.1 g.0 j.1, j.2),
+      )
 
   pub same_arguments : (f : ℕ) (x y : Arguments) (z z' : Place) (r s : List Token) → 16 * length (spell_arguments x (t.Mark m.CloseParen at z ∷ r)) + 12 < f → FitsArguments x → FitsArguments y
       → kinds (spell_arguments x (t.Mark m.CloseParen at z ∷ r)) ≡ kinds (spell_arguments y (t.Mark m.CloseParen at z' ∷ s))
       → ((q : Shapes) → arguments_shape x q ≡ arguments_shape y q) × (kinds r ≡ kinds s)
+      × (spell_arguments x (t.Mark m.CloseParen at z ∷ r) ≡ spell_arguments y (t.Mark m.CloseParen at z' ∷ s) → (x ≡ y) × (z ≡ z') × (r ≡ s))
   same_arguments zero x y z z' r s b F G e = absurd (omega arith)
-  same_arguments (suc f) no_arguments no_arguments z z' r s b F G e = (λ q. refl, cc)
+  same_arguments (suc f) no_arguments no_arguments z z' r s b F G e = (λ q. refl, cc, λ h. let t = apart h in (refl, t.1, t.2))
   same_arguments (suc f) no_arguments (arguments y es) z z' r s b F G e =
       let k : starts (t.Mark m.CloseParen) ≡ true = first_kind y G.0 (spell_rest es (t.Mark m.CloseParen at z' ∷ s)) (t.Mark m.CloseParen) (kinds r) (sym e) in cc
   same_arguments (suc f) (arguments x es) no_arguments z z' r s b F G e =
@@ -312,17 +324,23 @@ mutual
       let u : List Token = t.Mark m.CloseParen at z ∷ r in
       let v : List Token = t.Mark m.CloseParen at z' ∷ s in
       let w = same_full f false x y (spell_rest es u) (spell_rest fs v) (omega arith) F.0 G.0 (ends_rest es u ((refl, refl, refl, refl), refl)) (ends_rest fs v ((refl, refl, refl, refl), refl)) e in
-      let k = same_rest f es fs u v (omega (arith, long x (spell_rest es u))) F.1 G.1 ((refl, refl, refl, refl), refl) ((refl, refl, refl, refl), refl) refl refl w.1 in
-      (λ q. ap (λ v. v ▸ rest_shape es q) w.0 ∙ ap (λ v. shape y ▸ v) (k.0 q), (let j = k.1 in cc))
+      let k = same_rest f es fs u v (omega (arith, long x (spell_rest es u))) F.1 G.1 ((refl, refl, refl, refl), refl) ((refl, refl, refl, refl), refl) refl refl w.1 in (
+        λ q. ap (λ v. v ▸ rest_shape es q) w.0 ∙ ap (λ v. shape y ▸ v) (k.0 q),
+        (let j = k.1 in cc),
+        λ h. let g = w.2 h in let j = k.2 g.1 in let t = apart j.1 in (arguments_is g.0 j.0, t.1, t.2),
+      )
 
   pub same_rest : (f : ℕ) (x y : Rest) (r s : List Token) → 16 * length (spell_rest x r) + 1 < f → FitsRest x → FitsRest y → EndsExpr false r → EndsExpr false s → Not (is_mark m.Comma) r → Not (is_mark m.Comma) s
-      → kinds (spell_rest x r) ≡ kinds (spell_rest y s) → ((q : Shapes) → rest_shape x q ≡ rest_shape y q) × (kinds r ≡ kinds s)
+      → kinds (spell_rest x r) ≡ kinds (spell_rest y s) → ((q : Shapes) → rest_shape x q ≡ rest_shape y q) × (kinds r ≡ kinds s) × Exact spell_rest x y r s
   same_rest zero x y r s b F G en em h i e = absurd (omega arith)
-  same_rest (suc f) end end r s b F G en em h i e = (λ q. refl, e)
+  same_rest (suc f) end end r s b F G en em h i e = (λ q. refl, e, λ h. (refl, h))
   same_rest (suc f) end (comma p y es) r s b F G en em h i e = absurd (no_first (is_mark m.Comma) (t.Mark m.Comma) r _ refl h e)
   same_rest (suc f) (comma p x es) end r s b F G en em h i e = absurd (no_first (is_mark m.Comma) (t.Mark m.Comma) s _ refl i (sym e))
   same_rest (suc f) (comma p x es) (comma p' y fs) r s b F G en em h i e =
       let a : kinds (spell x (spell_rest es r)) ≡ kinds (spell y (spell_rest fs s)) = cc in
       let w = same_full f false x y (spell_rest es r) (spell_rest fs s) (omega arith) F.0 G.0 (ends_rest es r en) (ends_rest fs s em) a in
-      let k = same_rest f es fs r s (omega (arith, long x (spell_rest es r))) F.1 G.1 en em h i w.1 in
-      (λ q. ap (λ v. token (t.Mark m.Comma) ▸ v ▸ rest_shape es q) w.0 ∙ ap (λ v. token (t.Mark m.Comma) ▸ shape y ▸ v) (k.0 q), k.1)
+      let k = same_rest f es fs r s (omega (arith, long x (spell_rest es r))) F.1 G.1 en em h i w.1 in (
+        λ q. ap (λ v. token (t.Mark m.Comma) ▸ v ▸ rest_shape es q) w.0 ∙ ap (λ v. token (t.Mark m.Comma) ▸ shape y ▸ v) (k.0 q),
+        k.1,
+        λ h. let t = apart h in let g = w.2 t.2 in let j = k.2 g.1 in (comma_is t.1 g.0 j.0, j.1),
+      )

@@ -1,4 +1,4 @@
--- Statements with no statement inside that fit and have the same kinds of tokens have one shape.
+-- Statements with no statement inside that fit and have the same kinds of tokens have one shape; with the same tokens they are equal.
 use Rattle.std.proofs.Common.{◌≡◌, ◌+◌, ◌*◌, List, ◌∷◌, length, refl, sym, ap, ◌∙◌, arith}
 use Rattle.std.specs.Prelude.{codes}
 use Rattle.xmp_base.specs.declared.place.Place.{Place}
@@ -24,9 +24,11 @@ use Rattle.xmp_tree.specs.View.{ref_view, rest_view}
 use Rattle.xmp_tree.specs.Spell.{◌at◌, spell_rest, sections, spell_simple, spell_plain}
 use Rattle.xmp_tree.specs.Fits.{FitsSimple, FitsPlain}
 use Rattle.xmp_tree.specs.Shape as sh
-use Rattle.xmp_tree.specs.Shape.{Shape, Shapes, token, group, done, ◌▸◌, shape, ref_shape, rest_shape, stmt_shape, items_shape, tasks_shape, Outline, kinds}
+use Rattle.xmp_tree.specs.Shape.{Shapes, token, ◌▸◌, shape, rest_shape, kinds}
 use Rattle.xmp_tree.proofs.Statements.{step_statement}
 use Rattle.xmp_tree.proofs.OneExpr.{same_rest}
+use Rattle.xmp_tree.proofs.Backward.{rest_is}
+use Rattle.xmp_tree.proofs.OneTokens.{apart, format_is, inside_is, pair_is, four_is, line_is}
 use Rattle.xmp_tree.proofs.OneLine.{Alike, same_expr, same_names}
 use Rattle.xmp_tree.proofs.OneDirective.{same_sections, same_set, first_of, second_of}
 use Rattle.xmp_tree.specs.declared.parts.Format.{Format}
@@ -115,20 +117,23 @@ gmove_only P f _ h = cc
 
 -- Two of a part.
 abbrev SamePlain : Plain → List Token → List Token → Plain → Type 0
-SamePlain x r s y = FitsPlain y → kinds (spell_plain x r) ≡ kinds (spell_plain y s) → Alike sh.plain_shape x y r s
+SamePlain x r s y = FitsPlain y → kinds (spell_plain x r) ≡ kinds (spell_plain y s) → Alike spell_plain sh.plain_shape x y r s
 
 two_empty : (a : Place) → FitsPlain (pl.Empty a) → (r s : List Token) → (b : Place) → SamePlain (pl.Empty a) r s (pl.Empty b)
-two_empty a F r s b G e = (λ q. refl, cc)
+two_empty a F r s b G e = (λ q. refl, cc, λ h. let t = apart h in (ap pl.Empty t.1, t.2))
 
 two_simple : (x : Simple) (a : Place) → FitsPlain (pl.Simple x a) → (r s : List Token) → (y : Simple) (b : Place) → SamePlain (pl.Simple x a) r s (pl.Simple y b)
 two_simple x a F r s y b G e =
     let c = same_simple x y F G (t.Mark m.Semicolon at a ∷ r) (t.Mark m.Semicolon at b ∷ s) ((refl, refl, refl, refl), refl) ((refl, refl, refl, refl), refl) e in
-    (λ q. c.0 (token (t.Mark m.Semicolon) ▸ q), (let z = c.1 in cc))
+    (λ q. c.0 (token (t.Mark m.Semicolon) ▸ q), (let z = c.1 in cc), λ h. let g = c.2 h in let t = apart g.1 in (ap (λ z. pl.Simple z a) g.0 ∙ ap (pl.Simple y) t.1, t.2))
 
 two_return : (a : Place) (v : made.Expr) (b : Place) → FitsPlain (pl.Return a v b) → (r s : List Token) → (a' : Place) (u : made.Expr) (b' : Place) → SamePlain (pl.Return a v b) r s (pl.Return a' u b')
 two_return a v b F r s a' u b' G e =
-    let c = same_expr v u F G (t.Mark m.Semicolon at b ∷ r) (t.Mark m.Semicolon at b' ∷ s) ((refl, refl, refl, refl), refl) ((refl, refl, refl, refl), refl) (cc) in
-    (λ q. ap (λ z. token (t.Word w.Return) ▸ z) (c.0 (token (t.Mark m.Semicolon) ▸ q)), (let z = c.1 in cc))
+    let c = same_expr v u F G (t.Mark m.Semicolon at b ∷ r) (t.Mark m.Semicolon at b' ∷ s) ((refl, refl, refl, refl), refl) ((refl, refl, refl, refl), refl) (cc) in (
+      λ q. ap (λ z. token (t.Word w.Return) ▸ z) (c.0 (token (t.Mark m.Semicolon) ▸ q)),
+      (let z = c.1 in cc),
+      λ h. let t = apart h in let g = c.2 t.2 in let i = apart g.1 in (ap (λ z. pl.Return z v b) t.1 ∙ ap (λ z. pl.Return a' z b) g.0 ∙ ap (pl.Return a' u) i.1, i.2),
+    )
 
 two_print : (a : Place) (x : Inside (Format × List (after.Next made.Expr))) (b : Place) → FitsPlain (pl.Print a x b) → (r s : List Token) → (a' : Place) (y : Inside (Format × List (after.Next made.Expr))) (b' : Place) → SamePlain (pl.Print a x b) r s (pl.Print a' y b')
 two_print a x b F r s a' y b' G e =
@@ -139,6 +144,8 @@ two_print a x b F r s a' y b' G e =
       λ q. let end : Shapes = token (t.Mark m.CloseParen) ▸ token (t.Mark m.Semicolon) ▸ q in
           ap (λ z. token (t.Word w.Printf) ▸ token (t.Mark m.OpenParen) ▸ token z ▸ rest_shape (rest_view x.item.1) end) k ∙ ap (λ z. token (t.Word w.Printf) ▸ token (t.Mark m.OpenParen) ▸ token (t.Text y.item.0.text) ▸ z) (c.0 end),
       (let z = c.1 in cc),
+      λ h. let t = apart h in let o = apart t.2 in let i = apart o.2 in let g = c.2 i.2 in let j = apart g.1 in let l = apart j.2 in
+          (ap (λ z. pl.Print z x b) t.1 ∙ ap (λ z. pl.Print a' z b) (inside_is x y o.1 (pair_is x.item y.item (format_is x.item.0 y.item.0 i.0 i.1) (rest_is x.item.1 y.item.1 g.0)) j.1) ∙ ap (pl.Print a' y) l.1, l.2),
     )
 
 two_scan : (a : Place) (x : Inside (Format × Place × Place × Reference made.Expr)) (b : Place) → FitsPlain (pl.Scan a x b) → (r s : List Token) → (a' : Place) (y : Inside (Format × Place × Place × Reference made.Expr)) (b' : Place) → SamePlain (pl.Scan a x b) r s (pl.Scan a' y b')
@@ -149,20 +156,30 @@ two_scan a x b F r s a' y b' G e =
           ap (λ z. token (t.Word w.Scanf) ▸ token (t.Mark m.OpenParen) ▸ token z ▸ token (t.Mark m.Comma) ▸ token (t.Mark m.And) ▸ sh.ref_shape (ref_view x.item.3) end) k
           ∙ ap (λ z. token (t.Word w.Scanf) ▸ token (t.Mark m.OpenParen) ▸ token (t.Text y.item.0.text) ▸ token (t.Mark m.Comma) ▸ token (t.Mark m.And) ▸ z) (c.0 end),
       (let z = c.1 in cc),
+      λ h. let t = apart h in let o = apart t.2 in let i = apart o.2 in let j = apart i.2 in let k = apart j.2 in let g = c.2 k.2 in let l = apart g.1 in let n = apart l.2 in
+          (ap (λ z. pl.Scan z x b) t.1 ∙ ap (λ z. pl.Scan a' z b) (inside_is x y o.1 (four_is x.item y.item (format_is x.item.0 y.item.0 i.0 i.1) j.1 k.1 g.0) l.1) ∙ ap (pl.Scan a' y) n.1, n.2),
     )
 
 two_sync : (a : Place) (x : Inside (Place × Reference made.Expr)) (b : Place) → FitsPlain (pl.Sync a x b) → (r s : List Token) → (a' : Place) (y : Inside (Place × Reference made.Expr)) (b' : Place) → SamePlain (pl.Sync a x b) r s (pl.Sync a' y b')
 two_sync a x b F r s a' y b' G e =
-    let c = same_reference x.item.1 y.item.1 F G (t.Mark m.CloseParen at x.close ∷ t.Mark m.Semicolon at b ∷ r) (t.Mark m.CloseParen at y.close ∷ t.Mark m.Semicolon at b' ∷ s) (refl, refl, refl, refl) (refl, refl, refl, refl) (cc) in
-    (λ q. ap (λ z. token (t.Word w.SyncAll) ▸ token (t.Mark m.OpenParen) ▸ token (t.Mark m.And) ▸ z) (c.0 (token (t.Mark m.CloseParen) ▸ token (t.Mark m.Semicolon) ▸ q)), (let z = c.1 in cc))
+    let c = same_reference x.item.1 y.item.1 F G (t.Mark m.CloseParen at x.close ∷ t.Mark m.Semicolon at b ∷ r) (t.Mark m.CloseParen at y.close ∷ t.Mark m.Semicolon at b' ∷ s) (refl, refl, refl, refl) (refl, refl, refl, refl) (cc) in (
+      λ q. ap (λ z. token (t.Word w.SyncAll) ▸ token (t.Mark m.OpenParen) ▸ token (t.Mark m.And) ▸ z) (c.0 (token (t.Mark m.CloseParen) ▸ token (t.Mark m.Semicolon) ▸ q)),
+      (let z = c.1 in cc),
+      λ h. let t = apart h in let o = apart t.2 in let i = apart o.2 in let g = c.2 i.2 in let l = apart g.1 in let n = apart l.2 in
+          (ap (λ z. pl.Sync z x b) t.1 ∙ ap (λ z. pl.Sync a' z b) (inside_is x y o.1 (pair_is x.item y.item i.1 g.0) l.1) ∙ ap (pl.Sync a' y) n.1, n.2),
+    )
 
 two_reflect : (l : DirectiveLine) (ns : Inside (CommaList Name)) → FitsPlain (pl.Reflect l ns) → (r s : List Token) → (l' : DirectiveLine) (ms : Inside (CommaList Name)) → SamePlain (pl.Reflect l ns) r s (pl.Reflect l' ms)
 two_reflect l ns F r s l' ms G e =
-    let c = same_names ns.item ms.item (t.Mark m.CloseParen at ns.close ∷ t.Close at l.end ∷ r) (t.Mark m.CloseParen at ms.close ∷ t.Close at l'.end ∷ s) refl refl (cc) in
-    (λ q. ap (λ z. token t.Pragma ▸ token (t.Name (codes "reflect")) ▸ token (t.Mark m.OpenParen) ▸ z) (c.0 (token (t.Mark m.CloseParen) ▸ token t.Close ▸ q)), (let z = c.1 in cc))
+    let c = same_names ns.item ms.item (t.Mark m.CloseParen at ns.close ∷ t.Close at l.end ∷ r) (t.Mark m.CloseParen at ms.close ∷ t.Close at l'.end ∷ s) refl refl (cc) in (
+      λ q. ap (λ z. token t.Pragma ▸ token (t.Name (codes "reflect")) ▸ token (t.Mark m.OpenParen) ▸ z) (c.0 (token (t.Mark m.CloseParen) ▸ token t.Close ▸ q)),
+      (let z = c.1 in cc),
+      λ h. let t = apart h in let o = apart t.2 in let i = apart o.2 in let g = c.2 i.2 in let j = apart g.1 in let n = apart j.2 in
+          (ap (λ z. pl.Reflect z ns) (line_is l l' t.1 o.1 n.1) ∙ ap (pl.Reflect l') (inside_is ns ms i.1 g.0 j.1), n.2),
+    )
 
 two_barrier : (l : DirectiveLine) → FitsPlain (pl.Barrier l) → (r s : List Token) → (l' : DirectiveLine) → SamePlain (pl.Barrier l) r s (pl.Barrier l')
-two_barrier l F r s l' G e = (λ q. refl, cc)
+two_barrier l F r s l' G e = (λ q. refl, cc, λ h. let t = apart h in let o = apart t.2 in let n = apart o.2 in (ap pl.Barrier (line_is l l' t.1 o.1 n.1), n.2))
 
 two_bcast : (l : DirectiveLine) (ns : Inside (CommaList Name)) (a : Place) (x : Sections) → FitsPlain (pl.Bcast l ns a x) → (r s : List Token) → (l' : DirectiveLine) (ms : Inside (CommaList Name)) (b : Place) (y : Sections) → SamePlain (pl.Bcast l ns a x) r s (pl.Bcast l' ms b y)
 two_bcast l ns a x F r s l' ms b y G e =
@@ -173,6 +190,8 @@ two_bcast l ns a x F r s l' ms b y G e =
       λ q. ap (λ z. token t.Pragma ▸ token (t.Name (codes "bcast")) ▸ token (t.Mark m.OpenParen) ▸ z)
           (c.0 (token (t.Mark m.CloseParen) ▸ token (t.Name (codes "from")) ▸ sh.sections x (token t.Close ▸ q)) ∙ ap (λ z. sh.names ms.item (token (t.Mark m.CloseParen) ▸ token (t.Name (codes "from")) ▸ z)) (d.0 (token t.Close ▸ q))),
       (let z = d.1 in cc),
+      λ h. let t = apart h in let o = apart t.2 in let i = apart o.2 in let g = c.2 i.2 in let j = apart g.1 in let k = apart j.2 in let f = d.2 k.2 in let n = apart f.1 in
+          (ap (λ z. pl.Bcast z ns a x) (line_is l l' t.1 o.1 n.1) ∙ ap (λ z. pl.Bcast l' z a x) (inside_is ns ms i.1 g.0 j.1) ∙ ap (λ z. pl.Bcast l' ms z x) k.1 ∙ ap (pl.Bcast l' ms b) f.0, n.2),
     )
 
 two_gmove : (l : DirectiveLine) (a : Sections) (b : Place) (x : Sections) (z : Place) → FitsPlain (pl.Gmove l a b x z) → (r s : List Token) → (l' : DirectiveLine) (a' : Sections) (b' : Place) (x' : Sections) (z' : Place) → SamePlain (pl.Gmove l a b x z) r s (pl.Gmove l' a' b' x' z')
@@ -184,6 +203,8 @@ two_gmove l a b x z F r s l' a' b' x' z' G e =
       λ q. ap (λ j. token t.Pragma ▸ token (t.Name (codes "gmove")) ▸ token t.Close ▸ j)
           (c.0 (token (t.Mark m.Assign) ▸ sh.sections x (token (t.Mark m.Semicolon) ▸ q)) ∙ ap (λ j. sh.sections a' (token (t.Mark m.Assign) ▸ j)) (d.0 (token (t.Mark m.Semicolon) ▸ q))),
       (let j = d.1 in cc),
+      λ h. let t = apart h in let o = apart t.2 in let i = apart o.2 in let g = c.2 i.2 in let j = apart g.1 in let f = d.2 j.2 in let n = apart f.1 in
+          (ap (λ v. pl.Gmove v a b x z) (line_is l l' t.1 o.1 i.1) ∙ ap (λ v. pl.Gmove l' v b x z) g.0 ∙ ap (λ v. pl.Gmove l' a' v x z) j.1 ∙ ap (λ v. pl.Gmove l' a' b' v z) f.0 ∙ ap (pl.Gmove l' a' b' x') n.1, n.2),
     )
 
 of_part : (x : Plain) → FitsPlain x → (r s : List Token) → (y : Plain) → plain_part y ≡ plain_part x → SamePlain x r s y
@@ -201,5 +222,5 @@ of_part (pl.Gmove l a b x c) F r s y h = gmove_only (SamePlain (pl.Gmove l a b x
 one_part : (x y : Plain) → FitsPlain x → FitsPlain y → (r s : List Token) → kinds (spell_plain x r) ≡ kinds (spell_plain y s) → plain_part y ≡ plain_part x
 one_part x y F G r s e = sym (plain_class y G s) ∙ ap class (sym e) ∙ plain_class x F r
 
-pub same_plain : (x y : Plain) → FitsPlain x → FitsPlain y → (r s : List Token) → kinds (spell_plain x r) ≡ kinds (spell_plain y s) → Alike sh.plain_shape x y r s
+pub same_plain : (x y : Plain) → FitsPlain x → FitsPlain y → (r s : List Token) → kinds (spell_plain x r) ≡ kinds (spell_plain y s) → Alike spell_plain sh.plain_shape x y r s
 same_plain x y F G r s e = of_part x F r s y (one_part x y F G r s e) G e

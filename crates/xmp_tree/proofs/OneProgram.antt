@@ -1,4 +1,4 @@
--- Programs that fit and have the same kinds of tokens have one shape.
+-- Programs that fit and have the same kinds of tokens have one shape; with the same tokens they are equal.
 use Rattle.std.proofs.Common.{◌≡◌, true, false, List, [], ◌∷◌, refl, sym, ap, ◌∙◌}
 use Rattle.std.specs.Prelude.{⊤, Option, None, Some}
 use Rattle.xmp_base.specs.declared.place.Place.{Place}
@@ -18,8 +18,8 @@ use Rattle.xmp_tree.specs.Grammar.{is_mark}
 use Rattle.xmp_tree.specs.Spell.{◌at◌, each, name, optional, in_parens, spell_declaration}
 use Rattle.xmp_tree.specs.Fits.{Each, FitsDeclaration, FitsItems}
 use Rattle.xmp_tree.specs.Shape as sh
-use Rattle.xmp_tree.specs.Shape.{Shape, Shapes, token, group, done, ◌▸◌, shape, ref_shape, rest_shape, stmt_shape, items_shape, tasks_shape, Outline, kinds}
-use Rattle.xmp_tree.proofs.OneLine.{Alike, same_declaration}
+use Rattle.xmp_tree.specs.Shape.{token, done, ◌▸◌, shape, kinds}
+use Rattle.xmp_tree.proofs.OneLine.{Alike, AlikeTo, same_declaration}
 use Rattle.xmp_tree.proofs.OneDirective.{same_mapping, first_of}
 use Rattle.xmp_tree.specs.declared.parts.Next as after
 use Rattle.xmp_tree.specs.declared.declaration.Declarator.{Declarator}
@@ -33,12 +33,14 @@ use Rattle.xmp_tree.specs.declared.program.Tree.{Tree}
 use Rattle.xmp_tree.specs.View.{items_view}
 use Rattle.xmp_tree.specs.Spell.{next, list, type_words, declarator, parameter, parameters, body, function, top_item}
 use Rattle.xmp_tree.specs.Fits.{FitsTop, FitsTree}
+use Rattle.xmp_tree.proofs.BackStatements.{items_is}
 use Rattle.xmp_tree.proofs.OneLine.{same_list, same_type, declarators_first}
 use Rattle.xmp_tree.proofs.OneStmt.{tail_of}
 use Rattle.xmp_tree.specs.declared.statement.BlockItem.{BlockItem}
 use Rattle.xmp_tree.specs.declared.statement.Stmt as made_stmt
 use Rattle.xmp_tree.specs.Grammar.{is_type}
-use Rattle.xmp_tree.specs.Spell.{spelling}
+use Rattle.xmp_tree.specs.Spell.{spelling, tokens}
+use Rattle.xmp_tree.proofs.OneTokens.{apart, more_is, inside_is, pair_is, function_is}
 use Rattle.xmp_tree.proofs.OneLine.{same_name}
 use Rattle.xmp_tree.specs.Fits.{FitsDeclarator}
 use Rattle.xmp_tree.specs.Shape.{tree_shape}
@@ -47,11 +49,11 @@ use Rattle.xmp_tree.proofs.OnePlain.{class}
 use Rattle.xmp_tree.proofs.OneBlock.{sort, mapping_class, type_class, same_items}
 
 -- Functions.
-same_parameter : (x y : TypeWords × Name) → ⊤ → ⊤ → (r s : List Token) → ⊤ → ⊤ → kinds (parameter x r) ≡ kinds (parameter y s) → Alike sh.parameter x y r s
+same_parameter : (x y : TypeWords × Name) → ⊤ → ⊤ → (r s : List Token) → ⊤ → ⊤ → kinds (parameter x r) ≡ kinds (parameter y s) → Alike parameter sh.parameter x y r s
 same_parameter x y F G r s w v e =
     let a = same_type x.0 y.0 (name x.1 r) (name y.1 s) refl refl e in
     let b = same_name x.1 y.1 tt tt r s tt tt a.1 in
-    (λ q. a.0 (sh.name x.1 q) ∙ ap (sh.type_words y.0) (b.0 q), b.1)
+    (λ q. a.0 (sh.name x.1 q) ∙ ap (sh.type_words y.0) (b.0 q), b.1, λ h. let f = a.2 h in let g = b.2 f.1 in (pair_is x y f.0 g.0, g.1))
 
 all_named : (xs : List (after.Next (TypeWords × Name))) → Each (λ y. ⊤) xs
 all_named [] = tt
@@ -63,25 +65,25 @@ type_other (tw.Long q) r k ks h e = let z : t.Word w.Long ≡ k = cc in let v = 
 type_other (tw.LongInt q z) r k ks h e = let z : t.Word w.Long ≡ k = cc in let v = ap is_type z in cc
 
 same_parameters : (x y : Option Parameters) (a b : Place) (r s : List Token) → kinds (optional parameters x (t.Mark m.CloseParen at a ∷ r)) ≡ kinds (optional parameters y (t.Mark m.CloseParen at b ∷ s))
-    → Alike (sh.optional sh.parameters) x y r s
-same_parameters None None a b r s e = (λ q. refl, tail_of e)
+    → AlikeTo (t.Mark m.CloseParen) (optional parameters) (sh.optional sh.parameters) x y a b r s
+same_parameters None None a b r s e = (λ q. refl, tail_of e, λ h. let t = apart h in (refl, t.1, t.2))
 same_parameters None (Some (pr.Void v)) a b r s e = cc
 same_parameters (Some (pr.Void v)) None a b r s e = cc
-same_parameters (Some (pr.Void v)) (Some (pr.Void u)) a b r s e = (λ q. refl, tail_of (tail_of e))
+same_parameters (Some (pr.Void v)) (Some (pr.Void u)) a b r s e = (λ q. refl, tail_of (tail_of e), λ h. let t = apart h in let i = apart t.2 in (ap Some (ap pr.Void t.1), i.1, i.2))
 same_parameters None (Some (pr.Named y)) a b r s e = absurd (type_other y.first.0 _ (t.Mark m.CloseParen) (kinds r) refl (sym e))
 same_parameters (Some (pr.Named x)) None a b r s e = absurd (type_other x.first.0 _ (t.Mark m.CloseParen) (kinds s) refl e)
 same_parameters (Some (pr.Void v)) (Some (pr.Named y)) a b r s e = absurd (type_other y.first.0 _ (t.Word w.Void) (kinds (t.Mark m.CloseParen at a ∷ r)) refl (sym e))
 same_parameters (Some (pr.Named x)) (Some (pr.Void v)) a b r s e = absurd (type_other x.first.0 _ (t.Word w.Void) (kinds (t.Mark m.CloseParen at b ∷ s)) refl e)
 same_parameters (Some (pr.Named x)) (Some (pr.Named y)) a b r s e =
     let c = same_list parameter sh.parameter (λ y. ⊤) (λ y. ⊤) same_parameter (λ q us. tt) x y (tt, all_named x.more) (tt, all_named y.more) (t.Mark m.CloseParen at a ∷ r) (t.Mark m.CloseParen at b ∷ s) tt tt refl refl e in
-    (c.0, tail_of c.1)
+    (c.0, tail_of c.1, λ h. let g = c.2 h in let t = apart g.1 in (ap Some (ap pr.Named g.0), t.1, t.2))
 
-same_body : (x y : Inside (List (BlockItem made_stmt.Stmt))) → FitsItems (items_view x.item) → FitsItems (items_view y.item) → (r s : List Token) → kinds (body x r) ≡ kinds (body y s) → Alike sh.body x y r s
+same_body : (x y : Inside (List (BlockItem made_stmt.Stmt))) → FitsItems (items_view x.item) → FitsItems (items_view y.item) → (r s : List Token) → kinds (body x r) ≡ kinds (body y s) → Alike body sh.body x y r s
 same_body x y F G r s e =
     let a = same_items (items_view x.item) (items_view y.item) F G x.close y.close r s (tail_of e) in
-    (λ q. ap (λ z. token (t.Mark m.OpenBrace) ▸ z) (a.0 (token (t.Mark m.CloseBrace) ▸ q)), a.1)
+    (λ q. ap (λ z. token (t.Mark m.OpenBrace) ▸ z) (a.0 (token (t.Mark m.CloseBrace) ▸ q)), a.1, λ h. let t = apart h in let g = a.2 t.2 in (inside_is x y t.1 (items_is x.item y.item g.0) g.1, g.2))
 
-same_function : (x y : Function) → FitsItems (items_view x.body.item) → FitsItems (items_view y.body.item) → (r s : List Token) → kinds (function x r) ≡ kinds (function y s) → Alike sh.function x y r s
+same_function : (x y : Function) → FitsItems (items_view x.body.item) → FitsItems (items_view y.body.item) → (r s : List Token) → kinds (function x r) ≡ kinds (function y s) → Alike function sh.function x y r s
 same_function x y F G r s e =
     let r2 : List Token = body x.body r in
     let s2 : List Token = body y.body s in
@@ -96,6 +98,7 @@ same_function x y F G r s e =
           ∙ ap (λ z. sh.name y.name (token (t.Mark m.OpenParen) ▸ z)) (c.0 (token (t.Mark m.CloseParen) ▸ sh.body x.body q)
           ∙ ap (λ z. sh.optional sh.parameters y.parameters.item (token (t.Mark m.CloseParen) ▸ z)) (d.0 q))),
       d.1,
+      λ h. let f = a.2 h in let g = b.2 f.1 in let t = apart g.1 in let i = c.2 t.2 in let j = d.2 i.2 in (function_is x y f.0 g.0 (inside_is x.parameters y.parameters t.1 i.0 i.1) j.0, j.1),
     )
 
 -- The parts of a program, by their first token.
@@ -104,8 +107,8 @@ top_sort (top.Mapping x) = p.mapping
 top_sort (top.Declaration x) = p.declaration
 top_sort (top.Function x) = p.declaration
 
-apart : p.mapping ≡ p.declaration → ⊥
-apart h = cc
+unlike : p.mapping ≡ p.declaration → ⊥
+unlike h = cc
 
 not_ended : (x : TopItem) → top_sort x ≡ p.no_part → ⊥
 not_ended (top.Mapping x) h = cc
@@ -149,23 +152,23 @@ no_function x F y r s e =
     let c : is_mark m.OpenParen (third (kinds (list declarator x.items u))) ≡ true = ap (λ (ks : List TokenKind). is_mark m.OpenParen (third ks)) a.1 in
     let z : true ≡ false = sym c ∙ b in absurd (cc)
 
-same_top : (x y : TopItem) → FitsTop x → FitsTop y → top_sort x ≡ top_sort y → (r s : List Token) → kinds (top_item x r) ≡ kinds (top_item y s) → Alike sh.top_item x y r s
-same_top (top.Mapping x) (top.Mapping y) F G h r s e = same_mapping x y F G r s e
-same_top (top.Declaration x) (top.Declaration y) F G h r s e = same_declaration x y F G r s e
-same_top (top.Function x) (top.Function y) F G h r s e = same_function x y F G r s e
+same_top : (x y : TopItem) → FitsTop x → FitsTop y → top_sort x ≡ top_sort y → (r s : List Token) → kinds (top_item x r) ≡ kinds (top_item y s) → Alike top_item sh.top_item x y r s
+same_top (top.Mapping x) (top.Mapping y) F G h r s e = let a = same_mapping x y F G r s e in (a.0, a.1, λ h. let g = a.2 h in (ap top.Mapping g.0, g.1))
+same_top (top.Declaration x) (top.Declaration y) F G h r s e = let a = same_declaration x y F G r s e in (a.0, a.1, λ h. let g = a.2 h in (ap top.Declaration g.0, g.1))
+same_top (top.Function x) (top.Function y) F G h r s e = let a = same_function x y F G r s e in (a.0, a.1, λ h. let g = a.2 h in (ap top.Function g.0, g.1))
 same_top (top.Declaration x) (top.Function y) F G h r s e = absurd (no_function x F y r s e)
 same_top (top.Function x) (top.Declaration y) F G h r s e = absurd (no_function y G x s r (sym e))
-same_top (top.Mapping x) (top.Declaration y) F G h r s e = absurd (apart h)
-same_top (top.Mapping x) (top.Function y) F G h r s e = absurd (apart h)
-same_top (top.Declaration x) (top.Mapping y) F G h r s e = absurd (apart (sym h))
-same_top (top.Function x) (top.Mapping y) F G h r s e = absurd (apart (sym h))
+same_top (top.Mapping x) (top.Declaration y) F G h r s e = absurd (unlike h)
+same_top (top.Mapping x) (top.Function y) F G h r s e = absurd (unlike h)
+same_top (top.Declaration x) (top.Mapping y) F G h r s e = absurd (unlike (sym h))
+same_top (top.Function x) (top.Mapping y) F G h r s e = absurd (unlike (sym h))
 
 top_no_finish : (x : TopItem) (r : List Token) (ks : List TokenKind) → kinds (top_item x r) ≡ t.Finish ∷ ks → ⊥
 top_no_finish x r ks e = not_ended x (sym (top_class x r) ∙ ap (λ (l : List TokenKind). sort (class l)) e)
 
 pub same_tops : (xs ys : List TopItem) → Each FitsTop xs → Each FitsTop ys → (a b : Place) → kinds (each top_item xs (t.Finish at a ∷ [])) ≡ kinds (each top_item ys (t.Finish at b ∷ []))
-    → sh.each sh.top_item xs (token t.Finish ▸ done) ≡ sh.each sh.top_item ys (token t.Finish ▸ done)
-same_tops [] [] F G a b e = refl
+    → (sh.each sh.top_item xs (token t.Finish ▸ done) ≡ sh.each sh.top_item ys (token t.Finish ▸ done)) × (each top_item xs (t.Finish at a ∷ []) ≡ each top_item ys (t.Finish at b ∷ []) → (xs ≡ ys) × (a ≡ b))
+same_tops [] [] F G a b e = (refl, λ h. let t = apart h in (refl, t.1))
 same_tops [] (y ∷ ys) F G a b e = absurd (top_no_finish y _ [] (sym e))
 same_tops (x ∷ xs) [] F G a b e = absurd (top_no_finish x _ [] e)
 same_tops (x ∷ xs) (y ∷ ys) F G a b e =
@@ -174,8 +177,15 @@ same_tops (x ∷ xs) (y ∷ ys) F G a b e =
     let h = sym (top_class x r) ∙ ap (λ (l : List TokenKind). sort (class l)) e ∙ top_class y s in
     let c = same_top x y F.0 G.0 h r s e in
     let i = same_tops xs ys F.1 G.1 a b c.1 in
-    c.0 (sh.each sh.top_item xs (token t.Finish ▸ done)) ∙ ap (sh.top_item y) i
+    (c.0 (sh.each sh.top_item xs (token t.Finish ▸ done)) ∙ ap (sh.top_item y) i.0, λ h. let f = c.2 h in let g = i.1 f.1 in (more_is f.0 g.0, g.1))
 
 -- Two trees that fit and have one spelling are equal, places apart.
 pub same_tree : (x y : Tree) → FitsTree x → FitsTree y → spelling x ≡ spelling y → tree_shape x ≡ tree_shape y
-same_tree x y F G e = same_tops x.parts y.parts F.1 G.1 x.finish y.finish e
+same_tree x y F G e = (same_tops x.parts y.parts F.1 G.1 x.finish y.finish e).0
+
+-- Two trees that fit and have the same tokens are equal.
+pub same_tokens : (x y : Tree) → FitsTree x → FitsTree y → tokens x ≡ tokens y → x ≡ y
+same_tokens x y F G e =
+    let a = (same_tops x.parts y.parts F.1 G.1 x.finish y.finish (ap kinds e)).1 e in
+    let f : List TopItem → Tree = λ v. record { parts = v; finish = x.finish } in
+    let g : Place → Tree = λ v. record { parts = y.parts; finish = v } in ap f a.0 ∙ ap g a.1

@@ -5,7 +5,7 @@ ghost use Rattle.xmp_tree.specs.declared.program.Tree.{Tree};
 ghost use Rattle.xmp_tree.specs.Fits.{FitsTree};
 ghost use Rattle.xmp_tree.specs.Fronts.{IsFront};
 ghost use Rattle.xmp_tree.specs.Shape.{tree_shape};
-ghost use Rattle.xmp_tree.specs.Spell.{spelling};
+ghost use Rattle.xmp_tree.specs.Spell.{spelling, tokens};
 ghost use Rattle.xmp_tree.specs.Refused.{Begins, IsProgram, Stuck, TooDeep, start, program_rules};
 
 /// No tokens are both a program and refused.
@@ -24,9 +24,14 @@ pub fn one_stuck_token()
     ensures { (ts : List Token) (left other : ℕ) → Stuck start program_rules ts left → Stuck start program_rules ts other → left ≡ other }
 {}
 
-/// Two trees that fit and have one spelling are equal, places apart.
+/// Two trees that fit and have one spelling have one shape.
 pub fn one_tree()
     ensures { (x y : Tree) → FitsTree x → FitsTree y → spelling x ≡ spelling y → tree_shape x ≡ tree_shape y }
+{}
+
+/// Two trees that fit and have the same tokens are equal.
+pub fn same_tokens()
+    ensures { (x y : Tree) → FitsTree x → FitsTree y → tokens x ≡ tokens y → x ≡ y }
 {}
 
 /// What begins a program by the grammar is the front of the spelling of a tree that fits, and each such front begins one.

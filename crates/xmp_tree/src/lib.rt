@@ -26,7 +26,9 @@ pub use directive::{
     ReductionOperator, Section, Sections, TaskLine,
 };
 pub use expression::Expr;
-pub use laws::{begins_a_program, one_stuck_token, one_tree, program_or_refused, shorter_begins};
+pub use laws::{
+    begins_a_program, one_stuck_token, one_tree, program_or_refused, same_tokens, shorter_begins,
+};
 pub use parts::{
     Call, CommaList, Format, Image, Inside, Link, Name, Next, Placed, Reference, TypeWords,
 };

@@ -1,0 +1,23 @@
+use Rattle.std.proofs.Common.{rules, ◌≡◌, ℕ, true, false, sym, refl, ap, ◌∙◌}
+use Rattle.std.proofs.lemmas.Result.{err_from_is_err_and}
+use Rattle.xmp_parse.proofs.Opening.{seq, into, skip, first, second, again, no_more, first_not, second_not}
+use Rattle.xmp_parse.proofs.Listing.{split, whole, once_more, if_so, if_not, entered}
+use Rattle.xmp_parse.proofs.for_heads.assigned_index.Goals as goal
+
+pub returns-in_err-target-clause-goes : goal.returns-in_err-target-clause-goes
+returns-in_err-target-clause-goes c = λ s L K w.
+    let p = err_from_is_err_and c.from_residual.result c.from_residual.ensures.1 in
+    rw (p.1, p.2) (c.in_err-target.ensures.goes s _ _ w)
+
+pub returns-in_err-assign-clause-goes : goal.returns-in_err-assign-clause-goes
+returns-in_err-assign-clause-goes c = λ s L K w.
+    let p = err_from_is_err_and c.from_residual-in_err-assign.result c.from_residual-in_err-assign.ensures.1 in
+    rw (p.1, p.2) (c.in_err-assign.ensures.goes s _ _ (seq (c.in_ok-target.ensures.goes s _ _ w)))
+
+pub returns-in_err-value-clause-goes : goal.returns-in_err-value-clause-goes
+returns-in_err-value-clause-goes c = λ s L K w.
+    let p = err_from_is_err_and c.from_residual-in_err-value.result c.from_residual-in_err-value.ensures.1 in
+    rw (p.1, p.2) (c.in_err-value.ensures.goes s _ _ ((c.in_ok-assign.ensures.goes s _ _ (seq (c.in_ok-target.ensures.goes s _ _ w)))))
+
+pub returns-clause-goes : goal.returns-clause-goes
+returns-clause-goes c = λ s L K w. c.in_ok-value.ensures.goes s _ _ ((c.in_ok-assign.ensures.goes s _ _ (seq (c.in_ok-target.ensures.goes s _ _ w))))

@@ -1,0 +1,18 @@
+use Rattle.std.proofs.Common.{rules, ◌≡◌, ℕ, true, false, sym, refl, ap, ◌∙◌}
+use Rattle.std.proofs.lemmas.Result.{err_from_is_err_and}
+use Rattle.xmp_parse.proofs.Opening.{seq, into, skip, first, second, again, no_more, first_not, second_not}
+use Rattle.xmp_parse.proofs.Listing.{split, whole, once_more, if_so, if_not, entered}
+use Rattle.xmp_parse.proofs.for_heads.condition.Goals as goal
+
+pub returns-in_err-at-clause-goes : goal.returns-in_err-at-clause-goes
+returns-in_err-at-clause-goes c = λ s L held K w.
+    let p = err_from_is_err_and c.from_residual.result c.from_residual.ensures.1 in
+    rw (p.1, p.2) (c.in_err-at.ensures.goes s _ _ (seq (entered (seq w))))
+
+pub returns-in_err-condition-clause-goes : goal.returns-in_err-condition-clause-goes
+returns-in_err-condition-clause-goes c = λ s L held K w.
+    let p = err_from_is_err_and c.from_residual-in_err-condition.result c.from_residual-in_err-condition.ensures.1 in
+    rw (p.1, p.2) (c.in_err-condition.ensures.goes s _ _ (split (c.in_ok-at.ensures.goes s _ _ (seq (entered (seq w))))))
+
+pub returns-clause-goes : goal.returns-clause-goes
+returns-clause-goes c = λ s L held K w. c.in_ok-condition.ensures.goes s _ _ (split (c.in_ok-at.ensures.goes s _ _ (seq (entered (seq w)))))

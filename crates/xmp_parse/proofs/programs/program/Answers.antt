@@ -1,0 +1,18 @@
+use Rattle.std.proofs.Common.{rules, ◌≡◌, ℕ, true, false, sym, refl, ap, ◌∙◌}
+use Rattle.std.proofs.lemmas.Result.{err_from_is_err_and}
+use Rattle.xmp_parse.proofs.Opening.{seq, into, skip, first, second, again, no_more}
+use Rattle.xmp_parse.proofs.Listing.{split, whole, once_more, if_so, if_not, none_so_far, one_more}
+use Rattle.xmp_parse.proofs.programs.program.Goals as goal
+
+pub returns-in_err-parts-clause-goes : goal.returns-in_err-parts-clause-goes
+returns-in_err-parts-clause-goes c = λ s L K w.
+    let p = err_from_is_err_and c.from_residual.result c.from_residual.ensures.1 in
+    rw (p.1, p.2) (c.in_err-parts.ensures.goes s _ _ (w))
+
+pub returns-in_err-finish-clause-goes : goal.returns-in_err-finish-clause-goes
+returns-in_err-finish-clause-goes c = λ s L K w.
+    let p = err_from_is_err_and c.from_residual-in_err-finish.result c.from_residual-in_err-finish.ensures.1 in
+    rw (p.1, p.2) (c.in_err-finish.ensures.goes s _ _ (c.in_ok-parts.ensures.goes s _ _ w))
+
+pub returns-clause-goes : goal.returns-clause-goes
+returns-clause-goes c = λ s L K w. c.in_ok-finish.ensures.goes s _ _ (c.in_ok-parts.ensures.goes s _ _ w)

@@ -1,0 +1,84 @@
+-- Parts of programs, and what `parse` answers. Source: this project.
+use Rattle.std.specs.Prelude.{◌≡◌, ℕ, List, [], ◌∷◌, ◌++◌, Bool, true, false, length, Result, Ok, Err, ⊤, ◌⊎◌}
+use Rattle.xmp_base.specs.declared.place.Place.{Place}
+use Rattle.xmp_base.specs.declared.refusal.Refusal.{Refusal}
+use Rattle.xmp_base.specs.declared.refusal.Fault.{Fault}
+use Rattle.xmp_base.specs.declared.refusal.Fault.TheVariants as fault
+use Rattle.xmp_base.specs.declared.refusal.Phase.TheVariants as phase
+use Rattle.xmp_lex.specs.declared.token.Token.{Token}
+use Rattle.xmp_lex.specs.declared.token.Mark.TheVariants as m
+use Rattle.xmp_tree.specs.declared.program.TopItem.{TopItem}
+use Rattle.xmp_tree.specs.declared.program.TopItem.TheVariants as top
+use Rattle.xmp_tree.specs.Parts as p
+use Rattle.xmp_tree.specs.Reading.{Rule, State, tok, part, plain, many, choice, ◌·◌}
+use Rattle.xmp_tree.specs.Grammar.{is_mark, is_finish, name, comma, semicolon}
+use Rattle.xmp_tree.specs.Fits.{EndsInFunction}
+use Rattle.xmp_tree.specs.Refused.{Stuck, TooDeep, start, program_rules}
+use Rattle.xmp_parse.specs.declared.reader.Reader.{Reader}
+use Rattle.xmp_parse.specs.declared.reader.Stop.{Stop}
+use Rattle.xmp_parse.specs.Effects.{Ended}
+use Rattle.xmp_parse.specs.Going.{Comes, After, Refused, stands}
+
+-- A function or a declaration, and the parts behind it.
+abbrev pub definition_rule : Rule
+definition_rule = part p.type_words · name · choice (is_mark m.OpenParen)
+    (part p.function_rest · choice is_finish (tok plain is_finish) (part p.program))
+    (part p.declarator_rest · many (is_mark m.Comma) (comma · part p.declarator) · semicolon · part p.program)
+
+-- the part is a function
+abbrev pub is_function : TopItem → Bool
+is_function (top.Function x) = true
+is_function _ = false
+
+-- What may stand behind a part of a program: the end of the text behind a function alone.
+abbrev pub behind_part : Bool → Rule
+behind_part true = choice is_finish (tok plain is_finish) (part p.program)
+behind_part false = part p.program
+
+-- Where a reading stands behind a part of a program, or why not.
+abbrev pub AfterPart : State → List (ℕ × ℕ) → List Rule → Result (TopItem × Reader) Stop → Type 0
+AfterPart s L K (Ok x) = Comes s (stands L (behind_part (is_function x.0) ∷ K) x.1)
+AfterPart s L K (Err e) = Refused s e
+
+-- A part of a program is read, which this rule begins.
+abbrev pub ReadsPart : Rule → Reader → Result (TopItem × Reader) Stop → Type 0
+ReadsPart R r result = (s : State) (L : List (ℕ × ℕ)) (K : List Rule) → Comes s (stands L (R ∷ K) r) → AfterPart s L K result
+
+-- The parts of a program are read, up to the end of the text.
+abbrev pub ReadsParts : {A : Type 0} → Reader → Result (A × Reader) Stop → Type 0
+ReadsParts r result = (s : State) (L : List (ℕ × ℕ)) (K : List Rule) → Comes s (stands L (part p.program ∷ K) r) → After s L (tok plain is_finish ∷ K) result
+
+-- A program is read, and the end of the text.
+abbrev pub ReadsProgram : {A : Type 0} → Reader → Result (A × Reader) Stop → Type 0
+ReadsProgram r result = (s : State) (L : List (ℕ × ℕ)) (K : List Rule) → Comes s (stands L (part p.program ∷ K) r) → Ended s L K result
+
+-- The rest of a declaration is read, behind its first name and before another rule.
+abbrev pub Declares : {A : Type 0} → Reader → Result (A × Reader) Stop → Type 0
+Declares r result = (s : State) (L : List (ℕ × ℕ)) (N : Rule) (K : List Rule)
+    → Comes s (stands L ((part p.declarator_rest · many (is_mark m.Comma) (comma · part p.declarator) · semicolon · N) ∷ K) r) → After s L (N ∷ K) result
+
+-- where this is so, the last of the parts is a function
+abbrev pub LastIs : Bool → List TopItem → Type 0
+LastIs true xs = EndsInFunction xs
+LastIs false xs = ⊤
+
+-- The token from which so many are left stands at this place.
+pub record StandsAt (ts : List Token) (left : ℕ) (at' : Place) : Type 0 where
+  pub front : List Token
+  pub token : Token
+  pub after : List Token
+  pub whole : ts ≡ front ++ token ∷ after
+  pub count : left ≡ length (token ∷ after)
+  pub place : token.at ≡ at'
+
+-- A rule of the syntax is broken first at this token: 1 where the tokens up to it begin no program, 2 where it has a depth above 128.
+pub record Breaks (ts : List Token) (x : Refusal) : Type 0 where
+  pub phase : x.phase ≡ phase.Syntax
+  pub left : ℕ
+  pub place : StandsAt ts left x.at
+  pub rule : ((x.rule ≡ 1) × Stuck start program_rules ts left) ⊎ ((x.rule ≡ 2) × TooDeep start program_rules ts left)
+
+-- The fault is the first break of a rule, or want of memory.
+abbrev pub IsFault : List Token → Fault → Type 0
+IsFault ts (fault.Refused x) = Breaks ts x
+IsFault ts fault.NoMemory = ⊤
