@@ -547,15 +547,7 @@ fn depth_is_limited(rt: HostRuntime) -> Result<(), Fail> {
 #[test]
 fn depth_of_statements_is_limited(rt: HostRuntime) -> Result<(), Fail> {
     for (open, count, middle, close, expected) in NESTED_STATEMENTS {
-        let text = nested(
-            rt.alloc(),
-            "int main(){",
-            open,
-            count,
-            middle,
-            close,
-            "}",
-        )?;
+        let text = nested(rt.alloc(), "int main(){", open, count, middle, close, "}")?;
         assert_eq!(rt;
             broken(rt.alloc(), text.as_bytes()),
             expected,
