@@ -119,7 +119,7 @@ pub fn comes_to(alloc: Global, case: Case, comes: Comes) -> bool {
 }
 
 fn built_comes_to(mut builder: Builder, case: Case, comes: Comes) -> bool {
-    if !builder.build(case.before, case.words, case.after) {
+    if !builder.build(case) {
         return false;
     }
     builder.finish();
@@ -560,13 +560,23 @@ impl Builder {
         true
     }
 
-    fn add_two(&mut self, first: &[u8], second: &[u8]) -> bool {
-        self.add(first) && self.add(second)
+    /// Adds the words of pieces.
+    fn add_all(&mut self, pieces: [&[u8]; 3]) -> bool {
+        for piece in pieces {
+            if !self.add(piece) {
+                return false;
+            }
+        }
+        true
     }
 
     /// The declarations, and then the words of a case.
-    fn build(&mut self, before: &[u8], words: &[u8], after: &[u8]) -> bool {
-        self.declare_all() && self.add_two(before, words) && self.add(after)
+    fn build(&mut self, case: Case) -> bool {
+        if self.declare_all() {
+            self.add_all([case.before, case.words, case.after])
+        } else {
+            false
+        }
     }
 
     /// Main has the statements so far.
