@@ -4,7 +4,7 @@ use crate::program::serial_of_parts;
 use crate::words::{X, word};
 use sqlite_items::{Boxed, Items};
 use std::alloc::Global;
-use std::mem::replace;
+use std::mem::{drop, replace};
 use xmp_base::{Bytes, Place};
 use xmp_map::{Grid, NodeSet};
 use xmp_meaning::Outcome;
@@ -119,11 +119,9 @@ pub fn comes_to(alloc: Global, case: Case, comes: Comes) -> bool {
 }
 
 fn built_comes_to(mut builder: Builder, case: Case, comes: Comes) -> bool {
-    if !builder.build(case) {
-        return false;
-    }
-    builder.finish();
-    builder.comes_to(case.input, case.steps, comes)
+    let agrees = builder.runs_to(case, comes);
+    drop(builder);
+    agrees
 }
 
 fn compound(op: BinOp, at: Place) -> Option<Compound> {
@@ -582,6 +580,15 @@ impl Builder {
     /// Main has the statements so far.
     fn finish(&mut self) {
         self.program.body = self.take_statements();
+    }
+
+    /// Whether the program of a case comes to this.
+    fn runs_to(&mut self, case: Case, comes: Comes) -> bool {
+        if !self.build(case) {
+            return false;
+        }
+        self.finish();
+        self.comes_to(case.input, case.steps, comes)
     }
 
     /// Whether the program comes to this on this input.
