@@ -5,6 +5,8 @@ use crate::serial;
 use sqlite_items::Items;
 use std::alloc::Global;
 use std::mem::drop;
+use std::test::Fail;
+use xmp_base::{Bytes, NoMemory};
 use xmp_map::Grid;
 use xmp_num::TrapKind;
 use xmp_prog::{Kind, Prog, ProgParts, Stmt};
@@ -313,4 +315,40 @@ fn gmove_traps_at_the_name_of_a_side(rt: HostRuntime) {
     for (words, trap, column) in rows {
         assert!(&rt; moves(alloc, words, Comes::Traps(b"", trap, column)));
     }
+}
+
+fn push_many(text: &mut Bytes, many: u32, words: &[u8]) -> Result<(), NoMemory> {
+    for _ in 0..many {
+        text.push_all(words)?;
+    }
+    Ok(())
+}
+
+/// 32 functions: the first gives its argument, and each later one has so many loops round a call of the one before, and adds 1.
+fn push_deep(text: &mut Bytes, depth: u32) -> Result<(), NoMemory> {
+    text.push_all(b"x return int")?;
+    for _ in 0..31 {
+        push_many(text, depth, b" 0 1")?;
+        text.push_all(b" x , call s=")?;
+        push_many(text, depth, b" for-i")?;
+        text.push_all(b" s 1 + return int")?;
+    }
+    Ok(())
+}
+
+// as many calls and as many loops round each as the language lets through
+#[test]
+fn the_deepest_programs_run_on_the_default_stack(rt: HostRuntime) -> Result<(), Fail> {
+    let alloc = rt.alloc();
+    let mut functions = Bytes::new(alloc);
+    push_deep(&mut functions, 126)?;
+    let case = Case {
+        before: functions.as_slice(),
+        words: b"1 , call",
+        after: b", %d",
+        input: b"",
+        steps: 0,
+    };
+    assert!(&rt; comes_to(alloc, case, Comes::Ends(b"32")));
+    Ok(())
 }
