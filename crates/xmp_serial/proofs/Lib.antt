@@ -1,2 +1,15 @@
 pub mod FirstTrees
 pub mod FirstSteps
+pub mod Binds
+pub mod Ended
+pub mod Formats
+pub mod Images
+pub mod Inputs
+pub mod Knots
+pub mod Moved
+pub mod Ranges
+pub mod CellNumbers
+pub mod Steps
+pub mod Stores
+pub mod Whiles
+mod EmptyProgram

@@ -1,0 +1,30 @@
+use Rattle.std.proofs.Common.{◌≡◌, ℕ, List, Result, Ok, Err, ap, ◌∙◌, sym, subst, length}
+use Rattle.std.specs.Prelude.{IfOk}
+use Rattle.xmp_base.specs.declared.refusal.NoMemory.{NoMemory}
+use Rattle.xmp_prog.specs.declared.parts.ProgParts.{ProgParts}
+use Rattle.xmp_meaning.specs.declared.ends.Flow.{Flow}
+use Rattle.xmp_meaning.specs.declared.ends.Halt.{Halt}
+use Rattle.xmp_meaning.specs.declared.ends.Halt.TheVariants as halt
+use Rattle.xmp_meaning.specs.declared.outcome.Outcome.{Outcome}
+use Rattle.xmp_meaning.specs.Runs.{State, Step, Does}
+use Rattle.xmp_meaning.specs.Calls.{call_of, context_with}
+use Rattle.xmp_meaning.specs.Directives.{erased}
+use Rattle.xmp_meaning.specs.Programs.{beginning, outcome_of, program, serial}
+use Rattle.xmp_serial.specs.Outcomes.{IsOutcome}
+
+-- what a run that does a step comes to is what the step comes to
+same_outcome : (p : ProgParts) (step : Step (Unit {0}) Flow) (ended : Result Flow Halt) (s : State (Unit {0})) (o : Outcome)
+    → Does step ended s → IsOutcome p ended s o → o ≡ outcome_of p step
+same_outcome p step (Ok flow) s o d h = h ∙ ap (outcome_of p) (sym d)
+same_outcome p step (Err (halt.End e)) s o d h = h ∙ ap (outcome_of p) (sym d)
+same_outcome p step (Err halt.NoMemory) s o d h = absurd h
+
+pub is_serial : (p : ProgParts) (input : List ℕ) (steps functions : ℕ) (s new : State (Unit {0})) (ended : Result Flow Halt) (r : Result Outcome NoMemory)
+    → functions ≡ length p.functions → s ≡ beginning p steps tt
+    → Does (program erased (context_with p 0 input (call_of p 0 functions)) s) ended new
+    → IfOk r (λ o. IsOutcome p ended new o) → IfOk r (λ o. o ≡ serial p input steps)
+is_serial p input steps functions s new ended (Ok o) e b d h =
+    let P : ℕ → Type 0 = λ n. Does (program erased (context_with p 0 input (call_of p 0 n)) s) ended new in
+    let Q : State (Unit {0}) → Type 0 = λ x. Does (program erased (context_with p 0 input (call_of p 0 (length p.functions))) x) ended new in
+    same_outcome p (program erased (context_with p 0 input (call_of p 0 (length p.functions))) (beginning p steps tt)) ended new o (subst Q b (subst P e d)) h
+is_serial p input steps functions s new ended (Err x) e b d h = h

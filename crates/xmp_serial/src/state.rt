@@ -1,0 +1,134 @@
+// What a run reads and writes.
+ghost use Rattle.std.specs.Prelude.{◌≡◌, [], ◌++◌, ℤ, pos, replicate, unwrap_or, slice_get, slice_set, IfOk};
+ghost use Rattle.xmp_meaning.specs.Formats.{printed};
+ghost use Rattle.xmp_meaning.specs.Cells.{cell_in, with_cell};
+ghost use Rattle.xmp_meaning.specs.Runs.{Does, take_step, write};
+
+use crate::print::print;
+use crate::rows::{Rows, put};
+use sqlite_items::Items;
+use std::alloc::Global;
+use std::marker::Model;
+use xmp_base::{Bytes, NoMemory};
+use xmp_meaning::{End, Halt};
+
+/// The scalars by slot, the arrays by number, the output so far, how many bytes of the input are read, and how many steps
+/// are left. Contracts see it as a state of the meaning whose further part is empty.
+#[derive(Drop)]
+pub struct State {
+    scalars: Items<i64>,
+    arrays: Rows,
+    out: Bytes,
+    taken: usize,
+    steps: u64,
+}
+
+impl Model for State {
+    ghost use Rattle.xmp_meaning.specs.Runs.{State};
+
+    ghost Value = { State (Unit {0}) };
+
+    ghost view = { λ s. record { scalars = s.scalars; arrays = s.arrays; out = s.out; taken = s.taken; steps = s.steps; extra = tt } };
+}
+
+impl State {
+    /// A state with nothing printed or read.
+    pub fn new(scalars: Items<i64>, arrays: Rows, out: Bytes, steps: u64) -> State
+        ensures { result ≡ record { scalars = scalars; arrays = arrays; out = out; taken = 0; steps = steps; extra = tt } }
+    {
+        State {
+            scalars,
+            arrays,
+            out,
+            taken: 0,
+            steps,
+        }
+    }
+
+    /// A scalar, or 0 where there is none.
+    pub fn scalar(&self, slot: u32) -> i64
+        ensures { result ≡ unwrap_or (slice_get self.now.scalars slot) (pos 0) }
+    {
+        match self.scalars.get(slot as usize) {
+            Some(value) => *value,
+            None => 0,
+        }
+    }
+
+    /// Writes a scalar, where there is one.
+    pub fn set_scalar(&mut self, slot: u32, value: i64)
+        ensures { self.new ≡ record self.old { scalars = slice_set self.old.scalars slot value } }
+    {
+        put(&mut self.scalars, slot as usize, value);
+    }
+
+    /// A cell of an array, or 0 where there is none.
+    pub fn cell(&self, array: u32, at: usize) -> i64
+        ensures { result ≡ cell_in self.now.arrays array at }
+    {
+        self.arrays.cell(array as usize, at)
+    }
+
+    /// Writes a cell of an array, where there is one.
+    pub fn set_cell(&mut self, array: u32, at: usize, value: i64)
+        ensures { self.new ≡ record self.old { arrays = with_cell self.old.arrays array at value } }
+    {
+        self.arrays.set_cell(array as usize, at, value);
+    }
+
+    /// Appends what `printf` writes for a format and values.
+    pub fn print(&mut self, alloc: Global, format: &[u8], values: &[i64]) -> Result<(), Halt>
+        ensures { Does (write (printed format.now values.now) self.old) result self.new }
+    {
+        match print(alloc, &mut self.out, format, values) {
+            Ok(()) => Ok(()),
+            Err(NoMemory) => Err(Halt::NoMemory),
+        }
+    }
+
+    /// How many bytes of the input are read.
+    pub fn taken(&self) -> usize
+        ensures { result ≡ self.now.taken }
+    {
+        self.taken
+    }
+
+    /// Sets how many bytes of the input are read.
+    pub fn set_taken(&mut self, taken: usize)
+        ensures { self.new ≡ record self.old { taken = taken } }
+    {
+        self.taken = taken;
+    }
+
+    /// How many steps are left.
+    pub fn steps(&self) -> u64
+        ensures { result ≡ self.now.steps }
+    {
+        self.steps
+    }
+
+    /// Sets how many steps are left.
+    pub fn set_steps(&mut self, steps: u64)
+        ensures { self.new ≡ record self.old { steps = steps } }
+    {
+        self.steps = steps;
+    }
+
+    /// Takes one step, where one is left.
+    pub fn take_step(&mut self) -> Result<(), Halt>
+        ensures { Does (take_step self.old) result self.new }
+    {
+        if self.steps == 0 {
+            return Err(Halt::End(End::OutOfSteps));
+        }
+        self.steps -= 1;
+        Ok(())
+    }
+
+    /// The output and the arrays.
+    pub fn into_parts(self) -> (Bytes, Rows)
+        ensures { (result.0 ≡ self.out) × (result.1 ≡ self.arrays) }
+    {
+        (self.out, self.arrays)
+    }
+}
