@@ -50,6 +50,7 @@ impl<C: Callee> Frame<'_, C> {
     }
 
     /// An assignment to a location: the old value, and then the right side.
+    #[inline(always)]
     fn assign_at(
         &self,
         location: Location,

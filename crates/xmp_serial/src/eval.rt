@@ -29,6 +29,7 @@ pub struct Frame<'a, C> {
 impl<C: Callee> Frame<'_, C> {
     /// The value of an expression.
     #[cycle(eval)]
+    #[inline(always)]
     pub fn eval(&self, e: &Expr, state: &mut State) -> Result<i64, Halt>
         requires { C.ready self.now.callee.now }
         ensures { Does (expr_of (context_with self.now.program.now self.now.node self.now.input.now (C.calls self.now.callee.now)) e.now state.old) result state.new }
