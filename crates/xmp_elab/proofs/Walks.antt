@@ -26,3 +26,12 @@ one_step p f a made w next e m = ap (λ s. and_then s (λ x. pure (f x))) e ∙ 
 -- A step of a walk that ends as another one does.
 pub same_walk : {A E : Type 0} (run other : Step A) (result : Result A E) (new : World) → run ≡ other → Does other result new → Does run result new
 same_walk run other result new e d = rw e d
+
+-- Three steps one after the other, and what is made of what they gave.
+pub three_steps : {A B C D : Type 0} (p : Run A) (q : A → Run B) (r : A → Run C) (f : A → B → C → D) (a : A) (b : B) (c : C) (made : D) (w next after last : World) →
+    p w ≡ Gave a next → q a next ≡ Gave b after → r a after ≡ Gave c last → made ≡ f a b c →
+    and_then (p w) (λ x. q x >>= (λ y. r x >>= (λ z. pure (f x y z)))) ≡ Gave made last
+three_steps p q r f a b c made w next after last e d g m =
+    ap (λ s. and_then s (λ x. q x >>= (λ y. r x >>= (λ z. pure (f x y z))))) e
+    ∙ (ap (λ s. and_then s (λ y. r a >>= (λ z. pure (f a y z)))) d
+    ∙ (ap (λ s. and_then s (λ z. pure (f a b z))) g ∙ ap (λ z. Gave z last) (sym m)))

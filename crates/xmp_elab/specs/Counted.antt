@@ -6,7 +6,7 @@ use Rattle.xmp_num.specs.declared.types.Ty.TheVariants.{Int, Long}
 use Rattle.xmp_num.specs.declared.types.BinOp.TheVariants as op
 use Rattle.xmp_prog.specs.declared.expressions.Expr.{Expr, out-Expr}
 use Rattle.xmp_prog.specs.declared.expressions.Expr.TheOpen.{Expr-F, Access-F}
-use Rattle.xmp_prog.specs.declared.expressions.Expr.TheFolds.{fold-Expr}
+use Rattle.xmp_prog.specs.declared.expressions.Expr.TheFolds.{fold-Expr, fold-Access}
 use Rattle.xmp_prog.specs.declared.expressions.Access.{Access}
 use Rattle.xmp_prog.specs.declared.statements.Target.{Target}
 use Rattle.xmp_prog.specs.declared.statements.Target.TheVariants as target
@@ -16,7 +16,8 @@ use Rattle.xmp_prog.specs.declared.statements.Plain.{Plain}
 use Rattle.xmp_prog.specs.declared.statements.Plain.TheVariants as plain
 use Rattle.xmp_prog.specs.declared.statements.Stmt.{Stmt}
 use Rattle.xmp_prog.specs.declared.statements.Stmt.TheOpen.{Stmt-F, Task-F}
-use Rattle.xmp_prog.specs.declared.statements.Stmt.TheFolds.{fold-Stmt}
+use Rattle.xmp_prog.specs.declared.statements.Stmt.TheFolds.{fold-Stmt, fold-Task}
+use Rattle.xmp_prog.specs.declared.statements.Task.{Task}
 use Rattle.xmp_prog.specs.Counted.{most_counted, is_bound_operator, is_small_constant}
 
 abbrev pub any : List Bool → Bool
@@ -76,8 +77,18 @@ module _ (is : ℕ → Bool) where
 abbrev pub reads : Expr → ℕ → Bool
 reads e slot = fold-Expr Bool Bool (reads_step (λ n. n == slot)) (reads_access (λ n. n == slot)) e
 
+abbrev pub access_reads : Access → ℕ → Bool
+access_reads a slot = fold-Access Bool Bool (reads_step (λ n. n == slot)) (reads_access (λ n. n == slot)) a
+
 abbrev pub writes_any : (ℕ → Bool) → Stmt → Bool
 writes_any is = fold-Stmt Bool Bool (writes_step is) (task_writes is)
+
+abbrev pub task_writes_any : (ℕ → Bool) → Task → Bool
+task_writes_any is = fold-Task Bool Bool (writes_step is) (task_writes is)
+
+-- Whether a statement writes the index of a loop or a scalar of its bound.
+abbrev pub is_kept : ℕ → Expr → ℕ → Bool
+is_kept i to slot = (slot == i) || reads to slot
 
 -- Whether an expression is built of int constants and scalars by `+`, `-` and `*`.
 abbrev pub is_int : Ty → Bool
@@ -116,5 +127,5 @@ added_to i (target.Cell a) value = None
 -- the last part is `i++` or `++i` and the bound excluded, or the bound is a small constant.
 abbrev pub is_counted : ℕ → Expr → Bool → Bool → Stmt → Bool
 is_counted i to inclusive by_one body =
-    is_bound to && (not (reads to i) && (not (writes_any (λ slot. (slot == i) || reads to slot) body)
+    is_bound to && (not (reads to i) && (not (writes_any (is_kept i to) body)
     && ((by_one && not inclusive) || is_small_constant to)))

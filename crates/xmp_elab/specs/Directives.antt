@@ -52,6 +52,7 @@ use Rattle.xmp_elab.specs.declared.names.Meaning.TheVariants.{Scalar, Array}
 use Rattle.xmp_elab.specs.declared.names.Array as array
 use Rattle.xmp_elab.specs.declared.mappings.NodesLine.{NodesLine}
 use Rattle.xmp_elab.specs.declared.mappings.TemplateLine.{TemplateLine}
+use Rattle.xmp_elab.specs.declared.loop_lines.LoopParts.{LoopParts}
 use Rattle.xmp_elab.specs.declared.rules.Rule.TheVariants.{N1, N3, M7, M8, M9}
 use Rattle.xmp_elab.specs.declared.world.World.{World}
 use Rattle.xmp_elab.specs.Expressions.{is_nothing}
@@ -111,7 +112,7 @@ point_of (point.Index n offset) = do
 
 abbrev pub made_of_point : Option (ℕ × ℤ) → made_point.Point
 made_of_point None = mp.Any
-made_of_point (Some x) = mp.Index x.0 x.1
+made_of_point (Some x) = mp.Index x.0 (limited x.1)
 
 abbrev pub slot_of_point : Option (ℕ × ℤ) → List ℕ
 slot_of_point None = []
@@ -183,13 +184,21 @@ Nest = List LoopHead × made.Stmt
 abbrev pub with_head : LoopHead → Nest → Nest
 with_head h nest = (h ∷ nest.0, nest.1)
 
-abbrev pub nest_in : (made.Stmt → Nest) → made.Stmt → Stmt-M.Stmt-F made.Stmt Task → Nest
-nest_in rest s (Stmt-M.Stmt-F.Counted h body) = with_head h (rest body)
-nest_in rest s _ = ([], s)
+-- The counted loop that a statement is, in braces or not.
+abbrev pub counted_in : Stmt-M.Stmt-F made.Stmt Task → Option (LoopHead × made.Stmt)
+counted_in (Stmt-M.Stmt-F.Counted h body) = Some (h, body)
+counted_in _ = None
+
+abbrev pub head_of : made.Stmt → Option (LoopHead × made.Stmt)
+head_of s = counted_in (made.out-Stmt (unbraced s))
+
+abbrev pub nest_in : (made.Stmt → Nest) → made.Stmt → Option (LoopHead × made.Stmt) → Nest
+nest_in rest s (Some x) = with_head x.0 (rest x.1)
+nest_in rest s None = ([], s)
 
 abbrev pub nest_of : ℕ → made.Stmt → Nest
 nest_of zero s = ([], s)
-nest_of (suc n) s = nest_in (nest_of n) s (made.out-Stmt (unbraced s))
+nest_of (suc n) s = nest_in (nest_of n) s (head_of s)
 
 -- Whether two lists of numbers are the same.
 abbrev pub same_numbers : List ℕ → List ℕ → Bool
@@ -223,23 +232,28 @@ abbrev pub made_loop : ℕ → List (Option (ℕ × ℤ)) → Nest → List made
 made_loop template points nest reductions at =
     s.Loop (record { template = template; points = map made_of_point points; nest = nest.0; reductions = reductions; at = at }) nest.1
 
-abbrev pub judged_loop : LoopLine → Option ℕ → List (Option (ℕ × ℤ)) → List ℕ → List made_reduction.Reduction → made.Stmt → Run made.Stmt
-judged_loop line template points names reductions loop = do
-  let nest : Nest = nest_of (length names) loop
-  _ ← judge (loop_right names points nest.0) M7 line.line.word
-  _ ← use_template template line.line.word (map is_indexed points)
-  pure (made_loop (unwrap_or template 0) points nest reductions line.line.word)
-
-abbrev pub loop_directive : LoopLine → ForHead → Run made.Stmt → Run made.Stmt
-loop_directive line h body = do
+-- What a line of a loop directive says: its template, its points, its names or those of its points, and its reductions.
+abbrev pub loop_line : LoopLine → Run LoopParts
+loop_line line = do
   _ ← directive_at line.line.word
   names ← if_there name_list line.names
   template ← name_of a_template line.template
   points ← each point_of (inner line.points)
   _ ← match_template template (length points) line.template.at
   reductions ← reductions_of [] line.reductions
+  pure (record { template = template; points = points; names = names_or names (slots_of_points points); reductions = reductions })
+
+abbrev pub judged_loop : Place → LoopParts → Nest → Run made.Stmt
+judged_loop word parts nest = do
+  _ ← judge (loop_right parts.names parts.points nest.0) M7 word
+  _ ← use_template parts.template word (map is_indexed parts.points)
+  pure (made_loop (unwrap_or parts.template 0) parts.points nest parts.reductions word)
+
+abbrev pub loop_directive : LoopLine → ForHead → Run made.Stmt → Run made.Stmt
+loop_directive line h body = do
+  parts ← loop_line line
   loop ← for_of h body
-  judged_loop line template points (names_or names (slots_of_points points)) reductions loop
+  judged_loop line.line.word parts (nest_of (length parts.names) loop)
 
 -- ---- sets of nodes
 
@@ -297,10 +311,13 @@ natural (negsuc n) = 0
 abbrev pub is_box : List ℤ → List (ℤ × ℤ) → Bool
 is_box sizes rs = ranges_right sizes rs && (list_all (λ n. int_le n (pos 16)) sizes && nat_le (length sizes) 3)
 
+abbrev pub node_number : ℤ → ℕ
+node_number n = if int_le (pos 0) n && int_le n (pos 16) then natural n else 0
+
 abbrev pub box_of : List ℤ → List (ℤ × ℤ) → NodeSet
 box_of sizes rs =
     if is_box sizes rs
-    then record { first = filled 0 (map (λ r. natural r.0) rs); many = filled 1 (map (λ r. natural r.1) rs) }
+    then record { first = filled 0 (map (λ r. node_number r.0) rs); many = filled 1 (map (λ r. node_number r.1) rs) }
     else record { first = 0 ∷ 0 ∷ 0 ∷ []; many = 1 ∷ 1 ∷ 1 ∷ [] }
 
 -- A set breaks a rule at a directive's word where it leaves the nodes array, or where one node is asked for and it has more.
@@ -330,25 +347,26 @@ share x y = overlap x.first x.many y.first y.many
 abbrev pub made_task : NodeSet → made.Stmt → Place → Task
 made_task nodes body at = roll-Task (record { nodes = nodes; body = body; at = at })
 
--- A task behind others of the same `tasks`, whose sets come first.
-abbrev pub task_of : List NodeSet → TaskLine → Run made.Stmt → Run (NodeSet × Task)
-task_of before line body = do
+-- The line of a task behind others of the same `tasks`, whose sets come first.
+abbrev pub task_line : List NodeSet → TaskLine → Run NodeSet
+task_line before line = do
   _ ← directive_at line.line.word
   nodes ← set_of false line.line.word line.set
   _ ← judge (list_all (λ other. not (share other nodes)) before) M9 line.line.word
-  b ← body
-  pure (nodes, made_task nodes b line.line.word)
+  pure nodes
 
 abbrev pub lone_task : TaskLine → Run made.Stmt → Run made.Stmt
 lone_task line body = do
-  t ← task_of [] line body
-  pure (s.Tasks (t.1 ∷ []) line.line.word)
+  nodes ← task_line [] line
+  b ← body
+  pure (s.Tasks (made_task nodes b line.line.word ∷ []) line.line.word)
 
 abbrev pub tasks_in : List NodeSet → List Task → List (TaskLine × Run made.Stmt) → Run (List Task)
 tasks_in before done [] = pure done
 tasks_in before done (x ∷ xs) = do
-  t ← task_of before x.0 x.1
-  tasks_in (before ++ t.0 ∷ []) (done ++ t.1 ∷ []) xs
+  nodes ← task_line before x.0
+  b ← x.1
+  tasks_in (before ++ nodes ∷ []) (done ++ made_task nodes b x.0.line.word ∷ []) xs
 
 abbrev pub tasks_of : DirectiveLine → List (TaskLine × Run made.Stmt) → Run made.Stmt
 tasks_of line xs = do

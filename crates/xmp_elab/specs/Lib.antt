@@ -11,3 +11,4 @@ pub mod Directives
 pub mod MappingLines
 pub mod Program
 pub mod MappingRules
+pub mod Verdict

@@ -11,6 +11,7 @@ use Rattle.xmp_tree.specs.declared.parts.TypeWords.TheVariants as words
 use Rattle.xmp_tree.specs.declared.declaration.Declarator.{Declarator}
 use Rattle.xmp_tree.specs.declared.declaration.Declarator.TheVariants as declarator
 use Rattle.xmp_tree.specs.declared.declaration.Declaration.{Declaration}
+use Rattle.xmp_tree.specs.declared.directive.TaskLine.{TaskLine}
 use Rattle.xmp_tree.specs.declared.statement.Plain.{Plain}
 use Rattle.xmp_tree.specs.declared.statement.Plain.TheVariants as plain
 use Rattle.xmp_tree.specs.declared.statement.BlockItem.{BlockItem}
@@ -28,6 +29,7 @@ use Rattle.xmp_elab.specs.declared.names.Region.{Region}
 use Rattle.xmp_elab.specs.declared.names.Region.TheVariants as region
 use Rattle.xmp_elab.specs.declared.names.Meaning.TheVariants as meaning
 use Rattle.xmp_elab.specs.declared.names.Signature.{Signature}
+use Rattle.xmp_elab.specs.declared.names.Environment.{Environment}
 use Rattle.xmp_elab.specs.declared.mappings.Mappings.{Mappings}
 use Rattle.xmp_elab.specs.declared.rules.Rule.TheVariants.{N7}
 use Rattle.xmp_elab.specs.declared.world.World.{World}
@@ -95,6 +97,12 @@ abbrev pub inside_item : BlockItem Stmt → BlockItem (Run made.Stmt)
 inside_item (item.Mapping x) = item.Mapping x
 inside_item (item.Declaration d) = item.Declaration d
 inside_item (item.Stmt x) = item.Stmt (stmt_of x)
+
+abbrev pub else_step : Place × Stmt → Place × Run made.Stmt
+else_step x = (x.0, stmt_of x.1)
+
+abbrev pub task_step : TaskLine × Stmt → TaskLine × Run made.Stmt
+task_step x = (x.0, stmt_of x.1)
 
 -- ---- functions
 
@@ -247,6 +255,9 @@ coarray_step (Stmt-F.Tasks line xs) = list_any (λ x. x.1) xs.item
 abbrev pub coarray_stmt : Stmt → Bool
 coarray_stmt = fold-Stmt Bool coarray_step
 
+abbrev pub else_has : Place × Stmt → Place × Bool
+else_has x = (x.0, coarray_stmt x.1)
+
 abbrev pub coarray_in : BlockItem Stmt → Bool
 coarray_in (item.Mapping x) = false
 coarray_in (item.Declaration d) = coarray_declaration d
@@ -261,10 +272,13 @@ coarray_top (top.Function f) = list_any coarray_in f.body.item
 abbrev pub no_mappings : Mappings
 no_mappings = record { nodes = []; templates = []; distributions = []; aligns = []; shadows = []; loops = []; first_directive = None }
 
+abbrev pub start_names : Bool → Environment
+start_names coarray = record { coarray = coarray; region = region.File; scopes = [] ∷ []; arrays = []; functions = [] }
+
 abbrev pub start_world : Option ℕ → Bool → World
 start_world given coarray = record {
   given = given;
-  names = record { coarray = coarray; region = region.File; scopes = [] ∷ []; arrays = []; functions = [] };
+  names = start_names coarray;
   scalars = [];
   mappings = no_mappings;
   deepest = 0;

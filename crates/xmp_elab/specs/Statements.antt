@@ -33,6 +33,9 @@ use Rattle.xmp_tree.specs.declared.statement.ForFirst.TheVariants as for_first
 use Rattle.xmp_tree.specs.declared.statement.ForHead.{ForHead}
 use Rattle.xmp_elab.specs.declared.rules.Rule.TheVariants.{N1, N3, N4, N6, N7}
 use Rattle.xmp_elab.specs.declared.typed.Operand.{Operand}
+use Rattle.xmp_elab.specs.declared.loops.First.{First}
+use Rattle.xmp_elab.specs.declared.loops.ForParts.{ForParts}
+use Rattle.xmp_elab.specs.declared.loops.Shape.{Shape}
 use Rattle.xmp_elab.specs.declared.operators.Operator.{Operator}
 use Rattle.xmp_elab.specs.declared.operators.Operator.TheVariants.{Arithmetic, Shift}
 use Rattle.xmp_elab.specs.Typing.{operand, operand_of, number, joint, value_type, is_of}
@@ -174,23 +177,31 @@ while_of at x body = do
 
 -- ---- `for`
 
--- The first part of a `for`: what it declares, what it assigns to, the value, and the place of the value's first token.
-abbrev pub First : Type 0
-First = List made.Stmt × Operand × Operand × Place
-
 abbrev pub index_of : named.Name → Reference Expr
 index_of n = record { name = n; subscripts = []; image = None }
+
+abbrev pub first_part : List made.Stmt → Expr → Operand → Operand → First
+first_part declared x t v = record { declared = declared; target = t; value = v; at = first_place x }
 
 abbrev pub first_of : ForFirst → Run First
 first_of (for_first.Assign r at x) = do
   t ← typed_reference r
   v ← typed x
-  pure ([], t, v, first_place x)
+  pure (first_part [] x t v)
 first_of (for_first.Declare at n equals x) = do
   slot ← declare_scalar n Int
   t ← typed_reference (index_of n)
   v ← typed x
-  pure (s.Plain (p.Declare slot None n.at) ∷ [], t, v, first_place x)
+  pure (first_part (s.Plain (p.Declare slot None n.at) ∷ []) x t v)
+
+-- The parts of a `for` before its body. It opens a scope of its own.
+abbrev pub for_parts : ForHead → Run ForParts
+for_parts h = do
+  _ ← open_scope
+  first ← if_there first_of h.first
+  test ← if_there typed h.test
+  next ← if_there simple_of h.next
+  pure (record { first = first; test = test; next = next })
 
 -- The place of what a comparison compares with.
 abbrev pub compared_in : Expr-G.Expr-F Expr → Option Place
@@ -221,32 +232,52 @@ added_by i (Stmt-M.Stmt-F.Plain x) = added_plain i x
 added_by i _ = None
 
 -- The counted loop of an index, by what it is compared with and what is added to it.
-abbrev pub counted_by : ℕ → Place → First → Bool → Option (prog.Expr × Bool) → Option Place → Option ℕ → made.Stmt → Option made.Stmt
-counted_by i at first by_one (Some bound) (Some to_at) (Some step) body =
+abbrev pub shape_by : ℕ → Place → Bool → Option (prog.Expr × Bool) → Option Place → Option ℕ → made.Stmt → Option Shape
+shape_by i at by_one (Some bound) (Some to_at) (Some step) body =
     if is_counted i bound.0 bound.1 by_one body
-    then Some (s.Counted (record { index = record { number = i; at = at }; from = first.2.made; to = bound.0; inclusive = bound.1; step = step; from_at = first.3; to_at = to_at }) body)
+    then Some (record { index = record { number = i; at = at }; inclusive = bound.1; step = step; to_at = to_at })
     else None
-counted_by i at first by_one _ _ _ body = None
+shape_by i at by_one _ _ _ body = None
 
-abbrev pub counted_at : ForHead → First → Operand → made.Stmt → made.Stmt → Expr-F prog.Expr Access → Option made.Stmt
-counted_at h first test next body (Expr-F.Scalar i at) =
-    if is_of first.1.ty Int
-    then counted_by i at first (is_bump h.next) (bound_of i (prog.out-Expr test.made)) (compared_at h.test) (added_by i (made.out-Stmt next)) body
+abbrev pub shape_at : ForHead → Option Ty → Operand → made.Stmt → made.Stmt → Expr-F prog.Expr Access → Option Shape
+shape_at h ty test next body (Expr-F.Scalar i at) =
+    if is_of ty Int
+    then shape_by i at (is_bump h.next) (bound_of i (prog.out-Expr test.made)) (compared_at h.test) (added_by i (made.out-Stmt next)) body
     else None
-counted_at h first test next body _ = None
+shape_at h ty test next body _ = None
 
-abbrev pub counted : ForHead → Option First → Option Operand → Option made.Stmt → made.Stmt → Option made.Stmt
-counted h (Some first) (Some test) (Some next) body = counted_at h first test next body (prog.out-Expr first.1.made)
-counted h _ _ _ body = None
+abbrev pub shape_of : ForHead → Option First → Option Operand → Option made.Stmt → made.Stmt → Option Shape
+shape_of h (Some first) (Some test) (Some next) body = shape_at h first.target.ty test next body (prog.out-Expr first.target.made)
+shape_of h _ _ _ body = None
+
+-- The counted loop of a shape. One that declares its index stands in a block behind the declaration.
+abbrev pub right_side : Expr-F prog.Expr Access → prog.Expr
+right_side (Expr-F.Binary o ty a b at) = b
+right_side _ = e.Const (pos 0) Int
+
+abbrev pub in_block : List made.Stmt → made.Stmt → made.Stmt
+in_block [] loop = loop
+in_block (x ∷ xs) loop = s.Block ((x ∷ xs) ++ loop ∷ [])
+
+abbrev pub counted_loop : Shape → First → Operand → made.Stmt → made.Stmt
+counted_loop shape first test body = in_block first.declared (s.Counted (record {
+  index = shape.index;
+  from = first.value.made;
+  to = right_side (prog.out-Expr test.made);
+  inclusive = shape.inclusive;
+  step = shape.step;
+  from_at = first.at;
+  to_at = shape.to_at;
+}) body)
+
+abbrev pub counted_with : Shape → Option First → Option Operand → made.Stmt → made.Stmt
+counted_with shape (Some first) (Some test) body = counted_loop shape first test body
+counted_with shape _ _ body = body
 
 -- What a `for` that isn't counted does first, its condition, which is 1 where none is written, and what it does last.
-abbrev pub declared_by : Option First → List made.Stmt
-declared_by None = []
-declared_by (Some x) = x.0
-
-abbrev pub assigned_by : Option First → List made.Stmt
-assigned_by None = []
-assigned_by (Some x) = set None x.3 x.1 x.2 ∷ []
+abbrev pub begun : Option First → List made.Stmt
+begun None = []
+begun (Some x) = x.declared ++ set None x.at x.target x.value ∷ []
 
 abbrev pub condition : Option Operand → prog.Expr
 condition None = e.Const (pos 1) Int
@@ -256,26 +287,19 @@ abbrev pub last_of : Option made.Stmt → List made.Stmt
 last_of None = []
 last_of (Some x) = x ∷ []
 
--- A counted loop that declares its index stands in a block behind the declaration.
-abbrev pub in_block : List made.Stmt → made.Stmt → made.Stmt
-in_block [] loop = loop
-in_block (x ∷ xs) loop = s.Block ((x ∷ xs) ++ loop ∷ [])
+abbrev pub uncounted : Place → ForParts → made.Stmt → made.Stmt
+uncounted word parts body = s.Block (begun parts.first ++ s.While (condition parts.test) (s.Block (body ∷ last_of parts.next)) word ∷ [])
 
-abbrev pub loop_in : Option made.Stmt → ForHead → Option First → Option Operand → Option made.Stmt → made.Stmt → made.Stmt
-loop_in (Some loop) h first test next body = in_block (declared_by first) loop
-loop_in None h first test next body =
-    s.Block (declared_by first ++ (assigned_by first ++ s.While (condition test) (s.Block (body ∷ last_of next)) h.word ∷ []))
+abbrev pub loop_in : Option Shape → Place → ForParts → made.Stmt → made.Stmt
+loop_in (Some shape) word parts body = counted_with shape parts.first parts.test body
+loop_in None word parts body = uncounted word parts body
 
-abbrev pub loop_of : ForHead → Option First → Option Operand → Option made.Stmt → made.Stmt → made.Stmt
-loop_of h first test next body = loop_in (counted h first test next body) h first test next body
+abbrev pub loop_of : ForHead → ForParts → made.Stmt → made.Stmt
+loop_of h parts body = loop_in (shape_of h parts.first parts.test parts.next body) h.word parts body
 
--- A `for` opens a scope of its own.
 abbrev pub for_of : ForHead → Run made.Stmt → Run made.Stmt
 for_of h body = do
-  _ ← open_scope
-  first ← if_there first_of h.first
-  test ← if_there typed h.test
-  next ← if_there simple_of h.next
+  parts ← for_parts h
   b ← body
   _ ← close_scope
-  pure (loop_of h first test next b)
+  pure (loop_of h parts b)

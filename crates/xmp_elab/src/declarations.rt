@@ -271,7 +271,7 @@ fn is_coarray(image: &Option<(Place, Inside<Place>)>) -> bool
     image.is_some()
 }
 
-fn declare_statement(
+pub(crate) fn declare_statement(
     alloc: Global,
     slot: u32,
     value: Option<prog::Expr>,

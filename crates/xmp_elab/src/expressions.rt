@@ -1,5 +1,5 @@
 // Expressions: names, types and constants.
-ghost use Rattle.std.specs.Prelude.{◌≡◌, IfOk, map, slice_get};
+ghost use Rattle.std.specs.Prelude.{◌≡◌, IfOk, None, map, slice_get};
 ghost use Rattle.std.specs.Option.{option_map};
 ghost use Rattle.xmp_elab.specs.Expressions.{add, arguments_of, call, call_as, call_intrinsic, call_of, called, cell, chain, each_next, each_subscript, expr_of, image_notes, inside_of, intrinsic, is_own, judged_call, may_call, may_name, next_of, no_parts, of_type, read, read_as, reference_of, right_of, unknown};
 
@@ -133,6 +133,13 @@ impl Environment {
         let subscripts = self.subscripts(alloc, reference.subscripts.as_slice())?;
         let image = self.image(alloc, &reference.image)?;
         self.read(alloc, &reference.name, subscripts, image)
+    }
+
+    /// A name without subscripts and image.
+    pub(crate) fn plain_name(&self, alloc: Global, name: &Name) -> Result<Typed, AllocError>
+        ensures { IfOk result (λ t. t ≡ read self.now name.now no_parts None) }
+    {
+        self.read(alloc, name, none(alloc), None)
     }
 
     /// Expressions behind commas, from left to right.

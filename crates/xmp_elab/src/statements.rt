@@ -63,7 +63,7 @@ fn assigned(target: prog::Expr, compound: Option<prog::Compound>, value: prog::E
 }
 
 // An assignment with its operator.
-fn set(
+pub(crate) fn set(
     alloc: Global,
     op: Option<Operator>,
     at: Place,

@@ -33,7 +33,7 @@ impl World {
         Ok(())
     }
 
-    fn finished(&mut self, typed: Typed) -> Result<Operand, AllocError>
+    pub(crate) fn finished(&mut self, typed: Typed) -> Result<Operand, AllocError>
         ensures { Does (finished typed self.old) result self.new }
     {
         let Typed {

@@ -1,0 +1,7 @@
+use Rattle.std.proofs.Common.{◌≡◌, map, drop}
+use Rattle.xmp_elab.specs.Directives.{is_one}
+use Rattle.xmp_elab.proofs.directives.is_one.Given as goal
+
+-- what is left to do from here gives what the whole gives
+abbrev pub invariant-ranges : goal.invariant-ranges
+invariant-ranges l = is_one l.fn.ranges ≡ is_one (drop l.range-index l.ranges)

@@ -1,0 +1,498 @@
+// The lines of loop directives, and the nests of loops under them.
+ghost use Rattle.std.specs.Prelude.{◌≡◌, ◌==◌, [], IfOk, is_some, map};
+ghost use Rattle.std.specs.Option.{unwrap_or};
+ghost use Rattle.xmp_prog.specs.declared.statements.Stmt.{out-Stmt};
+ghost use Rattle.xmp_prog.specs.declared.statements.Stmt.TheVariants as stmt;
+ghost use Rattle.std.specs.List.{count_by, list_all};
+ghost use Rattle.xmp_prog.specs.Numbers.{is_in};
+ghost use Rattle.xmp_prog.specs.Statements.{indices_of};
+ghost use Rattle.xmp_elab.specs.Walk.{Does, each, if_there};
+ghost use Rattle.xmp_elab.specs.Declarations.{inner, listed};
+ghost use Rattle.xmp_elab.specs.Directives.{counted_in, head_of, is_indexed, is_small_point, judged_loop, loop_line, loop_right, made_loop, made_of_point, mark_operation, name_list, names_or, nest_of, operation_of, point_of, reduction_name, reductions_of, same_numbers, slots_of_points, use_template};
+
+use crate::directives::small_or_next;
+use crate::mappings::LoopUse;
+use crate::points::is_small;
+use crate::rules::Rule;
+use crate::world::World;
+use sqlite_items::{Boxed, Items};
+use std::alloc::{AllocError, Global};
+use xmp_base::Place;
+use xmp_lex::Mark;
+use xmp_num::RedOp;
+use xmp_prog as prog;
+use xmp_prog::{LoopHead, Stmt};
+use xmp_tree::{CommaList, Inside, LoopLine, Name, Point, Reduction, ReductionOperator};
+
+/// What the line of a loop directive says: the template by its number, its points, each with the slot of the index and the
+/// constant or nothing for `*`, the slots of its names, and its reductions.
+#[derive(Drop)]
+pub struct LoopParts {
+    pub template: Option<u32>,
+    pub points: Items<Option<(u32, i64)>>,
+    pub names: Items<u32>,
+    pub reductions: Items<prog::Reduction>,
+}
+
+impl World {
+    fn point_of(&mut self, alloc: Global, x: &Point) -> Result<Option<(u32, i64)>, AllocError>
+        ensures { Does (point_of x.now self.old) result self.new }
+    {
+        match x {
+            Point::Star(_) => Ok(None),
+            Point::Index(name, offset) => {
+                let slot = self.index_name(name)?;
+                let c = self.offset_of(alloc, offset)?;
+                Ok(Some((slot, c)))
+            }
+        }
+    }
+
+    fn points_of(
+        &mut self,
+        alloc: Global,
+        list: &[Inside<Point>],
+    ) -> Result<Items<Option<(u32, i64)>>, AllocError>
+        ensures { Does (each point_of (inner list.now) self.old) result self.new }
+    {
+        let mut done = Items::new(alloc);
+        'list: for x in list {
+            let point = self.point_of(alloc, &x.item)?;
+            done.push(point)?;
+        }
+        Ok(done)
+    }
+
+    fn name_list(
+        &mut self,
+        alloc: Global,
+        list: &Inside<CommaList<Name>>,
+    ) -> Result<Items<u32>, AllocError>
+        ensures { Does (name_list list.now self.old) result self.new }
+    {
+        let mut done = Items::new(alloc);
+        let first = self.index_name(&list.item.first)?;
+        done.push(first)?;
+        'more: for next in list.item.more.as_slice() {
+            let slot = self.index_name(&next.item)?;
+            done.push(slot)?;
+        }
+        Ok(done)
+    }
+
+    fn names_if_there(
+        &mut self,
+        alloc: Global,
+        list: &Option<Inside<CommaList<Name>>>,
+    ) -> Result<Option<Items<u32>>, AllocError>
+        ensures { Does (if_there name_list list.now self.old) result self.new }
+    {
+        match list {
+            Some(list) => {
+                let names = self.name_list(alloc, list)?;
+                Ok(Some(names))
+            }
+            None => Ok(None),
+        }
+    }
+
+    fn reduction_name(&mut self, op: RedOp, name: &Name) -> Result<prog::Reduction, AllocError>
+        ensures { Does (reduction_name op name.now self.old) result self.new }
+    {
+        let variable = self.scalar_name(name)?;
+        Ok(prog::Reduction { op, variable })
+    }
+
+    fn reduction_names(
+        &mut self,
+        alloc: Global,
+        op: RedOp,
+        names: &CommaList<Name>,
+    ) -> Result<Items<prog::Reduction>, AllocError>
+        ensures { Does (each (reduction_name op) (listed names.now) self.old) result self.new }
+    {
+        let mut done = Items::new(alloc);
+        let first = self.reduction_name(op, &names.first)?;
+        done.push(first)?;
+        'more: for next in names.more.as_slice() {
+            let reduction = self.reduction_name(op, &next.item)?;
+            done.push(reduction)?;
+        }
+        Ok(done)
+    }
+
+    fn reductions_of(
+        &mut self,
+        alloc: Global,
+        list: &[Reduction],
+    ) -> Result<Items<prog::Reduction>, AllocError>
+        ensures { Does (reductions_of [] list.now self.old) result self.new }
+    {
+        let mut done = Items::new(alloc);
+        'list: for reduction in list {
+            let (operator, _, names) = &reduction.list.item;
+            let more = self.reduction_names(alloc, operation_of(operator), names)?;
+            done.append(more)?;
+        }
+        Ok(done)
+    }
+
+    /// The line of a loop directive.
+    pub(crate) fn loop_line(&mut self, alloc: Global, line: &LoopLine) -> Result<LoopParts, AllocError>
+        ensures { Does (loop_line line.now self.old) result self.new }
+    {
+        self.directive_at(line.line.word)?;
+        let names = self.names_if_there(alloc, &line.names)?;
+        let template = self.template_of(&line.template)?;
+        let points = self.points_of(alloc, line.points.as_slice())?;
+        self.match_template(template, points.len(), line.template.at)?;
+        let reductions = self.reductions_of(alloc, line.reductions.as_slice())?;
+        let names = names_or(alloc, names, points.as_slice())?;
+        Ok(LoopParts {
+            template,
+            points,
+            names,
+            reductions,
+        })
+    }
+
+    fn use_template(
+        &mut self,
+        template: Option<u32>,
+        at: Place,
+        indexed: Items<bool>,
+    ) -> Result<(), AllocError>
+        ensures { Does (use_template template at indexed self.old) result self.new }
+    {
+        match template {
+            Some(template) => self.mappings.loops.push(LoopUse {
+                at,
+                template,
+                indexed,
+            }),
+            None => Ok(()),
+        }
+    }
+
+    /// A loop directive over a nest.
+    pub(crate) fn judged_loop(
+        &mut self,
+        alloc: Global,
+        word: Place,
+        parts: LoopParts,
+        nest: (Items<LoopHead>, Stmt),
+    ) -> Result<Stmt, AllocError>
+        ensures { Does (judged_loop word parts nest self.old) result self.new }
+    {
+        let right = loop_right(
+            alloc,
+            parts.names.as_slice(),
+            parts.points.as_slice(),
+            nest.0.as_slice(),
+        )?;
+        self.judge(right, Rule::M7, word)?;
+        let indexed = indexed(alloc, parts.points.as_slice())?;
+        self.use_template(parts.template, word, indexed)?;
+        made_loop(alloc, word, parts, nest)
+    }
+}
+
+fn mark_operation(mark: Mark) -> RedOp
+    ensures { result ≡ mark_operation mark }
+{
+    match mark {
+        Mark::Star => RedOp::Mul,
+        Mark::And => RedOp::And,
+        Mark::Or => RedOp::Or,
+        Mark::Xor => RedOp::Xor,
+        _ => RedOp::Add,
+    }
+}
+
+fn operation_of(operator: &ReductionOperator) -> RedOp
+    ensures { result ≡ operation_of operator.now }
+{
+    match operator {
+        ReductionOperator::Mark(mark) => mark_operation(mark.what),
+        ReductionOperator::Max(_) => RedOp::Max,
+        ReductionOperator::Min(_) => RedOp::Min,
+    }
+}
+
+// The slots of the indices in points.
+fn slots_of_points(
+    alloc: Global,
+    points: &[Option<(u32, i64)>],
+) -> Result<Items<u32>, AllocError>
+    ensures { IfOk result (λ slots. slots ≡ slots_of_points points.now) }
+{
+    let mut done = Items::new(alloc);
+    'points: for point in points {
+        if let Some((slot, _)) = *point {
+            done.push(slot)?;
+        }
+    }
+    Ok(done)
+}
+
+fn names_or(
+    alloc: Global,
+    names: Option<Items<u32>>,
+    points: &[Option<(u32, i64)>],
+) -> Result<Items<u32>, AllocError>
+    ensures { IfOk result (λ slots. slots ≡ names_or names (slots_of_points points.now)) }
+{
+    match names {
+        Some(names) => Ok(names),
+        None => slots_of_points(alloc, points),
+    }
+}
+
+// Whether each point has an index.
+fn indexed(alloc: Global, points: &[Option<(u32, i64)>]) -> Result<Items<bool>, AllocError>
+    ensures { IfOk result (λ l. l ≡ map is_indexed points.now) }
+{
+    let mut done = Items::new(alloc);
+    'points: for point in points {
+        done.push(point.is_some())?;
+    }
+    Ok(done)
+}
+
+fn made_points(
+    alloc: Global,
+    points: &[Option<(u32, i64)>],
+) -> Result<Items<prog::Point>, AllocError>
+    ensures { IfOk result (λ l. l ≡ map made_of_point points.now) }
+{
+    let mut done = Items::new(alloc);
+    'points: for point in points {
+        done.push(made_of_point(*point))?;
+    }
+    Ok(done)
+}
+
+fn made_of_point(point: Option<(u32, i64)>) -> prog::Point
+    ensures { result ≡ made_of_point point }
+{
+    match point {
+        Some((slot, offset)) => prog::Point::Index {
+            slot,
+            offset: small_or_next(offset),
+        },
+        None => prog::Point::Any,
+    }
+}
+
+// ---- whether the names are the indices of the nest
+
+fn same_indices(names: &[u32], nest: &[LoopHead]) -> bool
+    ensures { result ≡ same_numbers names.now (indices_of nest.now) }
+{
+    let mut left = nest;
+    'names: for name in names {
+        match left.split_first() {
+            Some((head, rest)) => {
+                if *name != head.index.number {
+                    return false;
+                }
+                left = rest;
+            }
+            None => return false,
+        }
+    }
+    left.is_empty()
+}
+
+fn is_in(numbers: &[u32], n: u32) -> bool
+    ensures { result ≡ is_in numbers.now n }
+{
+    'numbers: for number in numbers {
+        if *number == n {
+            return true;
+        }
+    }
+    false
+}
+
+fn count_of(numbers: &[u32], n: u32) -> usize
+    ensures { result ≡ count_by (λ j. j == n) numbers.now }
+{
+    let mut count = 0usize;
+    'numbers: for number in numbers {
+        if *number == n {
+            count += 1;
+        }
+    }
+    count
+}
+
+fn each_in_one(names: &[u32], slots: &[u32]) -> bool
+    ensures { result ≡ list_all (λ i. count_by (λ j. j == i) slots.now == 1) names.now }
+{
+    'names: for name in names {
+        if count_of(slots, *name) != 1 {
+            return false;
+        }
+    }
+    true
+}
+
+fn all_in(names: &[u32], slots: &[u32]) -> bool
+    ensures { result ≡ list_all (is_in names.now) slots.now }
+{
+    'slots: for slot in slots {
+        if !is_in(names, *slot) {
+            return false;
+        }
+    }
+    true
+}
+
+fn is_small_point(point: Option<(u32, i64)>) -> bool
+    ensures { result ≡ is_small_point point }
+{
+    match point {
+        Some((_, offset)) => is_small(offset),
+        None => true,
+    }
+}
+
+fn all_small(points: &[Option<(u32, i64)>]) -> bool
+    ensures { result ≡ list_all is_small_point points.now }
+{
+    'points: for point in points {
+        if !is_small_point(*point) {
+            return false;
+        }
+    }
+    true
+}
+
+fn loop_right(
+    alloc: Global,
+    names: &[u32],
+    points: &[Option<(u32, i64)>],
+    nest: &[LoopHead],
+) -> Result<bool, AllocError>
+    ensures { IfOk result (λ right. right ≡ loop_right names.now points.now nest.now) }
+{
+    let slots = slots_of_points(alloc, points)?;
+    let right = same_indices(names, nest)
+        && each_in_one(names, slots.as_slice())
+        && all_in(names, slots.as_slice())
+        && all_small(points);
+    Ok(right)
+}
+
+// ---- the nest
+
+fn is_counted_loop(s: &Stmt) -> bool
+    ensures { result ≡ is_some (counted_in (out-Stmt s.now)) }
+{
+    match s {
+        Stmt::Counted(_, _) => true,
+        _ => false,
+    }
+}
+
+// Whether a statement is a counted loop, in braces or not.
+fn is_nested(s: &Stmt) -> bool
+    ensures { result ≡ is_some (head_of s.now) }
+{
+    match s {
+        Stmt::Block(list) => match list.as_slice() {
+            [inner] => is_counted_loop(inner),
+            _ => false,
+        },
+        _ => is_counted_loop(s),
+    }
+}
+
+fn counted_loop(s: Stmt) -> Option<(LoopHead, Stmt)>
+    ensures { result ≡ counted_in (out-Stmt s) }
+{
+    match s {
+        Stmt::Counted(head, body) => Some((head, body.into_inner())),
+        _ => None,
+    }
+}
+
+// A counted loop taken apart.
+fn head_of(s: Stmt) -> Option<(LoopHead, Stmt)>
+    ensures { result ≡ head_of s }
+{
+    match s {
+        Stmt::Block(list) => head_in_block(list),
+        other => counted_loop(other),
+    }
+}
+
+fn head_in_block(mut list: Items<Stmt>) -> Option<(LoopHead, Stmt)>
+    ensures { result ≡ head_of (stmt.Block list) }
+{
+    if list.len() != 1 {
+        return None;
+    }
+    match list.pop() {
+        Some(inner) => counted_loop(inner),
+        None => None,
+    }
+}
+
+/// So many loops of a nest, the outermost first, and what is left.
+pub(crate) fn nest_of(
+    alloc: Global,
+    count: usize,
+    s: Stmt,
+) -> Result<(Items<LoopHead>, Stmt), AllocError>
+    ensures { IfOk result (λ nest. nest ≡ nest_of count s) }
+{
+    let mut heads = Items::new(alloc);
+    let mut left = s;
+    'heads: for _head in 0..count {
+        if !is_nested(&left) {
+            return Ok((heads, left));
+        }
+        match head_of(left) {
+            Some((head, body)) => {
+                heads.push(head)?;
+                left = body;
+            }
+            None => return Err(AllocError),
+        }
+    }
+    Ok((heads, left))
+}
+
+fn made_loop(
+    alloc: Global,
+    word: Place,
+    parts: LoopParts,
+    nest: (Items<LoopHead>, Stmt),
+) -> Result<Stmt, AllocError>
+    ensures { IfOk result (λ s. s ≡ made_loop (unwrap_or parts.template 0) parts.points nest parts.reductions word) }
+{
+    let points = made_points(alloc, parts.points.as_slice())?;
+    let LoopParts {
+        template,
+        reductions,
+        ..
+    } = parts;
+    let template = match template {
+        Some(template) => template,
+        None => 0,
+    };
+    let (nest, body) = nest;
+    let body = Boxed::new(alloc, body)?;
+    Ok(Stmt::Loop(
+        prog::LoopDirective {
+            template,
+            points,
+            nest,
+            reductions,
+            at: word,
+        },
+        body,
+    ))
+}
