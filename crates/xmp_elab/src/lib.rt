@@ -15,6 +15,7 @@ mod directives;
 mod expressions;
 mod formats;
 mod functions;
+mod judged;
 mod loop_lines;
 mod loops;
 mod mapping_lines;
@@ -37,6 +38,7 @@ mod walk;
 mod world;
 
 pub use formats::{Mode, fits_format, is_scan_format};
+pub use judged::first_refusal;
 pub use loop_lines::LoopParts;
 pub use loops::{First, ForParts, Shape};
 pub use mappings::{
@@ -52,6 +54,10 @@ pub use verdict::{first_in, refusal_of};
 pub use world::World;
 
 #[cfg(test)]
-mod rules_tests;
+mod mapping_texts;
+#[cfg(test)]
+mod name_texts;
+#[cfg(test)]
+mod texts;
 #[cfg(test)]
 mod tests;
