@@ -7,6 +7,7 @@ use Rattle.std.specs.Ordering.{int_eq}
 use Rattle.std.specs.List.{list_all, flat_map, count_by, enumerate_from, sum}
 use Rattle.xmp_base.specs.declared.place.Place.{Place}
 use Rattle.xmp_map.specs.RowMajor.{product}
+use Rattle.xmp_map.specs.Spread.{sizes_fit}
 use Rattle.xmp_elab.specs.declared.names.Array.{Array}
 use Rattle.xmp_elab.specs.declared.mappings.Form.{Form}
 use Rattle.xmp_elab.specs.declared.mappings.Form.TheVariants as form
@@ -24,7 +25,7 @@ use Rattle.xmp_elab.specs.declared.world.World.{World}
 use Rattle.xmp_elab.specs.Rules.{unless}
 use Rattle.xmp_elab.specs.Numbers.{first_place, is_at}
 use Rattle.xmp_elab.specs.Declarations.{is_extent, most_cells}
-use Rattle.xmp_elab.specs.Directives.{is_small, natural, given_or_one, line_sizes, sizes_in, extents_in}
+use Rattle.xmp_elab.specs.Directives.{is_small, natural, given_or_one, line_sizes, extents_in}
 
 -- ---- the first of several
 
@@ -89,9 +90,13 @@ spans_intervals (Some f) = has_intervals f
 
 -- ---- nodes
 
--- The sizes of the nodes array; none where there is none.
+-- The sizes of the nodes array; where there is none all nodes stand in a row.
+abbrev pub sizes_or_row : ℕ → Option NodesLine → List ℤ
+sizes_or_row given None = pos given ∷ []
+sizes_or_row given (Some l) = line_sizes given l
+
 abbrev pub nodes_of : World → List ℤ
-nodes_of w = sizes_in (given_or_one w) (slice_get w.mappings.nodes 0)
+nodes_of w = sizes_or_row (given_or_one w) (slice_get w.mappings.nodes 0)
 
 -- How many nodes an array of these sizes has.
 abbrev pub node_product : List ℤ → ℕ
@@ -131,9 +136,9 @@ template_rule w x =
     unless (one_to_three (length x.1.sizes) && list_all is_extent x.1.sizes) M2 x.1.at
     ++ unless (is_some (first_place x.0 (distributed w))) M3 x.1.at
 
--- It is distributed in as many dimensions as the nodes array has.
-abbrev pub spread_right : List ℤ → List Form → Bool
-spread_right nodes forms = count_by is_distributed forms == length nodes
+-- It has one form for each dimension, and is distributed in as many dimensions as the nodes array has.
+abbrev pub spread_right : List ℤ → List ℤ → List Form → Bool
+spread_right nodes sizes forms = (length forms == length sizes) && (count_by is_distributed forms == length nodes)
 
 -- A cyclic width is 1 to 4,194,304; the lengths of a gblock are as many as the nodes along its dimension, none is negative,
 -- and their sum is the size.
@@ -170,7 +175,7 @@ is_first_distribution w x = is_at x.0 (first_place x.1.template (distributed w))
 
 abbrev pub distribution_rule : World → ℕ × Distribution → List Broken
 distribution_rule w x =
-    unless (is_first_distribution w x && spread_right (nodes_of w) x.1.forms) M3 x.1.at
+    unless (is_first_distribution w x && spread_right (nodes_of w) (template_sizes w x.1.template) x.1.forms) M3 x.1.at
     ++ unless (not (is_first_distribution w x) || forms_right x.1.forms (template_sizes w x.1.template) (nodes_of w)) M4 x.1.at
 
 -- ---- aligns
@@ -191,9 +196,9 @@ abbrev pub dummies_right : List Bool → List ℕ → Bool
 dummies_right dummies ds = list_all (λ x. not x.1 || is_some (first_place x.0 ds)) (enumerate_from 0 dummies)
 
 -- The point of a dimension of the template: a distributed one is named, the constant is small, and no coordinate of the
--- array leaves the template. A point that has no size is judged by another rule.
+-- array leaves the template.
 abbrev pub reaches : ℤ → ℤ → Option ℕ → Bool
-reaches size offset None = true
+reaches size offset None = false
 reaches size offset (Some extent) = int_le (pos 0) offset && int_le (offset +ℤ pos extent) size
 
 abbrev pub point_right : List ℕ → Bool → ℤ → AlignPoint → Bool
@@ -201,7 +206,7 @@ point_right extents spread size ap.Star = not spread
 point_right extents spread size (ap.Dummy d offset) = is_small offset && reaches size offset (slice_get extents d)
 
 abbrev pub point_fits : List ℕ → Bool → Option ℤ → AlignPoint → Bool
-point_fits extents spread None p = true
+point_fits extents spread None p = false
 point_fits extents spread (Some size) p = point_right extents spread size p
 
 abbrev pub points_right : List ℕ → List Form → List ℤ → List AlignPoint → Bool
@@ -212,10 +217,12 @@ points_right extents forms sizes points =
 abbrev pub is_first_align : World → ℕ × Align → Bool
 is_first_align w x = is_at x.0 (first_place x.1.array (aligned w))
 
+-- (A wrong number of dimensions or points breaks a rule of names as well.)
 abbrev pub align_right : World → Align → Bool
 align_right w a =
-    (all_different (dimensions_in a.points) && dummies_right a.dummies (dimensions_in a.points))
-    && points_right (extents_in (slice_get w.names.arrays a.array)) (forms_of w a.template) (template_sizes w a.template) a.points
+    ((length a.dummies == length (extents_in (slice_get w.names.arrays a.array))) && (one_to_three (length a.points) && (length a.points == length (template_sizes w a.template))))
+    && ((all_different (dimensions_in a.points) && dummies_right a.dummies (dimensions_in a.points))
+    && points_right (extents_in (slice_get w.names.arrays a.array)) (forms_of w a.template) (template_sizes w a.template) a.points)
 
 abbrev pub align_rule : World → ℕ × Align → List Broken
 align_rule w x = unless (is_first_align w x && (not w.names.coarray && align_right w x.1)) M5 x.1.at
@@ -241,10 +248,12 @@ width_right ds x =
 abbrev pub widths_right : List ℕ → List (ℤ × ℤ) → Bool
 widths_right ds widths = list_all (width_right ds) (enumerate_from 0 widths)
 
--- The array is aligned, and has one shadow.
+-- The array is aligned, and has one shadow, with widths for each of its dimensions.
 abbrev pub shadow_right : World → Option Align → Shadow → Bool
 shadow_right w None s = false
-shadow_right w (Some a) s = widths_right (interval_dimensions (forms_of w a.template) a.points) s.widths
+shadow_right w (Some a) s =
+    (length s.widths == length (extents_in (slice_get w.names.arrays s.array)))
+    && widths_right (interval_dimensions (forms_of w a.template) a.points) s.widths
 
 abbrev pub is_first_shadow : World → ℕ × Shadow → Bool
 is_first_shadow w x = is_at x.0 (first_place x.1.array (shadowed w))
@@ -263,14 +272,16 @@ loop_rule w x = unless (indexed_right (forms_of w x.1.template) x.1.indexed) M7 
 
 -- ---- cells
 
--- The cells of all arrays so far, in a program with a coarray once for each node, are at most 4,194,304.
+-- The cells of all arrays so far, in a program with a coarray once for each node, are at most 4,194,304. An array whose
+-- extents are wrong, which breaks a rule of names as well, can't be counted.
 abbrev pub copies : World → ℕ
 copies w = if w.names.coarray then number_of_nodes w else 1
 
 abbrev pub cells_from : ℕ → ℕ → List Array → List Broken
 cells_from copies before [] = []
 cells_from copies before (a ∷ more) =
-    unless (nat_le ((before + product a.extents) * copies) most_cells) M10 a.at ++ cells_from copies (before + product a.extents) more
+    unless (sizes_fit a.extents && nat_le ((before + product a.extents) * copies) most_cells) M10 a.at
+    ++ cells_from copies (before + product a.extents) more
 
 -- ---- all rules of mappings that are judged over the whole program
 

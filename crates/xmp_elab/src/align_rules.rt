@@ -1,10 +1,10 @@
 // The rules of aligns.
-ghost use Rattle.std.specs.Prelude.{◌≡◌, ◌++◌, IfOk, IsTrue, OnOk, option_copied, slice_get};
+ghost use Rattle.std.specs.Prelude.{◌≡◌, ◌++◌, ◌&&◌, IfOk, IsTrue, OnOk, option_copied, slice_get};
 ghost use Rattle.xmp_elab.specs.Directives.{extents_in, is_small};
 ghost use Rattle.xmp_elab.specs.MappingRules.{align_of, align_right, align_rule, align_rules, aligned, all_different, dimension_in, dimensions_in, distributed, distributes, dummies_right, point_fits, point_right, points_right, reaches};
 
 use crate::mappings::{Align, AlignPoint, Form};
-use crate::nodes_rules::judge;
+use crate::nodes_rules::{judge, one_to_three};
 use crate::numbers::Numbers;
 use crate::points::is_small;
 use crate::rules::{Broken, Rule};
@@ -36,7 +36,8 @@ pub(crate) fn align_of<'a>(w: &'a World, aligns: &Numbers, array: u32) -> Option
     }
 }
 
-fn extents_in(w: &World, array: u32) -> &[u32]
+/// The extents of an array.
+pub(crate) fn extents_in(w: &World, array: u32) -> &[u32]
     ensures { result.now ≡ extents_in (slice_get w.now.names.arrays array) }
 {
     match w.names.arrays.get(array as usize) {
@@ -94,7 +95,7 @@ fn reaches(size: i64, offset: i64, extent: Option<u32>) -> bool
 {
     match extent {
         Some(extent) => 0 <= offset && offset + i64::from(extent) <= size,
-        None => true,
+        None => false,
     }
 }
 
@@ -114,7 +115,7 @@ fn point_fits(extents: &[u32], spread: bool, size: Option<i64>, point: AlignPoin
 {
     match size {
         Some(size) => point_right(extents, spread, size, point),
-        None => true,
+        None => false,
     }
 }
 
@@ -136,6 +137,14 @@ fn points_right(extents: &[u32], forms: &[Form], sizes: &[i64], points: &[AlignP
     true
 }
 
+// Whether the points name no dimension twice, and each one with a dummy.
+fn names_right(alloc: Global, line: &Align) -> Result<bool, AllocError>
+    ensures { IfOk result (λ r. r ≡ (all_different (dimensions_in line.now.points) && dummies_right line.now.dummies (dimensions_in line.now.points))) }
+{
+    let dimensions = dimensions_in(alloc, line.points.as_slice())?;
+    Ok(all_different(&dimensions) && dummies_right(line.dummies.as_slice(), &dimensions))
+}
+
 fn align_right(
     alloc: Global,
     distributions: &Numbers,
@@ -146,12 +155,13 @@ fn align_right(
     ensures { IfOk result (λ r. r ≡ align_right w.now line.now) }
 {
     let points = line.points.as_slice();
-    let dimensions = dimensions_in(alloc, points)?;
-    let dummies = all_different(&dimensions) && dummies_right(line.dummies.as_slice(), &dimensions);
     let extents = extents_in(w, line.array);
     let forms = forms_of(w, distributions, line.template);
     let sizes = template_sizes(w, line.template);
-    Ok(dummies && points_right(extents, forms, sizes, points))
+    let numbers = line.dummies.len() == extents.len()
+        && (one_to_three(points.len()) && points.len() == sizes.len());
+    let names = names_right(alloc, line)?;
+    Ok(numbers && (names && points_right(extents, forms, sizes, points)))
 }
 
 fn align_rule(

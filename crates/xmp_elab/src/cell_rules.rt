@@ -1,6 +1,8 @@
 // How many cells the arrays of a program have.
-ghost use Rattle.std.specs.Prelude.{◌≡◌, ◌++◌, ◌+◌, OnOk, min};
+ghost use Rattle.std.specs.Prelude.{◌≡◌, ◌++◌, ◌+◌, ◌*◌, ◌&&◌, OnOk, min, nat_lt};
+ghost use Rattle.xmp_dist.specs.Valid.{is_extent};
 ghost use Rattle.xmp_map.specs.RowMajor.{product};
+ghost use Rattle.xmp_map.specs.Spread.{sizes_fit};
 ghost use Rattle.xmp_elab.specs.Declarations.{most_cells};
 ghost use Rattle.xmp_elab.specs.MappingRules.{cell_rules, copies, nodes_of, number_of_nodes};
 
@@ -19,6 +21,31 @@ fn cells_in(extents: &[u32]) -> u64
         product = limited_product(product, u64::from(*extent));
     }
     product
+}
+
+fn is_extent(n: u32) -> bool
+    ensures { result ≡ is_extent n }
+{
+    1 <= n && n <= 4_194_304
+}
+
+// Whether there are one to three extents, each of 1 to 4,194,304.
+fn sizes_fit(extents: &[u32]) -> bool
+    ensures { result ≡ sizes_fit extents.now }
+{
+    match extents {
+        [a] => is_extent(*a),
+        [a, b] => is_extent(*a) && is_extent(*b),
+        [a, b, c] => is_extent(*a) && is_extent(*b) && is_extent(*c),
+        _ => false,
+    }
+}
+
+// Whether an array can be counted, and so many cells so many times aren't too many.
+fn cells_right(extents: &[u32], cells: u64, times: u64) -> bool
+    ensures { result ≡ (sizes_fit extents.now && nat_lt (min (cells * times) (most_cells + 1)) (most_cells + 1)) }
+{
+    sizes_fit(extents) && limited_product(cells, times) < TOO_MANY
 }
 
 fn number_of_nodes(w: &World, nodes: &[i64]) -> u64
@@ -56,13 +83,10 @@ pub(crate) fn cell_rules(
     let mut before = 0u64;
     let arrays = w.names.arrays.as_slice();
     'arrays: for array in arrays {
-        let cells = (before + cells_in(array.extents.as_slice())).min(TOO_MANY);
-        judge(
-            broken,
-            limited_product(cells, times) < TOO_MANY,
-            Rule::M10,
-            array.at,
-        )?;
+        let extents = array.extents.as_slice();
+        let cells = (before + cells_in(extents)).min(TOO_MANY);
+        let right = cells_right(extents, cells, times);
+        judge(broken, right, Rule::M10, array.at)?;
         before = cells;
     }
     Ok(())

@@ -50,7 +50,7 @@ pub use program::walk_program;
 pub use rules::{Broken, Notes, Rule};
 pub use rules_of_mappings::mapping_rules;
 pub use typed::{Operand, Parts, Typed, Value};
-pub use verdict::{first_in, refusal_of};
+pub use verdict::refusal_of;
 pub use world::World;
 
 #[cfg(test)]
@@ -58,6 +58,6 @@ mod mapping_texts;
 #[cfg(test)]
 mod name_texts;
 #[cfg(test)]
-mod texts;
-#[cfg(test)]
 mod tests;
+#[cfg(test)]
+mod texts;

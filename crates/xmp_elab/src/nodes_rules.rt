@@ -1,5 +1,5 @@
 // The rules of the nodes array.
-ghost use Rattle.std.specs.Prelude.{◌≡◌, ◌++◌, ◌+◌, ◌*◌, ◌&&◌, IfOk, OnOk, int_le, min, nat_le, pos};
+ghost use Rattle.std.specs.Prelude.{◌≡◌, ◌++◌, ◌∷◌, [], ◌+◌, ◌*◌, ◌&&◌, IfOk, OnOk, int_le, min, nat_le, pos};
 ghost use Rattle.std.specs.List.{list_all};
 ghost use Rattle.xmp_elab.specs.Rules.{unless};
 ghost use Rattle.xmp_elab.specs.Declarations.{most_cells};
@@ -38,6 +38,14 @@ pub(crate) fn given_or_one(w: &World) -> u32
     }
 }
 
+fn one_size(alloc: Global, size: u32) -> Result<Items<i64>, AllocError>
+    ensures { IfOk result (λ sizes. sizes ≡ pos size ∷ []) }
+{
+    let mut sizes = Items::new(alloc);
+    sizes.push(i64::from(size))?;
+    Ok(sizes)
+}
+
 /// The sizes of a nodes array.
 pub(crate) fn line_sizes(
     alloc: Global,
@@ -48,21 +56,17 @@ pub(crate) fn line_sizes(
 {
     match &line.sizes {
         Some(sizes) => Items::from_slice(alloc, sizes.as_slice()),
-        None => {
-            let mut sizes = Items::new(alloc);
-            sizes.push(i64::from(given))?;
-            Ok(sizes)
-        }
+        None => one_size(alloc, given),
     }
 }
 
-/// The sizes of the first nodes array; none where there is none.
+/// The sizes of the first nodes array; where there is none all nodes stand in a row.
 pub(crate) fn nodes_of(alloc: Global, w: &World) -> Result<Items<i64>, AllocError>
     ensures { IfOk result (λ sizes. sizes ≡ nodes_of w.now) }
 {
     match w.mappings.nodes.get(0) {
         Some(line) => line_sizes(alloc, given_or_one(w), line),
-        None => Ok(Items::new(alloc)),
+        None => one_size(alloc, given_or_one(w)),
     }
 }
 

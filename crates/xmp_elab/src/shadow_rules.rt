@@ -2,7 +2,7 @@
 ghost use Rattle.std.specs.Prelude.{◌≡◌, ◌++◌, ◌||◌, IfOk, OnOk, not, slice_get};
 ghost use Rattle.xmp_elab.specs.MappingRules.{align_of, aligned, distributed, distributes, indexed_right, interval_dimension, interval_dimensions, is_width, loop_rule, loop_rules, shadow_right, shadow_rule, shadow_rules, shadowed, spans_intervals, width_right, widths_right};
 
-use crate::align_rules::{add_dimension, align_of};
+use crate::align_rules::{add_dimension, align_of, extents_in};
 use crate::mappings::{AlignPoint, Form, LoopUse, Shadow};
 use crate::nodes_rules::judge;
 use crate::numbers::Numbers;
@@ -104,7 +104,9 @@ fn shadow_right(
         Some(align) => {
             let forms = forms_of(w, distributions, align.template);
             let dimensions = interval_dimensions(alloc, forms, align.points.as_slice())?;
-            Ok(widths_right(&dimensions, line.widths.as_slice()))
+            let widths = line.widths.as_slice();
+            let extents = extents_in(w, line.array);
+            Ok(widths.len() == extents.len() && widths_right(&dimensions, widths))
         }
         None => Ok(false),
     }

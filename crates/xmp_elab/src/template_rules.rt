@@ -168,10 +168,10 @@ fn distributed_dimensions(forms: &[Form]) -> usize
     count
 }
 
-fn spread_right(nodes: &[i64], forms: &[Form]) -> bool
-    ensures { result ≡ spread_right nodes.now forms.now }
+fn spread_right(nodes: &[i64], sizes: &[i64], forms: &[Form]) -> bool
+    ensures { result ≡ spread_right nodes.now sizes.now forms.now }
 {
-    distributed_dimensions(forms) == nodes.len()
+    forms.len() == sizes.len() && distributed_dimensions(forms) == nodes.len()
 }
 
 fn none_negative(lengths: &[i64]) -> bool
@@ -278,9 +278,10 @@ fn distribution_rule(
 {
     let first = is_at(i, distributions.first_place(line.template as usize));
     let forms = line.forms.as_slice();
-    let spread = first && spread_right(nodes, forms);
+    let sizes = template_sizes(w, line.template);
+    let spread = first && spread_right(nodes, sizes, forms);
     judge(broken, spread, Rule::M3, line.at)?;
-    let chunks = !first || forms_right(forms, template_sizes(w, line.template), nodes);
+    let chunks = !first || forms_right(forms, sizes, nodes);
     judge(broken, chunks, Rule::M4, line.at)
 }
 

@@ -1,9 +1,9 @@
 // The verdict on the names and mappings of a program.
 ghost use Rattle.std.specs.Prelude.{◌≡◌};
-ghost use Rattle.xmp_elab.specs.Verdict.{first_in, is_of_names, number_of, refusal_of};
+ghost use Rattle.xmp_elab.specs.Verdict.{is_of_names, number_of, refusal_of};
 
 use crate::rules::{Broken, Rule};
-use xmp_base::{Phase, Refusal, earlier};
+use xmp_base::{Phase, Refusal};
 
 /// The number of a rule in its phase.
 pub(crate) fn number_of(rule: Rule) -> u16
@@ -64,17 +64,4 @@ pub fn refusal_of(broken: Broken) -> Refusal
         rule: number_of(broken.rule),
         at: broken.at,
     }
-}
-
-/// The first refusal of a list of broken rules.
-pub fn first_in(list: &[Broken]) -> Option<Refusal>
-    ensures { result ≡ first_in list.now }
-{
-    let mut first = None;
-    let mut left = list.len();
-    'list: for _broken in list {
-        left -= 1;
-        first = earlier(Some(refusal_of(list[left])), first);
-    }
-    first
 }
