@@ -61,3 +61,5 @@ mod name_texts;
 mod tests;
 #[cfg(test)]
 mod texts;
+#[cfg(test)]
+mod value_texts;

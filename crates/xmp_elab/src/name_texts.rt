@@ -299,7 +299,7 @@ fn large_programs_are_judged(rt: HostRuntime) -> Result<(), Fail> {
 fn deep_loops_are_judged(rt: HostRuntime) -> Result<(), Fail> {
     let mut text = String::new(rt.alloc());
     text.push_str("int i;int main(){")?;
-    repeat(&mut text, "for(i=0;i<9;i++)", 126)?;
+    repeat(&mut text, "for(i=0;i<9;i++)", 125)?;
     text.push_str(";}")?;
     assert_eq!(rt; judged(rt.alloc(), text.as_bytes(), None), None);
     Ok(())
