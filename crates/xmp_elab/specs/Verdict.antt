@@ -1,6 +1,7 @@
 -- The verdict on the names and mappings of a program: the first rule of names that breaks, or, where none does, the first
 -- rule of mappings that breaks: by place, and at one place by number. Source: this project.
-use Rattle.std.specs.Prelude.{ℕ, Bool, true, false, List, [], ◌∷◌, ◌++◌, map, filter, not, Option, Some, None}
+use Rattle.std.specs.Prelude.{◌≡◌, ℕ, Bool, true, false, List, [], ◌∷◌, ◌++◌, map, filter, not, Option, Some, None}
+use Rattle.std.specs.List.{Any}
 use Rattle.xmp_base.specs.declared.refusal.Phase.{Phase}
 use Rattle.xmp_base.specs.declared.refusal.Phase.TheVariants as phase
 use Rattle.xmp_base.specs.declared.refusal.Refusal.{Refusal}
@@ -55,6 +56,10 @@ phase_in false = phase.Mapping
 
 abbrev pub refusal_of : Broken → Refusal
 refusal_of b = record { phase = phase_in (is_of_names b.rule); rule = number_of b.rule; at = b.at }
+
+-- A refusal is that of a rule in a list.
+abbrev pub IsIn : List Broken → Refusal → Type 0
+IsIn bs r = Any (λ b. r ≡ refusal_of b) bs
 
 -- The first refusal of a list.
 abbrev pub first_in : List Broken → Option Refusal

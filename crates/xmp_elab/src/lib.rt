@@ -48,7 +48,7 @@ pub use program::walk_program;
 pub use rules::{Broken, Notes, Rule};
 pub use rules_of_mappings::mapping_rules;
 pub use typed::{Operand, Parts, Typed, Value};
-pub use verdict::{first_in, refusal_of};
+pub use verdict::{first_in, refusal_of, verdict_of};
 pub use world::World;
 
 #[cfg(test)]
