@@ -45,7 +45,7 @@ same_first P Q None to from h = λ r q. h r (from r q)
 same_first P Q (Some a) to from h = (to a h.0, λ r q. h.1 r (from r q))
 
 pub first_is : (bs : List Broken) → IsFirst (IsIn bs) (first_in bs)
-first_is [] = λ r s. omega (arith, s.2.2.0)
+first_is [] = λ r s. omega (arith, s.2)
 first_is (b ∷ bs) =
     same_first (λ r. (r ≡ refusal_of b) ⊎ IsIn bs r) (IsIn (b ∷ bs)) (first_in (b ∷ bs))
     (λ r s. ⊎_elim (in_first r b bs) (in_rest r b bs) s) (λ r s. in_either r b bs s)
