@@ -1,6 +1,7 @@
 -- The verdict on the names and mappings of a program: the first rule of names that breaks, or, where none does, the first
 -- rule of mappings that breaks: by place, and at one place by number. Source: this project.
-use Rattle.std.specs.Prelude.{ℕ, Bool, true, false, List, [], ◌∷◌, ◌++◌, map, filter, not, Option, Some, None}
+use Rattle.std.specs.Prelude.{◌≡◌, ℕ, Bool, true, false, List, [], ◌∷◌, ◌++◌, map, filter, not, Option, Some, None}
+use Rattle.std.specs.List.{Any}
 use Rattle.xmp_base.specs.declared.refusal.Phase.{Phase}
 use Rattle.xmp_base.specs.declared.refusal.Phase.TheVariants as phase
 use Rattle.xmp_base.specs.declared.refusal.Refusal.{Refusal}
@@ -56,17 +57,14 @@ phase_in false = phase.Mapping
 abbrev pub refusal_of : Broken → Refusal
 refusal_of b = record { phase = phase_in (is_of_names b.rule); rule = number_of b.rule; at = b.at }
 
--- The first refusal of a list, and one that stands behind it.
-abbrev pub first_before : List Broken → Option Refusal → Option Refusal
-first_before [] behind = behind
-first_before (b ∷ bs) behind = first_of (Some (refusal_of b)) (first_before bs behind)
+-- A refusal is that of a rule in a list.
+abbrev pub IsIn : List Broken → Refusal → Type 0
+IsIn bs r = Any (λ b. r ≡ refusal_of b) bs
 
-abbrev pub is_of_phase : Bool → Broken → Bool
-is_of_phase true b = is_of_names b.rule
-is_of_phase false b = not (is_of_names b.rule)
-
-abbrev pub first_of_phase : Bool → List Broken → Option Refusal
-first_of_phase names bs = first_before (filter (is_of_phase names) bs) None
+-- The first refusal of a list.
+abbrev pub first_in : List Broken → Option Refusal
+first_in [] = None
+first_in (b ∷ bs) = first_of (Some (refusal_of b)) (first_in bs)
 
 -- All rules that break in a program, and its verdict.
 abbrev pub broken_in : World → List Broken
@@ -74,10 +72,10 @@ broken_in w = w.broken ++ mapping_rules w
 
 abbrev pub after_names : Option Refusal → List Broken → Option Refusal
 after_names (Some r) bs = Some r
-after_names None bs = first_of_phase false bs
+after_names None bs = first_in bs
 
 abbrev pub verdict_of : List Broken → Option Refusal
-verdict_of bs = after_names (first_of_phase true bs) bs
+verdict_of bs = after_names (first_in (filter (λ b. is_of_names b.rule) bs)) (filter (λ b. not (is_of_names b.rule)) bs)
 
 abbrev pub world_after : Step Stmt → World
 world_after (Gave body w) = w

@@ -50,7 +50,7 @@ pub use program::walk_program;
 pub use rules::{Broken, Notes, Rule};
 pub use rules_of_mappings::mapping_rules;
 pub use typed::{Operand, Parts, Typed, Value};
-pub use verdict::refusal_of;
+pub use verdict::{first_in, refusal_of, verdict_of};
 pub use world::World;
 
 #[cfg(test)]

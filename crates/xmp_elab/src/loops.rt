@@ -1,5 +1,5 @@
 // A `for` before and behind its body.
-ghost use Rattle.std.specs.Prelude.{◌≡◌, ◌∷◌, IfOk};
+ghost use Rattle.std.specs.Prelude.{◌≡◌, ◌∷◌, IfOk, Some};
 ghost use Rattle.xmp_prog.specs.declared.expressions.Expr.{out-Expr};
 ghost use Rattle.xmp_prog.specs.declared.statements.Stmt.{out-Stmt};
 ghost use Rattle.xmp_prog.specs.declared.statements.Stmt.TheVariants as stmt;
@@ -442,22 +442,33 @@ fn uncounted(
     Ok(prog::Stmt::Block(list))
 }
 
+fn counted_from(
+    alloc: Global,
+    shape: Shape,
+    first: First,
+    test: Option<Operand>,
+    body: prog::Stmt,
+) -> Result<prog::Stmt, AllocError>
+    ensures { IfOk result (λ s. s ≡ counted_with shape (Some first) test body) }
+{
+    match test {
+        Some(test) => counted_loop(alloc, shape, first, test, body),
+        None => Ok(body),
+    }
+}
+
 fn counted_with(
     alloc: Global,
     shape: Shape,
-    parts: ForParts,
+    first: Option<First>,
+    test: Option<Operand>,
     body: prog::Stmt,
 ) -> Result<prog::Stmt, AllocError>
-    ensures { IfOk result (λ s. s ≡ counted_with shape parts.first parts.test body) }
+    ensures { IfOk result (λ s. s ≡ counted_with shape first test body) }
 {
-    let ForParts {
-        first,
-        test,
-        next: _,
-    } = parts;
-    match (first, test) {
-        (Some(first), Some(test)) => counted_loop(alloc, shape, first, test, body),
-        _ => Ok(body),
+    match first {
+        Some(first) => counted_from(alloc, shape, first, test, body),
+        None => Ok(body),
     }
 }
 
@@ -471,7 +482,10 @@ pub(crate) fn loop_of(
     ensures { IfOk result (λ s. s ≡ loop_of head.now parts body) }
 {
     match shape_of(head, &parts, &body) {
-        Some(shape) => counted_with(alloc, shape, parts, body),
+        Some(shape) => {
+            let ForParts { first, test, .. } = parts;
+            counted_with(alloc, shape, first, test, body)
+        }
         None => uncounted(alloc, head.word, parts, body),
     }
 }

@@ -1,9 +1,10 @@
 // The verdict on the names and mappings of a program.
-ghost use Rattle.std.specs.Prelude.{◌≡◌};
-ghost use Rattle.xmp_elab.specs.Verdict.{is_of_names, number_of, refusal_of};
+ghost use Rattle.std.specs.Prelude.{◌≡◌, filter, if◌then◌else◌, not, Some};
+ghost use Rattle.xmp_base.specs.First.{first_of, IsFirst};
+ghost use Rattle.xmp_elab.specs.Verdict.{first_in, is_of_names, IsIn, number_of, refusal_of, verdict_of};
 
 use crate::rules::{Broken, Rule};
-use xmp_base::{Phase, Refusal};
+use xmp_base::{Phase, Refusal, earlier};
 
 /// The number of a rule in its phase.
 pub(crate) fn number_of(rule: Rule) -> u16
@@ -63,5 +64,67 @@ pub fn refusal_of(broken: Broken) -> Refusal
         phase,
         rule: number_of(broken.rule),
         at: broken.at,
+    }
+}
+
+/// The first refusal of a list of broken rules, which are of one phase.
+pub fn first_in(list: &[Broken]) -> Option<Refusal>
+    ensures value { result ≡ first_in list.now }
+    ensures least { IsFirst (IsIn list.now) result }
+{
+    let mut first = None;
+    let mut left = list.len();
+    'list: for _broken in list {
+        left -= 1;
+        first = earlier(Some(refusal_of(list[left])), first);
+    }
+    first
+}
+
+// The first refusal after one more broken rule, where that is one of the rules that are looked for.
+fn first_if(test: bool, broken: Broken, first: Option<Refusal>) -> Option<Refusal>
+    ensures { result ≡ (if test then first_of (Some (refusal_of broken)) first else first) }
+{
+    if test {
+        earlier(Some(refusal_of(broken)), first)
+    } else {
+        first
+    }
+}
+
+// The first refusal of the rules of names in a list.
+fn first_of_names(list: &[Broken]) -> Option<Refusal>
+    ensures { result ≡ first_in (filter (λ b. is_of_names b.rule) list.now) }
+{
+    let mut first = None;
+    let mut left = list.len();
+    'list: for _broken in list {
+        left -= 1;
+        first = first_if(is_of_names(list[left].rule), list[left], first);
+    }
+    first
+}
+
+// The first refusal of the rules of mappings in a list.
+fn first_of_mappings(list: &[Broken]) -> Option<Refusal>
+    ensures { result ≡ first_in (filter (λ b. not (is_of_names b.rule)) list.now) }
+{
+    let mut first = None;
+    let mut left = list.len();
+    'list: for _broken in list {
+        left -= 1;
+        first = first_if(!is_of_names(list[left].rule), list[left], first);
+    }
+    first
+}
+
+/// The verdict on the broken rules of a program: the first of the rules of names, or, where none of these breaks, the
+/// first of the rules of mappings.
+pub fn verdict_of(list: &[Broken]) -> Option<Refusal>
+    ensures { result ≡ verdict_of list.now }
+{
+    match first_of_names(list) {
+        Some(refusal) => Some(refusal),
+        None => first_of_mappings(list),
     }
 }

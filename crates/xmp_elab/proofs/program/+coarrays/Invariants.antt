@@ -1,7 +1,7 @@
 use Rattle.std.proofs.Common.{◌≡◌, map, drop}
 use Rattle.std.specs.List.{list_any}
 use Rattle.xmp_elab.specs.Program.{coarray_in, coarray_stmt}
-use Rattle.xmp_elab.proofs.program.+statement_has.Given as goal
+use Rattle.xmp_elab.proofs.program.+coarrays.Given as goal
 
 -- what is left to do from here gives what the whole gives
 abbrev pub invariant-items_have-list : goal.invariant-items_have-list
