@@ -15,6 +15,7 @@ mod directives;
 mod expressions;
 mod formats;
 mod functions;
+mod indices;
 mod loop_lines;
 mod loops;
 mod mapping_lines;
