@@ -1,6 +1,6 @@
 -- The heads of a nest, one after the other.
-use Rattle.std.proofs.Common.{◌≡◌, ◌∙◌, ◌<◌, ◌+◌, ◌-◌, ◌++◌, ℕ, zero, suc, refl, sym, ap, List, [], ◌∷◌, append_assoc, arith}
-use Rattle.std.specs.Prelude.{Option, None, Some}
+use Rattle.std.proofs.Common.{◌≡◌, ◌∙◌, ◌<◌, ◌≤◌, ◌+◌, ◌-◌, ◌++◌, ℕ, zero, suc, refl, sym, ap, Bool, false, List, [], ◌∷◌, append_assoc, arith}
+use Rattle.std.specs.Prelude.{Option, None, Some, is_some}
 use Rattle.xmp_prog.specs.declared.statements.LoopHead.{LoopHead}
 use Rattle.std.proofs.lemmas.List.{append-nil}
 use Rattle.xmp_prog.specs.declared.statements.Stmt.{Stmt, out-Stmt, out-roll-Stmt}
@@ -57,3 +57,23 @@ more_in_block (a ∷ b ∷ rest) x h = head_of_block (a ∷ b ∷ (rest ++ x ∷
 
 pub several_in_block : (ss front : List Stmt) (x : Stmt) → ss ≡ front ++ x ∷ [] → (front ≡ [] → ⊥) → head_of (stmt.Block ss) ≡ None
 several_in_block ss front x e h = ap (λ l. head_of (stmt.Block l)) e ∙ more_in_block front x h
+
+-- ---- one more loop of a nest
+
+pub next_head : (hs : List LoopHead) (count i : ℕ) (s body : Stmt) (h : LoopHead) → i < count → head_of s ≡ Some (h, body) →
+    behind hs (nest_of (count - i) s) ≡ behind (hs ++ h ∷ []) (nest_of (count - (i + 1)) body)
+next_head hs count i s body h lt e =
+    let k : count - i ≡ suc (count - (i + 1)) = omega arith in
+    ap (λ n. behind hs (nest_of n s)) k ∙ one_more hs (count - (i + 1)) s body h e
+
+none_there : {A : Type 0} (o : Option A) → is_some o ≡ false → o ≡ None
+none_there None h = refl
+none_there (Some x) h = cc
+
+pub no_head : (hs : List LoopHead) (n : ℕ) (s : Stmt) → is_some (head_of s) ≡ false → behind hs (nest_of n s) ≡ (hs, s)
+no_head hs n s e = no_more hs n s (none_there (head_of s) e) ∙ stops hs s
+
+pub all_heads : (hs : List LoopHead) (count i : ℕ) (s : Stmt) → count ≤ i → behind hs (nest_of (count - i) s) ≡ (hs, s)
+all_heads hs count i s le =
+    let k : count - i ≡ 0 = omega arith in
+    ap (λ n. behind hs (nest_of n s)) k ∙ stops hs s

@@ -21,11 +21,12 @@ three f d rs a b c l p q r e =
 both : (n : NodeSet) (f m : List ℕ) → n.first ≡ f → n.many ≡ m → n ≡ record { first = f; many = m }
 both n f m p q = rw (sym p) (rw (sym q) refl)
 
-pub box_is : (sizes : List ℤ) (rs : List (ℤ × ℤ)) (a b c : ℤ × ℤ) (n : NodeSet) → is_box sizes rs ≡ true →
+pub box_is : (sizes : List ℤ) (rs : List (ℤ × ℤ)) (a b c : ℤ × ℤ) (f1 f2 f3 m1 m2 m3 : ℕ) → is_box sizes rs ≡ true →
     a ≡ unwrap_or (slice_get rs 0) (pos 0, pos 1) → b ≡ unwrap_or (slice_get rs 1) (pos 0, pos 1) → c ≡ unwrap_or (slice_get rs 2) (pos 0, pos 1) →
-    n.first ≡ node_number a.0 ∷ node_number b.0 ∷ node_number c.0 ∷ [] → n.many ≡ node_number a.1 ∷ node_number b.1 ∷ node_number c.1 ∷ [] →
-    n ≡ box_of sizes rs
-box_is sizes rs a b c n t p q r f m =
-    both n (filled 0 (map (λ x. node_number x.0) rs)) (filled 1 (map (λ x. node_number x.1) rs))
-    (three (λ x. node_number x.0) (pos 0, pos 1) rs a b c n.first p q r f) (three (λ x. node_number x.1) (pos 0, pos 1) rs a b c n.many p q r m)
+    f1 ≡ node_number a.0 → f2 ≡ node_number b.0 → f3 ≡ node_number c.0 → m1 ≡ node_number a.1 → m2 ≡ node_number b.1 → m3 ≡ node_number c.1 →
+    let n : NodeSet = record { first = f1 ∷ f2 ∷ f3 ∷ []; many = m1 ∷ m2 ∷ m3 ∷ [] } in n ≡ box_of sizes rs
+box_is sizes rs a b c f1 f2 f3 m1 m2 m3 t p q r d e f g h i =
+    both (record { first = f1 ∷ f2 ∷ f3 ∷ []; many = m1 ∷ m2 ∷ m3 ∷ [] }) (filled 0 (map (λ x. node_number x.0) rs)) (filled 1 (map (λ x. node_number x.1) rs))
+    (three (λ x. node_number x.0) (pos 0, pos 1) rs a b c (f1 ∷ f2 ∷ f3 ∷ []) p q r (rw (d, e, f) refl))
+    (three (λ x. node_number x.1) (pos 0, pos 1) rs a b c (m1 ∷ m2 ∷ m3 ∷ []) p q r (rw (g, h, i) refl))
     ∙ sym (rw t refl)

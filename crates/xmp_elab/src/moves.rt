@@ -1,5 +1,5 @@
 // The directive `gmove`.
-ghost use Rattle.std.specs.Prelude.{◌≡◌, [], IfOk, Some, drop, slice_get};
+ghost use Rattle.std.specs.Prelude.{◌≡◌, [], IfOk, Some, drop, false, slice_get};
 ghost use Rattle.std.specs.List.{count_by};
 ghost use Rattle.xmp_elab.specs.Walk.{Does, and_then, judge, pure};
 ghost use Rattle.xmp_elab.specs.Declarations.{inner};
