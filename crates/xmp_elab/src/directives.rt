@@ -1,6 +1,8 @@
 // Directives with no statement inside: reflect, barrier and bcast, and sets of nodes.
-ghost use Rattle.std.specs.Prelude.{◌≡◌, FitsSigned, IfOk, int_le, pos};
+ghost use Rattle.std.specs.Prelude.{◌≡◌, FitsSigned, IfOk, None, int_le, pos, slice_get};
+ghost use Rattle.std.specs.Int.{w32};
 ghost use Rattle.std.specs.List.{list_all};
+ghost use Rattle.std.specs.Option.{unwrap_or};
 ghost use Rattle.xmp_elab.specs.Walk.{Does, Gave, each};
 ghost use Rattle.xmp_elab.specs.Declarations.{inner, listed};
 ghost use Rattle.xmp_elab.specs.Directives.{array_name, barrier_of, bcast_of, box_of, count_of, index_name, is_box, is_one, limited, line_sizes, node_number, nodes_sizes, range_of, range_right, ranges, ranges_right, reflect_of, scalar_name, set_of, set_part, slot_or_zero};
@@ -227,7 +229,7 @@ impl World {
 /// A constant that is small; one that isn't is kept as the next number.
 pub(crate) fn small_or_next(c: i64) -> i32
     ensures value { result ≡ limited c }
-    ensures range { FitsSigned 31 result }
+    ensures range { FitsSigned w32 result }
 {
     if c <= 4_194_304 && -4_194_304 <= c {
         c as i32
@@ -259,6 +261,15 @@ fn range_of(size: i64, part: Option<(i64, i64)>) -> (i64, i64)
     }
 }
 
+fn part_at(parts: &[Option<(i64, i64)>], dimension: usize) -> Option<(i64, i64)>
+    ensures { result ≡ unwrap_or (slice_get parts.now dimension) None }
+{
+    match parts.get(dimension) {
+        Some(part) => *part,
+        None => None,
+    }
+}
+
 // The box of a set: a set without subscripts is the whole array.
 fn ranges(
     alloc: Global,
@@ -268,15 +279,8 @@ fn ranges(
     ensures { IfOk result (λ rs. rs ≡ ranges sizes.now parts.now) }
 {
     let mut done = Items::new(alloc);
-    let mut left = parts;
-    'sizes: for size in sizes {
-        match left.split_first() {
-            Some((part, rest)) => {
-                done.push(range_of(*size, *part))?;
-                left = rest;
-            }
-            None => done.push((0, *size))?,
-        }
+    'sizes: for (i, size) in sizes.iter().enumerate() {
+        done.push(range_of(*size, part_at(parts, i)))?;
     }
     Ok(done)
 }
@@ -295,16 +299,12 @@ fn range_right(size: i64, range: (i64, i64)) -> bool
 fn ranges_right(sizes: &[i64], ranges: &[(i64, i64)]) -> bool
     ensures { result ≡ ranges_right sizes.now ranges.now }
 {
-    let mut left = ranges;
-    'sizes: for size in sizes {
-        match left.split_first() {
-            Some((range, rest)) => {
-                if !range_right(*size, *range) {
-                    return false;
-                }
-                left = rest;
-            }
-            None => return true,
+    'sizes: for (i, size) in sizes.iter().enumerate() {
+        let Some(range) = ranges.get(i) else {
+            return true;
+        };
+        if !range_right(*size, *range) {
+            return false;
         }
     }
     true
@@ -313,7 +313,7 @@ fn ranges_right(sizes: &[i64], ranges: &[(i64, i64)]) -> bool
 fn is_one(ranges: &[(i64, i64)]) -> bool
     ensures { result ≡ is_one ranges.now }
 {
-    'ranges: for range in ranges {
+    'list: for range in ranges {
         if 1 < range.1 {
             return false;
         }
@@ -345,28 +345,31 @@ fn is_box(sizes: &[i64], ranges: &[(i64, i64)]) -> bool
     ranges_right(sizes, ranges) && are_small(sizes) && sizes.len() <= 3
 }
 
+// The range in a dimension; the first node's in one that the nodes array hasn't.
+fn range_at(ranges: &[(i64, i64)], dimension: usize) -> (i64, i64)
+    ensures { result ≡ unwrap_or (slice_get ranges.now dimension) (pos 0, pos 1) }
+{
+    match ranges.get(dimension) {
+        Some(range) => *range,
+        None => (0, 1),
+    }
+}
+
 // The box that stands in the typed program; the first node's where a rule breaks.
 fn box_of(sizes: &[i64], ranges: &[(i64, i64)]) -> NodeSet
     ensures { result ≡ box_of sizes.now ranges.now }
 {
-    let mut nodes = NodeSet {
-        first: [0, 0, 0],
-        many: [1, 1, 1],
-    };
     if !is_box(sizes, ranges) {
-        return nodes;
+        return NodeSet {
+            first: [0, 0, 0],
+            many: [1, 1, 1],
+        };
     }
-    nodes = match ranges {
-        [] => nodes,
-        [a] => NodeSet { first: [node_number(a.0), 0, 0], many: [node_number(a.1), 1, 1] },
-        [a, b] => NodeSet {
-            first: [node_number(a.0), node_number(b.0), 0],
-            many: [node_number(a.1), node_number(b.1), 1],
-        },
-        [a, b, c, ..] => NodeSet {
-            first: [node_number(a.0), node_number(b.0), node_number(c.0)],
-            many: [node_number(a.1), node_number(b.1), node_number(c.1)],
-        },
-    };
-    nodes
+    let a = range_at(ranges, 0);
+    let b = range_at(ranges, 1);
+    let c = range_at(ranges, 2);
+    NodeSet {
+        first: [node_number(a.0), node_number(b.0), node_number(c.0)],
+        many: [node_number(a.1), node_number(b.1), node_number(c.1)],
+    }
 }

@@ -16,6 +16,7 @@ mod expressions;
 mod formats;
 mod functions;
 mod judged;
+mod indices;
 mod loop_lines;
 mod loops;
 mod mapping_lines;

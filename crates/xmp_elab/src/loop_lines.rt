@@ -1,18 +1,15 @@
 // The lines of loop directives, and the nests of loops under them.
-ghost use Rattle.std.specs.Prelude.{◌≡◌, ◌==◌, [], IfOk, is_some, map};
+ghost use Rattle.std.specs.Prelude.{◌≡◌, [], IfOk, is_some, map};
 ghost use Rattle.std.specs.Option.{unwrap_or};
 ghost use Rattle.xmp_prog.specs.declared.statements.Stmt.{out-Stmt};
 ghost use Rattle.xmp_prog.specs.declared.statements.Stmt.TheVariants as stmt;
-ghost use Rattle.std.specs.List.{count_by, list_all};
-ghost use Rattle.xmp_prog.specs.Numbers.{is_in};
-ghost use Rattle.xmp_prog.specs.Statements.{indices_of};
 ghost use Rattle.xmp_elab.specs.Walk.{Does, each, if_there};
 ghost use Rattle.xmp_elab.specs.Declarations.{inner, listed};
-ghost use Rattle.xmp_elab.specs.Directives.{counted_in, head_of, is_indexed, is_small_point, judged_loop, loop_line, loop_right, made_loop, made_of_point, mark_operation, name_list, names_or, nest_of, operation_of, point_of, reduction_name, reductions_of, same_numbers, slots_of_points, use_template};
+ghost use Rattle.xmp_elab.specs.Directives.{counted_in, head_of, is_indexed, judged_loop, loop_line, made_loop, made_of_point, mark_operation, name_list, names_or, nest_of, operation_of, point_of, reduction_name, reductions_of, slots_of_points, use_template};
 
 use crate::directives::small_or_next;
+use crate::indices::{loop_right, slots_of_points};
 use crate::mappings::LoopUse;
-use crate::points::is_small;
 use crate::rules::Rule;
 use crate::world::World;
 use sqlite_items::{Boxed, Items};
@@ -219,22 +216,6 @@ fn operation_of(operator: &ReductionOperator) -> RedOp
     }
 }
 
-// The slots of the indices in points.
-fn slots_of_points(
-    alloc: Global,
-    points: &[Option<(u32, i64)>],
-) -> Result<Items<u32>, AllocError>
-    ensures { IfOk result (λ slots. slots ≡ slots_of_points points.now) }
-{
-    let mut done = Items::new(alloc);
-    'points: for point in points {
-        if let Some((slot, _)) = *point {
-            done.push(slot)?;
-        }
-    }
-    Ok(done)
-}
-
 fn names_or(
     alloc: Global,
     names: Option<Items<u32>>,
@@ -284,107 +265,6 @@ fn made_of_point(point: Option<(u32, i64)>) -> prog::Point
     }
 }
 
-// ---- whether the names are the indices of the nest
-
-fn same_indices(names: &[u32], nest: &[LoopHead]) -> bool
-    ensures { result ≡ same_numbers names.now (indices_of nest.now) }
-{
-    let mut left = nest;
-    'names: for name in names {
-        match left.split_first() {
-            Some((head, rest)) => {
-                if *name != head.index.number {
-                    return false;
-                }
-                left = rest;
-            }
-            None => return false,
-        }
-    }
-    left.is_empty()
-}
-
-fn is_in(numbers: &[u32], n: u32) -> bool
-    ensures { result ≡ is_in numbers.now n }
-{
-    'numbers: for number in numbers {
-        if *number == n {
-            return true;
-        }
-    }
-    false
-}
-
-fn count_of(numbers: &[u32], n: u32) -> usize
-    ensures { result ≡ count_by (λ j. j == n) numbers.now }
-{
-    let mut count = 0usize;
-    'numbers: for number in numbers {
-        if *number == n {
-            count += 1;
-        }
-    }
-    count
-}
-
-fn each_in_one(names: &[u32], slots: &[u32]) -> bool
-    ensures { result ≡ list_all (λ i. count_by (λ j. j == i) slots.now == 1) names.now }
-{
-    'names: for name in names {
-        if count_of(slots, *name) != 1 {
-            return false;
-        }
-    }
-    true
-}
-
-fn all_in(names: &[u32], slots: &[u32]) -> bool
-    ensures { result ≡ list_all (is_in names.now) slots.now }
-{
-    'slots: for slot in slots {
-        if !is_in(names, *slot) {
-            return false;
-        }
-    }
-    true
-}
-
-fn is_small_point(point: Option<(u32, i64)>) -> bool
-    ensures { result ≡ is_small_point point }
-{
-    match point {
-        Some((_, offset)) => is_small(offset),
-        None => true,
-    }
-}
-
-fn all_small(points: &[Option<(u32, i64)>]) -> bool
-    ensures { result ≡ list_all is_small_point points.now }
-{
-    'points: for point in points {
-        if !is_small_point(*point) {
-            return false;
-        }
-    }
-    true
-}
-
-fn loop_right(
-    alloc: Global,
-    names: &[u32],
-    points: &[Option<(u32, i64)>],
-    nest: &[LoopHead],
-) -> Result<bool, AllocError>
-    ensures { IfOk result (λ right. right ≡ loop_right names.now points.now nest.now) }
-{
-    let slots = slots_of_points(alloc, points)?;
-    let right = same_indices(names, nest)
-        && each_in_one(names, slots.as_slice())
-        && all_in(names, slots.as_slice())
-        && all_small(points);
-    Ok(right)
-}
-
 // ---- the nest
 
 fn is_counted_loop(s: &Stmt) -> bool
@@ -431,11 +311,14 @@ fn head_of(s: Stmt) -> Option<(LoopHead, Stmt)>
 fn head_in_block(mut list: Items<Stmt>) -> Option<(LoopHead, Stmt)>
     ensures { result ≡ head_of (stmt.Block list) }
 {
-    if list.len() != 1 {
-        return None;
-    }
     match list.pop() {
-        Some(inner) => counted_loop(inner),
+        Some(last) => {
+            if list.is_empty() {
+                counted_loop(last)
+            } else {
+                None
+            }
+        }
         None => None,
     }
 }
@@ -459,7 +342,7 @@ pub(crate) fn nest_of(
                 heads.push(head)?;
                 left = body;
             }
-            None => return Err(AllocError),
+            None => unreachable!(),
         }
     }
     Ok((heads, left))

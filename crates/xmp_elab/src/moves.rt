@@ -1,6 +1,7 @@
 // The directive `gmove`.
-ghost use Rattle.std.specs.Prelude.{◌≡◌, [], IfOk, Some, drop, slice_get};
-ghost use Rattle.xmp_elab.specs.Walk.{Does, ◌>>=◌, judge, pure};
+ghost use Rattle.std.specs.Prelude.{◌≡◌, [], IfOk, Some, drop, false, slice_get};
+ghost use Rattle.std.specs.List.{count_by};
+ghost use Rattle.xmp_elab.specs.Walk.{Does, and_then, judge, pure};
 ghost use Rattle.xmp_elab.specs.Declarations.{inner};
 ghost use Rattle.xmp_elab.specs.Directives.{extents_in, first_extent, gmove_of, no_side, number_of, part_of, part_with, parts_in, sections_match, side_as, side_of, step_of, unwritten};
 ghost use Rattle.xmp_prog.specs.Directives.{is_section, sections_in};
@@ -154,7 +155,7 @@ impl World {
     }
 
     fn no_side(&mut self, name: &Name, rule: Rule) -> Result<prog::MoveSide, AllocError>
-        ensures { Does ((judge false rule name.now.at >>= λ u. pure (no_side name.now)) self.old) result self.new }
+        ensures { Does (and_then (judge false rule name.now.at self.old) (λ u. pure (no_side name.now))) result self.new }
     {
         self.judge(false, rule, name.at)?;
         Ok(prog::MoveSide::Scalar(prog::Name {
@@ -239,20 +240,24 @@ fn is_section(part: &prog::Part) -> bool
     }
 }
 
+fn count_sections(parts: &[prog::Part]) -> usize
+    ensures { result ≡ count_by is_section parts.now }
+{
+    let mut count = 0usize;
+    'parts: for part in parts {
+        if is_section(part) {
+            count += 1;
+        }
+    }
+    count
+}
+
 // How many sections a side has.
 fn sections_in(side: &prog::MoveSide) -> usize
     ensures { result ≡ sections_in side.now }
 {
     match side {
         prog::MoveSide::Scalar(_) => 0,
-        prog::MoveSide::Array(_, parts) => {
-            let mut count = 0usize;
-            'parts: for part in parts.as_slice() {
-                if is_section(part) {
-                    count += 1;
-                }
-            }
-            count
-        }
+        prog::MoveSide::Array(_, parts) => count_sections(parts.as_slice()),
     }
 }

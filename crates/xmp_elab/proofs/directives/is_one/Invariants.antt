@@ -3,5 +3,5 @@ use Rattle.xmp_elab.specs.Directives.{is_one}
 use Rattle.xmp_elab.proofs.directives.is_one.Given as goal
 
 -- what is left to do from here gives what the whole gives
-abbrev pub invariant-ranges : goal.invariant-ranges
-invariant-ranges l = is_one l.fn.ranges ≡ is_one (drop l.range-index l.ranges)
+abbrev pub invariant-list : goal.invariant-list
+invariant-list l = is_one l.fn.ranges ≡ is_one (drop l.range-index l.ranges)

@@ -1,7 +1,7 @@
-use Rattle.std.proofs.Common.{◌≡◌, map, drop}
+use Rattle.std.proofs.Common.{◌≡◌, drop}
 use Rattle.xmp_elab.specs.Directives.{ranges_right}
 use Rattle.xmp_elab.proofs.directives.ranges_right.Given as goal
 
 -- what is left to do from here gives what the whole gives
 abbrev pub invariant-sizes : goal.invariant-sizes
-invariant-sizes l = ranges_right l.fn.sizes l.fn.ranges ≡ ranges_right (drop l.size-index l.sizes) l.left
+invariant-sizes l = ranges_right l.sizes l.ranges ≡ ranges_right (drop l.i l.sizes) (drop l.i l.ranges)

@@ -1,6 +1,6 @@
 use Rattle.std.proofs.Common.{◌≡◌, map, drop, ◌++◌}
 use Rattle.xmp_elab.specs.Directives.{slots_of_points}
-use Rattle.xmp_elab.proofs.loop_lines.slots_of_points.Given as goal
+use Rattle.xmp_elab.proofs.indices.slots_of_points.Given as goal
 
 -- what is left to do from here gives what the whole gives
 abbrev pub invariant-points : goal.invariant-points

@@ -1,7 +1,7 @@
 use Rattle.std.proofs.Common.{◌≡◌, map, drop}
 use Rattle.std.specs.Prelude.{◌==◌}
 use Rattle.std.specs.List.{count_by, list_all}
-use Rattle.xmp_elab.proofs.loop_lines.each_in_one.Given as goal
+use Rattle.xmp_elab.proofs.indices.each_in_one.Given as goal
 
 -- what is left to do from here gives what the whole gives
 abbrev pub invariant-names : goal.invariant-names

@@ -1,7 +1,7 @@
 use Rattle.std.proofs.Common.{◌≡◌, map, drop}
 use Rattle.std.specs.List.{list_all}
 use Rattle.xmp_prog.specs.Numbers.{is_in}
-use Rattle.xmp_elab.proofs.loop_lines.all_in.Given as goal
+use Rattle.xmp_elab.proofs.indices.all_in.Given as goal
 
 -- what is left to do from here gives what the whole gives
 abbrev pub invariant-slots : goal.invariant-slots

@@ -1,7 +1,7 @@
 use Rattle.std.proofs.Common.{◌≡◌, map, drop}
 use Rattle.std.specs.List.{list_all}
 use Rattle.xmp_elab.specs.Directives.{is_small_point}
-use Rattle.xmp_elab.proofs.loop_lines.all_small.Given as goal
+use Rattle.xmp_elab.proofs.indices.all_small.Given as goal
 
 -- what is left to do from here gives what the whole gives
 abbrev pub invariant-points : goal.invariant-points

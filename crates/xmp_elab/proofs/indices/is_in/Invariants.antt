@@ -1,6 +1,6 @@
 use Rattle.std.proofs.Common.{◌≡◌, map, drop}
 use Rattle.xmp_prog.specs.Numbers.{is_in}
-use Rattle.xmp_elab.proofs.loop_lines.is_in.Given as goal
+use Rattle.xmp_elab.proofs.indices.is_in.Given as goal
 
 -- what is left to do from here gives what the whole gives
 abbrev pub invariant-numbers : goal.invariant-numbers
