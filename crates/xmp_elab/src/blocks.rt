@@ -267,9 +267,14 @@ fn if_made(
 fn share(a: NodeSet, b: NodeSet) -> bool
     ensures { result ≡ share a b }
 {
-    overlap(a.first[0], a.many[0], b.first[0], b.many[0])
-        && overlap(a.first[1], a.many[1], b.first[1], b.many[1])
-        && overlap(a.first[2], a.many[2], b.first[2], b.many[2])
+    let [first_x, first_y, first_z] = a.first;
+    let [many_x, many_y, many_z] = a.many;
+    let [other_x, other_y, other_z] = b.first;
+    let [count_x, count_y, count_z] = b.many;
+    let x = overlap(first_x, many_x, other_x, count_x);
+    let y = overlap(first_y, many_y, other_y, count_y);
+    let z = overlap(first_z, many_z, other_z, count_z);
+    x && y && z
 }
 
 // Whether two ranges of nodes overlap.
@@ -283,7 +288,7 @@ fn overlap(first: u32, many: u32, other: u32, count: u32) -> bool
 fn is_apart(before: &[NodeSet], nodes: NodeSet) -> bool
     ensures { result ≡ list_all (λ other. not (share other nodes)) before.now }
 {
-    'before: for other in before {
+    'sets: for other in before {
         if share(*other, nodes) {
             return false;
         }

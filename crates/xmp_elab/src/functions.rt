@@ -18,7 +18,7 @@ fn parameter_count(parameters: &Option<Parameters>) -> usize
     ensures { result ≡ length (parameters_in parameters.now) }
 {
     match parameters {
-        Some(Parameters::Named(list)) => list.more.len() + 1,
+        Some(Parameters::Named(list)) => list.more.as_slice().len() + 1,
         _ => 0,
     }
 }
