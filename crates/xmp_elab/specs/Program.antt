@@ -123,8 +123,9 @@ new_function count = λ w. Gave (length w.names.functions) (record w {
   };
 })
 
+-- A function begins: it calls nothing so far, whatever an initialiser before it calls.
 abbrev pub enter : Region → Run ⊤
-enter r = λ w. Gave tt (record w { names = record w.names { region = r } })
+enter r = λ w. Gave tt (record w { names = record w.names { region = r }; deepest = 0 })
 
 -- At the end of a function its call depth is known.
 abbrev pub with_depth : ℕ → Option Signature → Signature
@@ -137,7 +138,6 @@ leave k = λ w. Gave tt (record w {
     region = region.File;
     functions = slice_set w.names.functions k (with_depth (deeper w.deepest) (slice_get w.names.functions k));
   };
-  deepest = 0;
 })
 
 abbrev pub head_of : Region → Function → Run ℕ

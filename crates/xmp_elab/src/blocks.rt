@@ -4,9 +4,9 @@ ghost use Rattle.std.specs.List.{list_all};
 ghost use Rattle.std.specs.Option.{option_map};
 ghost use Rattle.xmp_prog.specs.declared.statements.Stmt.TheVariants as stmt;
 ghost use Rattle.xmp_elab.specs.Walk.{Does};
-ghost use Rattle.xmp_elab.specs.Directives.{lone_task, loop_directive, share, task_line, tasks_in, tasks_of};
+ghost use Rattle.xmp_elab.specs.Directives.{lone_task, loop_directive, made_task, share, task_line, tasks_of};
 ghost use Rattle.xmp_elab.specs.Statements.{else_of, for_of, if_of, while_of};
-ghost use Rattle.xmp_elab.specs.Program.{block_of, else_step, inside_item, items_of, plain_of, stmt_of, task_step};
+ghost use Rattle.xmp_elab.specs.Program.{block_of, else_step, inside_item, item_of, plain_of, stmt_of, task_step};
 
 use crate::loop_lines::nest_of;
 use crate::loops::{loop_of, while_statement};
@@ -47,7 +47,12 @@ impl World {
         match x {
             Stmt::Plain(x) => self.plain(alloc, x),
             Stmt::Block(list) => self.block(alloc, list.item.as_slice()),
-            Stmt::If(_, test, body, other) => self.if_statement(alloc, body.get(), &test.item, other),
+            Stmt::If(_, test, body, other) => self.if_statement(
+                alloc,
+                body.get(),
+                &test.item,
+                other,
+            ),
             Stmt::While(at, test, body) => self.while_loop(alloc, body.get(), *at, &test.item),
             Stmt::For(head, body) => self.for_loop(alloc, body.get(), head),
             Stmt::Loop(line, head, body) => self.loop_statement(alloc, body.get(), line, head),
@@ -56,30 +61,28 @@ impl World {
         }
     }
 
-    // What stands in a block, without its scope.
+    // What stands in a block, an item at a time.
     #[cycle(statement)]
-    fn items(
+    fn item(
         &mut self,
         alloc: Global,
-        list: &[BlockItem<Boxed<Stmt>>],
+        x: &BlockItem<Boxed<Stmt>>,
+        done: Items<prog::Stmt>,
     ) -> Result<Items<prog::Stmt>, AllocError>
-        ensures { Does (items_of [] (map inside_item list.now) self.old) result self.new }
+        ensures { Does (item_of done (inside_item x.now) self.old) result self.new }
     {
-        let mut done = Items::new(alloc);
-        'list: for x in list {
-            done = match x {
-                BlockItem::Mapping(mapping) => {
-                    self.mapping(alloc, mapping)?;
-                    done
-                }
-                BlockItem::Declaration(d) => self.local_declaration(alloc, done, d)?,
-                BlockItem::Stmt(body) => {
-                    let one = self.statement(alloc, body.get())?;
-                    pushed(done, one)?
-                }
-            };
+        match x {
+            BlockItem::Mapping(mapping) => {
+                self.mapping(alloc, mapping)?;
+                Ok(done)
+            }
+            BlockItem::Declaration(d) => self.local_declaration(alloc, done, d),
+            BlockItem::Stmt(body) => {
+                let one = self.statement(alloc, body.get())?;
+                let made = pushed(done, one)?;
+                Ok(made)
+            }
         }
-        Ok(done)
     }
 
     #[cycle(statement)]
@@ -91,9 +94,12 @@ impl World {
         ensures { Does (block_of (map inside_item list.now) self.old) result self.new }
     {
         self.open_scope()?;
-        let made = self.items(alloc, list)?;
+        let mut done = Items::new(alloc);
+        'list: for x in list {
+            done = self.item(alloc, x, done)?;
+        }
         self.close_scope();
-        Ok(prog::Stmt::Block(made))
+        Ok(prog::Stmt::Block(done))
     }
 
     #[cycle(statement)]
@@ -202,36 +208,8 @@ impl World {
     {
         let nodes = self.task_line(alloc, &[], line)?;
         let body = self.statement(alloc, body)?;
-        let mut list = Items::new(alloc);
-        list.push(prog::Task {
-            nodes,
-            body,
-            at: line.line.word,
-        })?;
+        let list = task_pushed(Items::new(alloc), nodes, body, line.line.word)?;
         Ok(prog::Stmt::Tasks(list, line.line.word))
-    }
-
-    #[cycle(statement)]
-    fn tasks_in(
-        &mut self,
-        alloc: Global,
-        list: &[(TaskLine, Boxed<Stmt>)],
-    ) -> Result<Items<prog::Task>, AllocError>
-        ensures { Does (tasks_in [] [] (map task_step list.now) self.old) result self.new }
-    {
-        let mut before = Items::new(alloc);
-        let mut done = Items::new(alloc);
-        'list: for (line, body) in list {
-            let nodes = self.task_line(alloc, before.as_slice(), line)?;
-            before.push(nodes)?;
-            let body = self.statement(alloc, body.get())?;
-            done.push(prog::Task {
-                nodes,
-                body,
-                at: line.line.word,
-            })?;
-        }
-        Ok(done)
     }
 
     #[cycle(statement)]
@@ -244,9 +222,28 @@ impl World {
         ensures { Does (tasks_of line (map task_step list.now) self.old) result self.new }
     {
         self.directive_at(line.word)?;
-        let tasks = self.tasks_in(alloc, list)?;
-        Ok(prog::Stmt::Tasks(tasks, line.word))
+        let mut before = Items::new(alloc);
+        let mut done = Items::new(alloc);
+        'list: for (head, body) in list {
+            let nodes = self.task_line(alloc, before.as_slice(), head)?;
+            before.push(nodes)?;
+            let body = self.statement(alloc, body.get())?;
+            done = task_pushed(done, nodes, body, head.line.word)?;
+        }
+        Ok(prog::Stmt::Tasks(done, line.word))
     }
+}
+
+fn task_pushed(
+    mut done: Items<prog::Task>,
+    nodes: NodeSet,
+    body: prog::Stmt,
+    at: Place,
+) -> Result<Items<prog::Task>, AllocError>
+    ensures { IfOk result (λ l. l ≡ done ++ made_task nodes body at ∷ []) }
+{
+    done.push(prog::Task { nodes, body, at })?;
+    Ok(done)
 }
 
 pub(crate) fn pushed(
@@ -275,9 +272,14 @@ fn if_made(
 fn share(a: NodeSet, b: NodeSet) -> bool
     ensures { result ≡ share a b }
 {
-    overlap(a.first[0], a.many[0], b.first[0], b.many[0])
-        && overlap(a.first[1], a.many[1], b.first[1], b.many[1])
-        && overlap(a.first[2], a.many[2], b.first[2], b.many[2])
+    let [first_x, first_y, first_z] = a.first;
+    let [many_x, many_y, many_z] = a.many;
+    let [other_x, other_y, other_z] = b.first;
+    let [count_x, count_y, count_z] = b.many;
+    let x = overlap(first_x, many_x, other_x, count_x);
+    let y = overlap(first_y, many_y, other_y, count_y);
+    let z = overlap(first_z, many_z, other_z, count_z);
+    x && y && z
 }
 
 // Whether two ranges of nodes overlap.
@@ -291,7 +293,7 @@ fn overlap(first: u32, many: u32, other: u32, count: u32) -> bool
 fn is_apart(before: &[NodeSet], nodes: NodeSet) -> bool
     ensures { result ≡ list_all (λ other. not (share other nodes)) before.now }
 {
-    'before: for other in before {
+    'sets: for other in before {
         if share(*other, nodes) {
             return false;
         }

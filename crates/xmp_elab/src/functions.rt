@@ -1,8 +1,8 @@
 // Functions and main.
-ghost use Rattle.std.specs.Prelude.{◌≡◌, [], Some, map, length};
+ghost use Rattle.std.specs.Prelude.{◌≡◌, [], Some, map, length, slice_get, slice_set};
 ghost use Rattle.xmp_tree.specs.declared.statement.Stmt.{out-Stmt};
 ghost use Rattle.xmp_elab.specs.Walk.{Does, Gave, each};
-ghost use Rattle.xmp_elab.specs.Program.{enter, function_of, head_of, inside_item, is_int_word, is_main_head, item_of, items_of, last_in, last_item, leave, main_items, main_of, new_function, parameter_of, parameters_in};
+ghost use Rattle.xmp_elab.specs.Program.{enter, function_of, head_of, inside_item, is_int_word, is_main_head, item_of, items_of, last_in, last_item, leave, main_items, main_of, new_function, no_parameters, parameter_of, parameters_in, with_depth};
 
 use crate::blocks::pushed;
 use crate::declarations::type_of;
@@ -18,8 +18,42 @@ fn parameter_count(parameters: &Option<Parameters>) -> usize
     ensures { result ≡ length (parameters_in parameters.now) }
 {
     match parameters {
-        Some(Parameters::Named(list)) => list.more.len() + 1,
+        Some(Parameters::Named(list)) => list.more.as_slice().len() + 1,
         _ => 0,
+    }
+}
+
+fn has_no_parameters(parameters: &Option<Parameters>) -> bool
+    ensures { result ≡ no_parameters (parameters_in parameters.now) }
+{
+    match parameters {
+        Some(Parameters::Named(_)) => false,
+        _ => true,
+    }
+}
+
+// What is known of a function at its end.
+fn with_depth(depth: u32, functions: &Items<Signature>, at: usize) -> Signature
+    ensures { result ≡ with_depth depth (slice_get functions.now at) }
+{
+    match functions.get(at) {
+        Some(function) => Signature {
+            parameters: function.parameters,
+            depth,
+        },
+        None => Signature {
+            parameters: 0,
+            depth,
+        },
+    }
+}
+
+fn keep_depth(functions: &mut Items<Signature>, at: usize, depth: u32)
+    ensures { functions.new ≡ slice_set functions.old at (with_depth depth (slice_get functions.old at)) }
+{
+    let known = with_depth(depth, functions, at);
+    if at < functions.len() {
+        functions.set(at, known);
     }
 }
 
@@ -75,28 +109,24 @@ impl World {
         Ok(number)
     }
 
+    // A function begins, which calls nothing so far.
     fn enter(&mut self, region: Region)
         ensures { enter region self.old ≡ Gave tt self.new }
     {
         self.names.region = region;
+        self.deepest = 0;
     }
 
     // At the end of a function its call depth is known.
     fn leave(&mut self, function: u32)
         ensures { leave function self.old ≡ Gave tt self.new }
     {
-        let depth = deeper(self.deepest);
-        let at = function as usize;
+        keep_depth(
+            &mut self.names.functions,
+            function as usize,
+            deeper(self.deepest),
+        );
         self.names.region = Region::File;
-        self.deepest = 0;
-        let known = match self.names.functions.get(at) {
-            Some(signature) => Some(signature.parameters),
-            None => None,
-        };
-        match known {
-            Some(parameters) => self.names.functions.set(at, Signature { parameters, depth }),
-            None => {}
-        }
     }
 
     // The head of a function, up to its parameters.
@@ -250,5 +280,5 @@ fn is_main_head(f: &Function) -> bool
 {
     is_int_word(f.ty)
         && f.name.text.as_slice() == b"main".as_slice()
-        && parameter_count(&f.parameters.item) == 0
+        && has_no_parameters(&f.parameters.item)
 }

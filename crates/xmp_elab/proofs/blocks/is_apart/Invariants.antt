@@ -5,5 +5,5 @@ use Rattle.xmp_elab.specs.Directives.{share}
 use Rattle.xmp_elab.proofs.blocks.is_apart.Given as goal
 
 -- what is left to do from here gives what the whole gives
-abbrev pub invariant-before : goal.invariant-before
-invariant-before l = list_all (λ other. not (share other l.nodes)) l.fn.before ≡ list_all (λ other. not (share other l.nodes)) (drop l.other-index l.before)
+abbrev pub invariant-sets : goal.invariant-sets
+invariant-sets l = list_all (λ other. not (share other l.nodes)) l.fn.before ≡ list_all (λ other. not (share other l.nodes)) (drop l.other-index l.before)
