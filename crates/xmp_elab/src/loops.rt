@@ -329,12 +329,13 @@ fn behind_first(
 fn uncounted(
     alloc: Global,
     word: Place,
-    parts: ForParts,
+    first: Option<First>,
+    test: Option<Operand>,
+    next: Option<prog::Stmt>,
     body: prog::Stmt,
 ) -> Result<prog::Stmt, AllocError>
-    ensures { IfOk result (λ s. s ≡ uncounted word parts body) }
+    ensures { IfOk result (λ s. s ≡ uncounted word (record { first = first; test = test; next = next }) body) }
 {
-    let ForParts { first, test, next } = parts;
     let made = repeated(alloc, test, next, body, word)?;
     behind_first(alloc, first, made)
 }
@@ -369,17 +370,8 @@ fn counted_with(
     }
 }
 
-fn counted_parts(
-    alloc: Global,
-    shape: Shape,
-    parts: ForParts,
-    body: prog::Stmt,
-) -> Result<prog::Stmt, AllocError>
-    ensures { IfOk result (λ s. s ≡ counted_with shape parts.first parts.test body) }
-{
-    let ForParts { first, test, .. } = parts;
-    counted_with(alloc, shape, first, test, body)
-}
+// The last part of a counted `for`, of which only the step is kept.
+fn let_go(_next: Option<prog::Stmt>) {}
 
 fn loop_in(
     alloc: Global,
@@ -390,9 +382,13 @@ fn loop_in(
 ) -> Result<prog::Stmt, AllocError>
     ensures { IfOk result (λ s. s ≡ loop_in shape word parts body) }
 {
+    let ForParts { first, test, next } = parts;
     match shape {
-        Some(shape) => counted_parts(alloc, shape, parts, body),
-        None => uncounted(alloc, word, parts, body),
+        Some(shape) => {
+            let_go(next);
+            counted_with(alloc, shape, first, test, body)
+        }
+        None => uncounted(alloc, word, first, test, next, body),
     }
 }
 
