@@ -94,7 +94,10 @@ impl World {
             None => None,
         };
         match known {
-            Some(parameters) => self.names.functions.set(at, Signature { parameters, depth }),
+            Some(parameters) => self
+                .names
+                .functions
+                .set(at, Signature { parameters, depth }),
             None => {}
         }
     }
