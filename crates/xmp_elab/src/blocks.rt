@@ -47,12 +47,7 @@ impl World {
         match x {
             Stmt::Plain(x) => self.plain(alloc, x),
             Stmt::Block(list) => self.block(alloc, list.item.as_slice()),
-            Stmt::If(_, test, body, other) => self.if_statement(
-                alloc,
-                body.get(),
-                &test.item,
-                other,
-            ),
+            Stmt::If(_, test, body, other) => self.if_statement(alloc, body.get(), &test.item, other),
             Stmt::While(at, test, body) => self.while_loop(alloc, body.get(), *at, &test.item),
             Stmt::For(head, body) => self.for_loop(alloc, body.get(), head),
             Stmt::Loop(line, head, body) => self.loop_statement(alloc, body.get(), line, head),

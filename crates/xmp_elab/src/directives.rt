@@ -358,10 +358,7 @@ fn box_of(sizes: &[i64], ranges: &[(i64, i64)]) -> NodeSet
     }
     nodes = match ranges {
         [] => nodes,
-        [a] => NodeSet {
-            first: [node_number(a.0), 0, 0],
-            many: [node_number(a.1), 1, 1],
-        },
+        [a] => NodeSet { first: [node_number(a.0), 0, 0], many: [node_number(a.1), 1, 1] },
         [a, b] => NodeSet {
             first: [node_number(a.0), node_number(b.0), 0],
             many: [node_number(a.1), node_number(b.1), 1],

@@ -94,10 +94,7 @@ impl World {
             None => None,
         };
         match known {
-            Some(parameters) => self
-                .names
-                .functions
-                .set(at, Signature { parameters, depth }),
+            Some(parameters) => self.names.functions.set(at, Signature { parameters, depth }),
             None => {}
         }
     }
