@@ -1,7 +1,6 @@
 -- The first refusal of a list is the first of those that its rules are.
-use Rattle.std.proofs.Common.{◌≡◌, Bool, true, false, ◌⊎◌, inl, inr, refl, sym, subst, arith, ⊎_elim, ℕ, zero, suc, ◌<◌, length, List, [], ◌∷◌}
+use Rattle.std.proofs.Common.{◌≡◌, Bool, true, false, ◌⊎◌, inl, inr, refl, sym, subst, arith, ⊎_elim, zero, suc, List, [], ◌∷◌}
 use Rattle.std.specs.Prelude.{Option, Some, None, if◌then◌else◌}
-use Rattle.std.specs.List.{Any}
 use Rattle.std.proofs.lemmas.Bool.Decides.{nat_tests}
 use Rattle.xmp_base.specs.First.{comes_first, IsFirst, first_of}
 use Rattle.xmp_base.specs.declared.refusal.Refusal.{Refusal}

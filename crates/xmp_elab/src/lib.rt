@@ -31,6 +31,7 @@ mod program;
 mod rules;
 mod rules_of_mappings;
 mod shadow_rules;
+mod shapes;
 mod statements;
 mod template_rules;
 mod typed;

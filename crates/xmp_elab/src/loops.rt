@@ -1,22 +1,20 @@
 // A `for` before and behind its body.
-ghost use Rattle.std.specs.Prelude.{◌≡◌, ◌∷◌, IfOk, Some};
+ghost use Rattle.std.specs.Prelude.{◌≡◌, ◌∷◌, ◌++◌, [], IfOk, Some};
 ghost use Rattle.xmp_prog.specs.declared.expressions.Expr.{out-Expr};
-ghost use Rattle.xmp_prog.specs.declared.statements.Stmt.{out-Stmt};
 ghost use Rattle.xmp_prog.specs.declared.statements.Stmt.TheVariants as stmt;
 ghost use Rattle.xmp_elab.specs.Walk.{Does, if_there, typed, typed_reference};
-ghost use Rattle.xmp_elab.specs.Counted.{bound_of};
-ghost use Rattle.xmp_elab.specs.Statements.{added_by, added_plain, begun, compared_at, condition, counted_loop, counted_with, first_of, first_part, for_parts, in_block, index_of, is_bump, last_of, loop_in, loop_of, right_side, shape_at, shape_by, shape_of, simple_of, uncounted};
+ghost use Rattle.xmp_elab.specs.Statements.{begun, condition, counted_loop, counted_with, first_of, first_part, for_parts, in_block, index_of, last_of, loop_in, loop_of, right_side, shape_of, simple_of, uncounted};
 
 use crate::constants::first_place;
-use crate::counted::{added_to, bound_of, is_counted};
 use crate::declarations::declare_statement;
+use crate::shapes::shape_of;
 use crate::statements::set;
 use crate::typed::Operand;
 use crate::world::World;
 use sqlite_items::{Boxed, Items};
 use std::alloc::{AllocError, Global};
 use xmp_base::Place;
-use xmp_num::{BinOp, Ty};
+use xmp_num::Ty;
 use xmp_prog as prog;
 use xmp_tree::{Expr, ForFirst, ForHead, Name, Reference, Simple};
 
@@ -175,132 +173,6 @@ fn first_part(declared: Items<prog::Stmt>, x: &Expr, target: Operand, value: Ope
     }
 }
 
-// The place of what a comparison compares with.
-fn compared_at(test: &Option<Expr>) -> Option<Place>
-    ensures { result ≡ compared_at test.now }
-{
-    match test {
-        Some(Expr::Chain(_, links)) => match links.as_slice() {
-            [link] => Some(first_place(link.right.get())),
-            _ => None,
-        },
-        _ => None,
-    }
-}
-
-fn is_bump(next: &Option<Simple>) -> bool
-    ensures { result ≡ is_bump next.now }
-{
-    match next {
-        Some(Simple::Postfix(_, _)) => true,
-        Some(Simple::Prefix(_, _)) => true,
-        _ => false,
-    }
-}
-
-// What the last part adds to the index.
-fn added_plain(index: u32, next: &prog::Plain) -> Option<u32>
-    ensures { result ≡ added_plain index next.now }
-{
-    match next {
-        prog::Plain::Set {
-            target,
-            compound: Some(compound),
-            value,
-        } => {
-            if compound.op == BinOp::Add {
-                added_to(index, target, value)
-            } else {
-                None
-            }
-        }
-        _ => None,
-    }
-}
-
-fn added_by(index: u32, next: &prog::Stmt) -> Option<u32>
-    ensures { result ≡ added_by index (out-Stmt next.now) }
-{
-    match next {
-        prog::Stmt::Plain(plain) => added_plain(index, plain),
-        _ => None,
-    }
-}
-
-// The shape of a loop with this index, this condition and this last part.
-fn shape_by(
-    index: prog::Name,
-    by_one: bool,
-    test: &prog::Expr,
-    to_at: Option<Place>,
-    step: Option<u32>,
-    body: &prog::Stmt,
-) -> Option<Shape>
-    ensures { result ≡ shape_by index.number index.at by_one (bound_of index.number (out-Expr test.now)) to_at step body.now }
-{
-    let Some((to, inclusive)) = bound_of(index.number, test) else {
-        return None;
-    };
-    let Some(to_at) = to_at else {
-        return None;
-    };
-    let Some(step) = step else {
-        return None;
-    };
-    if is_counted(index.number, to, inclusive, by_one, body) {
-        Some(Shape {
-            index,
-            inclusive,
-            step,
-            to_at,
-        })
-    } else {
-        None
-    }
-}
-
-fn shape_at(
-    head: &ForHead,
-    target: &Operand,
-    test: &Operand,
-    next: &prog::Stmt,
-    body: &prog::Stmt,
-) -> Option<Shape>
-    ensures { result ≡ shape_at head.now target.now.ty test.now next.now body.now (out-Expr target.now.made) }
-{
-    match &target.made {
-        prog::Expr::Scalar(slot, at) => {
-            if target.ty == Some(Ty::Int) {
-                let index = prog::Name {
-                    number: *slot,
-                    at: *at,
-                };
-                let step = added_by(index.number, next);
-                shape_by(
-                    index,
-                    is_bump(&head.next),
-                    &test.made,
-                    compared_at(&head.test),
-                    step,
-                    body,
-                )
-            } else {
-                None
-            }
-        }
-        _ => None,
-    }
-}
-
-fn shape_of(head: &ForHead, parts: &ForParts, body: &prog::Stmt) -> Option<Shape>
-    ensures { result ≡ shape_of head.now parts.now.first parts.now.test parts.now.next body.now }
-{
-    match (&parts.first, &parts.test, &parts.next) {
-        (Some(first), Some(test), Some(next)) => shape_at(head, &first.target, test, next, body),
-        _ => None,
-    }
-}
-
 fn right_side(test: prog::Expr) -> prog::Expr
     ensures { result ≡ right_side (out-Expr test) }
 {
@@ -426,20 +298,46 @@ pub(crate) fn while_statement(
     Ok(prog::Stmt::While(test, body, word))
 }
 
-fn uncounted(
+// What a `for` that isn't counted does in each turn, as a loop.
+fn repeated(
     alloc: Global,
-    word: Place,
-    parts: ForParts,
+    test: Option<Operand>,
+    next: Option<prog::Stmt>,
     body: prog::Stmt,
+    word: Place,
 ) -> Result<prog::Stmt, AllocError>
-    ensures { IfOk result (λ s. s ≡ uncounted word parts body) }
+    ensures { IfOk result (λ s. s ≡ stmt.While (condition test) (stmt.Block (body ∷ last_of next)) word) }
 {
-    let ForParts { first, test, next } = parts;
+    let test = condition(test);
     let body = turn(alloc, body, next)?;
-    let made = while_statement(alloc, condition(test), body, word)?;
+    while_statement(alloc, test, body, word)
+}
+
+// A loop behind what a `for` does first.
+fn behind_first(
+    alloc: Global,
+    first: Option<First>,
+    made: prog::Stmt,
+) -> Result<prog::Stmt, AllocError>
+    ensures { IfOk result (λ s. s ≡ stmt.Block (begun first ++ made ∷ [])) }
+{
     let mut list = begun(alloc, first)?;
     list.push(made)?;
     Ok(prog::Stmt::Block(list))
+}
+
+fn uncounted(
+    alloc: Global,
+    word: Place,
+    first: Option<First>,
+    test: Option<Operand>,
+    next: Option<prog::Stmt>,
+    body: prog::Stmt,
+) -> Result<prog::Stmt, AllocError>
+    ensures { IfOk result (λ s. s ≡ uncounted word (record { first = first; test = test; next = next }) body) }
+{
+    let made = repeated(alloc, test, next, body, word)?;
+    behind_first(alloc, first, made)
 }
 
 fn counted_from(
@@ -472,6 +370,28 @@ fn counted_with(
     }
 }
 
+// The last part of a counted `for`, of which only the step is kept.
+fn let_go(_next: Option<prog::Stmt>) {}
+
+fn loop_in(
+    alloc: Global,
+    shape: Option<Shape>,
+    word: Place,
+    parts: ForParts,
+    body: prog::Stmt,
+) -> Result<prog::Stmt, AllocError>
+    ensures { IfOk result (λ s. s ≡ loop_in shape word parts body) }
+{
+    let ForParts { first, test, next } = parts;
+    match shape {
+        Some(shape) => {
+            let_go(next);
+            counted_with(alloc, shape, first, test, body)
+        }
+        None => uncounted(alloc, word, first, test, next, body),
+    }
+}
+
 /// The loop of a `for` with these parts and this body.
 pub(crate) fn loop_of(
     alloc: Global,
@@ -481,11 +401,6 @@ pub(crate) fn loop_of(
 ) -> Result<prog::Stmt, AllocError>
     ensures { IfOk result (λ s. s ≡ loop_of head.now parts body) }
 {
-    match shape_of(head, &parts, &body) {
-        Some(shape) => {
-            let ForParts { first, test, .. } = parts;
-            counted_with(alloc, shape, first, test, body)
-        }
-        None => uncounted(alloc, head.word, parts, body),
-    }
+    let shape = shape_of(head, &parts, &body);
+    loop_in(alloc, shape, head.word, parts, body)
 }

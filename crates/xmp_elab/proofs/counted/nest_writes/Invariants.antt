@@ -1,4 +1,4 @@
-use Rattle.std.proofs.Common.{◌≡◌, map, drop}
+use Rattle.std.proofs.Common.{◌≡◌, drop}
 use Rattle.std.specs.List.{list_any}
 use Rattle.xmp_elab.specs.Counted.{is_kept}
 use Rattle.xmp_elab.proofs.counted.nest_writes.Given as goal

@@ -1,4 +1,4 @@
-use Rattle.std.proofs.Common.{◌≡◌, ◌∙◌, ap, sym}
+use Rattle.std.proofs.Common.{◌∙◌, ap, sym}
 use Rattle.std.specs.List.{list_any}
 use Rattle.xmp_elab.specs.Program.{coarray_in, coarray_stmt}
 use Rattle.xmp_elab.proofs.Coarrays.{block_has, tasks_have}

@@ -1,4 +1,4 @@
-use Rattle.std.proofs.Common.{◌≡◌, map, drop}
+use Rattle.std.proofs.Common.{◌≡◌, drop}
 use Rattle.std.specs.List.{list_any}
 use Rattle.xmp_elab.specs.Program.{coarray_in}
 use Rattle.xmp_elab.proofs.program.body_has.Given as goal

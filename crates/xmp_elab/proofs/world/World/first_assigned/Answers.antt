@@ -1,4 +1,4 @@
-use Rattle.std.proofs.Common.{◌≡◌, ◌∙◌, ap, []}
+use Rattle.std.proofs.Common.{◌∙◌, ap, []}
 use Rattle.xmp_elab.specs.Walk.{typed, typed_reference}
 use Rattle.xmp_elab.specs.Statements.{first_part}
 use Rattle.xmp_elab.proofs.Walks.{two_steps}
