@@ -1,8 +1,9 @@
 // Directives with no statement inside: reflect, barrier and bcast, and sets of nodes.
-ghost use Rattle.std.specs.Prelude.{◌≡◌, FitsSigned, IfOk, None, int_le, pos, slice_get};
+ghost use Rattle.std.specs.Prelude.{◌≡◌, ◌==◌, ◌&&◌, ◌||◌, FitsSigned, IfOk, None, int_le, length, not, pos, slice_get};
 ghost use Rattle.std.specs.Int.{w32};
 ghost use Rattle.std.specs.List.{list_all};
 ghost use Rattle.std.specs.Option.{unwrap_or};
+ghost use Rattle.xmp_elab.specs.Expressions.{is_nothing};
 ghost use Rattle.xmp_elab.specs.Walk.{Does, Gave, each};
 ghost use Rattle.xmp_elab.specs.Declarations.{inner, listed};
 ghost use Rattle.xmp_elab.specs.Directives.{array_name, barrier_of, bcast_of, box_of, count_of, index_name, is_box, is_one, limited, line_sizes, node_number, nodes_sizes, range_of, range_right, ranges, ranges_right, reflect_of, scalar_name, set_of, set_part, slot_or_zero};
@@ -169,11 +170,9 @@ impl World {
         let number = self.nodes_array_of(&x.name)?;
         let sizes = self.nodes_sizes(alloc, number)?;
         let parts = self.set_parts(alloc, x.sections.as_slice())?;
-        let count_right = parts.is_empty() || parts.len() == sizes.len();
-        self.judge(count_right, Rule::N3, x.name.at)?;
+        self.judge(count_right(&parts, sizes.len()), Rule::N3, x.name.at)?;
         let rs = ranges(alloc, sizes.as_slice(), parts.as_slice())?;
-        let right = ranges_right(sizes.as_slice(), rs.as_slice())
-            && (!one_node || is_one(rs.as_slice()));
+        let right = set_right(one_node, sizes.as_slice(), rs.as_slice());
         self.judge(right, Rule::M8, word)?;
         Ok(box_of(sizes.as_slice(), rs.as_slice()))
     }
@@ -319,6 +318,23 @@ fn is_one(ranges: &[(i64, i64)]) -> bool
         }
     }
     true
+}
+
+// Whether a set has no subscript, or one for each dimension.
+fn count_right(parts: &Items<Option<(i64, i64)>>, dimensions: usize) -> bool
+    ensures { result ≡ (is_nothing parts.now || (length parts.now == dimensions)) }
+{
+    if parts.is_empty() {
+        return true;
+    }
+    parts.len() == dimensions
+}
+
+// Whether a set stays in the nodes array, and has one node where one is asked for.
+fn set_right(one_node: bool, sizes: &[i64], ranges: &[(i64, i64)]) -> bool
+    ensures { result ≡ (ranges_right sizes.now ranges.now && (not one_node || is_one ranges.now)) }
+{
+    ranges_right(sizes, ranges) && (!one_node || is_one(ranges))
 }
 
 // A number of nodes, 0 where there are not so many.
