@@ -1,0 +1,22 @@
+-- A step of the walk and what is made of what it gave, where the code makes it of a result.
+use Rattle.std.proofs.Common.{◌≡◌, ◌∙◌, ap, sym, Result, Ok, Err, IfOk}
+use Rattle.std.specs.Prelude.{MatchResult, IsErr}
+use Rattle.xmp_elab.specs.declared.world.World.{World}
+use Rattle.xmp_elab.specs.Walk.{Step, Gave, Run, Does, and_then, pure}
+
+pub after : {A B E : Type 0} (first : Step A) (rest : A → Run B) (a : A) (result : Result B E) (mid new : World) →
+    first ≡ Gave a mid → Does (rest a mid) result new → Does (and_then first rest) result new
+after first rest a result mid new e d = rw e d
+
+pub joined : {A B E F : Type 0} (step : Step A) (rest : A → Run B) (made : Result A E) (result : Result B F) (mid new : World) →
+    Does step made mid → MatchResult made (λ a. Does (rest a mid) result new) (λ _. IsErr result) → Does (and_then step rest) result new
+joined step rest (Ok a) result mid new d m = rw d m
+joined step rest (Err e) (Ok b) mid new d m = absurd (cc)
+joined step rest (Err e) (Err f) mid new d m = tt
+
+pub joined_pure : {A B E F : Type 0} (step : Step A) (f : A → B) (made : Result A E) (result : Result B F) (new : World) →
+    Does step made new → MatchResult made (λ a. IfOk result (λ b. b ≡ f a)) (λ _. IsErr result) → Does (and_then step (λ a. pure (f a))) result new
+joined_pure step f (Ok a) (Ok b) new d m = ap (λ s. and_then s (λ x. pure (f x))) d ∙ ap (λ y. Gave y new) (sym m)
+joined_pure step f (Ok a) (Err e) new d m = tt
+joined_pure step f (Err e) (Ok b) new d m = absurd (cc)
+joined_pure step f (Err e) (Err g) new d m = tt
