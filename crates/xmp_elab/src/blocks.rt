@@ -127,7 +127,8 @@ impl World {
         ensures { Does (if_of test.now (stmt_of body.now) (option_map else_step other.now) self.old) result self.new }
     {
         let test = self.typed(alloc, test)?;
-        let yes = self.statement(alloc, body)?;
+        let made = self.statement(alloc, body)?;
+        let yes = Boxed::new(alloc, made)?;
         let no = self.else_of(alloc, other);
         if_made(alloc, test, yes, no)
     }
@@ -302,7 +303,7 @@ pub(crate) fn pushed(
 fn if_made(
     alloc: Global,
     test: Operand,
-    yes: prog::Stmt,
+    yes: Boxed<prog::Stmt>,
     no: Result<prog::Stmt, AllocError>,
 ) -> Result<prog::Stmt, AllocError>
     ensures { MatchResult no (λ b. IfOk result (λ s. s ≡ stmt.If test.made yes b)) (λ _. IsErr result) }
@@ -316,12 +317,11 @@ fn if_made(
 fn if_of_parts(
     alloc: Global,
     test: prog::Expr,
-    yes: prog::Stmt,
+    yes: Boxed<prog::Stmt>,
     no: prog::Stmt,
 ) -> Result<prog::Stmt, AllocError>
     ensures { IfOk result (λ s. s ≡ stmt.If test yes no) }
 {
-    let yes = Boxed::new(alloc, yes)?;
     let no = Boxed::new(alloc, no)?;
     Ok(prog::Stmt::If(test, yes, no))
 }

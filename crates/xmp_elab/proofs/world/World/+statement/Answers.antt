@@ -1,7 +1,8 @@
-use Rattle.std.proofs.Common.{◌≡◌, ◌∙◌, ap, sym, map, length, List, [], ◌∷◌}
+use Rattle.std.proofs.Common.{◌≡◌, ◌∙◌, ap, sym, subst, map, length, List, [], ◌∷◌}
 use Rattle.std.specs.Option.{option_map}
+use Rattle.xmp_prog.specs.declared.statements.Stmt as made
 use Rattle.xmp_prog.specs.declared.statements.Stmt.TheVariants as s
-use Rattle.xmp_elab.specs.Walk.{and_then, close_scope, ◌>>=◌, pure, typed}
+use Rattle.xmp_elab.specs.Walk.{Does, Run, ◌>>=◌, and_then, close_scope, pure, typed}
 use Rattle.xmp_elab.specs.Statements.{else_of, for_of, for_parts, if_of, loop_of, while_of}
 use Rattle.xmp_elab.specs.Directives.{judged_loop, lone_task, loop_directive, loop_line, made_task, nest_of, task_line, tasks_of}
 use Rattle.xmp_elab.specs.Program.{block_of, else_step, inside_item, plain_of, stmt_of, task_step}
@@ -80,13 +81,14 @@ statement-returns-in-Tasks n c =
 pub if_statement-returns : goal.if_statement-returns
 if_statement-returns n c =
     let test : _ = c.in_ok-test.test in
-    after (typed c.args.test.now c.args.self.now)
-    (λ t. stmt_of c.args.body.now >>= (λ a. else_of (option_map else_step c.args.other.now) >>= (λ b. pure (s.If t.made a b))))
+    let other : Run made.Stmt = else_of (option_map else_step c.args.other.now) in
+    after (typed c.args.test.now c.args.self.now) (λ t. stmt_of c.args.body.now >>= (λ a. other >>= (λ b. pure (s.If t.made a b))))
     test c.if_made.result c.typed.new.self c.else_of.new.self c.in_ok-test.ensures
-    (after (stmt_of c.args.body.now c.typed.new.self) (λ a. else_of (option_map else_step c.args.other.now) >>= (λ b. pure (s.If test.made a b)))
-    c.in_ok-yes.yes c.if_made.result c.statement.new.self c.else_of.new.self c.in_ok-yes.ensures
-    (joined_pure (else_of (option_map else_step c.args.other.now) c.statement.new.self) (λ b. s.If test.made c.in_ok-yes.yes b)
-    c.else_of.result c.if_made.result c.else_of.new.self c.else_of.ensures c.if_made.ensures))
+    (after (stmt_of c.args.body.now c.typed.new.self) (λ a. other >>= (λ b. pure (s.If test.made a b)))
+    c.in_ok-made.made c.if_made.result c.statement.new.self c.else_of.new.self c.in_ok-made.ensures
+    (subst (λ (v : made.Stmt). Does (and_then (other c.statement.new.self) (λ b. pure (s.If test.made v b))) c.if_made.result c.else_of.new.self) c.in_ok-yes.ensures
+    (joined_pure (other c.statement.new.self) (λ b. s.If test.made c.in_ok-yes.yes b)
+    c.else_of.result c.if_made.result c.else_of.new.self c.else_of.ensures c.if_made.ensures)))
 
 pub while_loop-returns : goal.while_loop-returns
 while_loop-returns n c =
