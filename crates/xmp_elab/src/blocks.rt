@@ -5,7 +5,7 @@ ghost use Rattle.std.specs.Option.{option_map};
 ghost use Rattle.xmp_prog.specs.declared.statements.Stmt.TheVariants as stmt;
 ghost use Rattle.xmp_elab.specs.Walk.{Does, and_then, close_scope, pure};
 ghost use Rattle.xmp_elab.specs.Directives.{judged_loop, lone_task, loop_directive, made_task, nest_of, share, task_line, tasks_of};
-ghost use Rattle.xmp_elab.specs.Statements.{else_of, for_of, if_of, loop_of, while_of};
+ghost use Rattle.xmp_elab.specs.Statements.{else_of, for_of, for_parts, if_of, loop_of, while_of};
 ghost use Rattle.xmp_elab.specs.Program.{block_of, else_step, inside_item, item_of, plain_of, stmt_of, task_step};
 
 use crate::loop_lines::{LoopParts, nest_of};
@@ -157,7 +157,7 @@ impl World {
     ) -> Result<prog::Stmt, AllocError>
         ensures { Does (for_of head.now (stmt_of body.now) self.old) result self.new }
     {
-        let parts = self.for_parts(alloc, head)?;
+        let parts = self.boxed_parts(alloc, head)?;
         let body = self.statement(alloc, body);
         self.for_made(alloc, head, parts, body)
     }
@@ -177,12 +177,25 @@ impl World {
         self.loop_made(alloc, line.line.word, parts, made)
     }
 
+    // The parts of a `for` in a box, since they are let go where its body fails.
+    fn boxed_parts(
+        &mut self,
+        alloc: Global,
+        head: &ForHead,
+    ) -> Result<Boxed<ForParts>, AllocError>
+        ensures { Does (for_parts head.now self.old) result self.new }
+    {
+        let parts = self.for_parts(alloc, head)?;
+        let boxed = Boxed::new(alloc, parts)?;
+        Ok(boxed)
+    }
+
     // The end of a `for`, whose body may have failed.
     fn for_made(
         &mut self,
         alloc: Global,
         head: &ForHead,
-        parts: ForParts,
+        parts: Boxed<ForParts>,
         body: Result<prog::Stmt, AllocError>,
     ) -> Result<prog::Stmt, AllocError>
         ensures { MatchResult body (λ b. Does (and_then (close_scope self.old) (λ _. pure (loop_of head.now parts b))) result self.new) (λ _. IsErr result) }
@@ -190,7 +203,7 @@ impl World {
         match body {
             Ok(body) => {
                 self.close_scope();
-                loop_of(alloc, head, parts, body)
+                loop_of(alloc, head, parts.into_inner(), body)
             }
             Err(e) => Err(e),
         }

@@ -103,8 +103,8 @@ for_loop-returns n c =
     let head : _ = c.args.head.now in
     let parts : _ = c.in_ok-parts.parts in
     after (for_parts head c.args.self.now) (λ ps. stmt_of c.args.body.now >>= (λ b. close_scope >>= (λ _. pure (loop_of head ps b))))
-    parts c.for_made.result c.for_parts.new.self c.for_made.new.self c.in_ok-parts.ensures
-    (joined (stmt_of c.args.body.now c.for_parts.new.self) (λ b. close_scope >>= (λ _. pure (loop_of head parts b)))
+    parts c.for_made.result c.boxed_parts.new.self c.for_made.new.self c.in_ok-parts.ensures
+    (joined (stmt_of c.args.body.now c.boxed_parts.new.self) (λ b. close_scope >>= (λ _. pure (loop_of head parts b)))
     c.statement.result c.for_made.result c.statement.new.self c.for_made.new.self c.statement.ensures c.for_made.ensures)
 
 pub loop_statement-returns : goal.loop_statement-returns
