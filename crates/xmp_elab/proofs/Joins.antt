@@ -1,5 +1,5 @@
 -- A step of the walk and what is made of what it gave, where the code makes it of a result.
-use Rattle.std.proofs.Common.{◌≡◌, ◌∙◌, ap, sym, Result, Ok, Err, IfOk}
+use Rattle.std.proofs.Common.{◌≡◌, ◌∙◌, ◌×◌, ap, sym, Result, Ok, Err, IfOk}
 use Rattle.std.specs.Prelude.{MatchResult, IsErr}
 use Rattle.xmp_elab.specs.declared.world.World.{World}
 use Rattle.xmp_elab.specs.Walk.{Step, Gave, Run, Does, and_then, pure}
@@ -20,3 +20,11 @@ joined_pure step f (Ok a) (Ok b) new d m = ap (λ s. and_then s (λ x. pure (f x
 joined_pure step f (Ok a) (Err e) new d m = tt
 joined_pure step f (Err e) (Ok b) new d m = absurd (cc)
 joined_pure step f (Err e) (Err g) new d m = tt
+
+-- Two steps whose results are kept as a pair, and what follows on both.
+pair_next : {A B C : Type 0} (a c : A) (d : B) (s : Step B) (rest : A → B → Run C) (mid : World) → and_then s (λ y. pure (a, y)) ≡ Gave (c, d) mid → and_then s (rest a) ≡ rest c d mid
+pair_next a c d (Gave y w) rest mid e = cc
+
+pub paired : {A B C : Type 0} (first : Step A) (q : Run B) (rest : A → B → Run C) (c : A) (d : B) (mid : World) →
+    and_then first (λ t. λ w. and_then (q w) (λ y. pure (t, y))) ≡ Gave (c, d) mid → and_then first (λ t. λ w. and_then (q w) (rest t)) ≡ rest c d mid
+paired (Gave t w) q rest c d mid e = pair_next t c d (q w) rest mid e

@@ -3,10 +3,10 @@ ghost use Rattle.std.specs.Prelude.{◌≡◌, ◌<◌, ◌∷◌, ◌++◌, ◌
 ghost use Rattle.std.specs.List.{list_all};
 ghost use Rattle.std.specs.Option.{option_map};
 ghost use Rattle.xmp_prog.specs.declared.statements.Stmt.TheVariants as stmt;
-ghost use Rattle.xmp_elab.specs.Walk.{Does, and_then, close_scope, pure};
+ghost use Rattle.xmp_elab.specs.Walk.{Does, and_then, close_scope, pure, typed};
 ghost use Rattle.xmp_elab.specs.Directives.{judged_loop, lone_task, loop_directive, made_task, nest_of, share, task_line, tasks_of};
 ghost use Rattle.xmp_elab.specs.Statements.{else_of, for_of, for_parts, if_of, loop_of, while_of};
-ghost use Rattle.xmp_elab.specs.Program.{block_of, else_step, inside_item, item_of, plain_of, stmt_of, task_step};
+ghost use Rattle.xmp_elab.specs.Program.{block_of, else_step, inside_item, plain_of, stmt_of, task_step};
 
 use crate::loop_lines::{LoopParts, nest_of};
 use crate::loops::{ForParts, loop_of, while_statement};
@@ -47,41 +47,16 @@ impl World {
         match x {
             Stmt::Plain(x) => self.plain(alloc, x),
             Stmt::Block(list) => self.block(alloc, list.item.as_slice()),
-            Stmt::If(_, test, body, other) => self.if_statement(
-                alloc,
-                body.get(),
-                &test.item,
-                other,
-            ),
+            Stmt::If(_, test, body, other) => {
+                let begun = self.if_begun(alloc, body.get(), &test.item)?;
+                let no = self.else_of(alloc, other);
+                if_made(alloc, begun, no)
+            }
             Stmt::While(at, test, body) => self.while_loop(alloc, body.get(), *at, &test.item),
             Stmt::For(head, body) => self.for_loop(alloc, body.get(), head),
             Stmt::Loop(line, head, body) => self.loop_statement(alloc, body.get(), line, head),
             Stmt::Task(line, body) => self.lone_task(alloc, body.get(), line),
             Stmt::Tasks(line, tasks) => self.tasks(alloc, tasks.item.as_slice(), *line),
-        }
-    }
-
-    // What stands in a block, an item at a time.
-    #[cycle(statement)]
-    fn item(
-        &mut self,
-        alloc: Global,
-        x: &BlockItem<Boxed<Stmt>>,
-        done: Items<prog::Stmt>,
-    ) -> Result<Items<prog::Stmt>, AllocError>
-        ensures { Does (item_of done (inside_item x.now) self.old) result self.new }
-    {
-        match x {
-            BlockItem::Mapping(mapping) => {
-                self.mapping(alloc, mapping)?;
-                Ok(done)
-            }
-            BlockItem::Declaration(d) => self.local_declaration(alloc, done, d),
-            BlockItem::Stmt(body) => {
-                let one = self.statement(alloc, body.get())?;
-                let made = pushed(done, one)?;
-                Ok(made)
-            }
         }
     }
 
@@ -96,7 +71,21 @@ impl World {
         self.open_scope()?;
         let mut done = Items::new(alloc);
         'list: for x in list {
-            done = self.item(alloc, x, done)?;
+            match x {
+                BlockItem::Mapping(mapping) => {
+                    self.mapping(alloc, mapping)?;
+                    continue;
+                }
+                BlockItem::Declaration(d) => {
+                    done = self.local_declaration(alloc, done, d)?;
+                    continue;
+                }
+                BlockItem::Stmt(body) => {
+                    let one = self.statement(alloc, body.get())?;
+                    done = pushed(done, one)?;
+                    continue;
+                }
+            }
         }
         self.close_scope();
         Ok(prog::Stmt::Block(done))
@@ -116,21 +105,20 @@ impl World {
         }
     }
 
+    // The condition of an `if`, and the statement for where it isn't 0.
     #[cycle(statement)]
-    fn if_statement(
+    fn if_begun(
         &mut self,
         alloc: Global,
         body: &Stmt,
         test: &Expr,
-        other: &Option<(Place, Boxed<Stmt>)>,
-    ) -> Result<prog::Stmt, AllocError>
-        ensures { Does (if_of test.now (stmt_of body.now) (option_map else_step other.now) self.old) result self.new }
+    ) -> Result<(Operand, Boxed<prog::Stmt>), AllocError>
+        ensures { Does (and_then (typed test.now self.old) (λ t. λ w. and_then (stmt_of body.now w) (λ a. pure (t, a)))) result self.new }
     {
         let test = self.typed(alloc, test)?;
         let made = self.statement(alloc, body)?;
         let yes = Boxed::new(alloc, made)?;
-        let no = self.else_of(alloc, other);
-        if_made(alloc, test, yes, no)
+        Ok((test, yes))
     }
 
     #[cycle(statement)]
@@ -315,12 +303,12 @@ pub(crate) fn pushed(
 
 fn if_made(
     alloc: Global,
-    test: Operand,
-    yes: Boxed<prog::Stmt>,
+    begun: (Operand, Boxed<prog::Stmt>),
     no: Result<prog::Stmt, AllocError>,
 ) -> Result<prog::Stmt, AllocError>
-    ensures { MatchResult no (λ b. IfOk result (λ s. s ≡ stmt.If test.made yes b)) (λ _. IsErr result) }
+    ensures { MatchResult no (λ b. IfOk result (λ s. s ≡ stmt.If begun.0.made begun.1 b)) (λ _. IsErr result) }
 {
+    let (test, yes) = begun;
     match no {
         Ok(no) => if_of_parts(alloc, test.made, yes, no),
         Err(e) => Err(e),

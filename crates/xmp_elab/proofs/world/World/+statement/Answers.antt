@@ -26,15 +26,18 @@ statement-returns-in-Block n c =
     ∙ (ap (λ r. r w) (seen_block x.open x.item x.close) ∙ ap (λ l. block_of (map inside_item l) w) (sym c.as_slice.ensures)))
     c.block.ensures
 
-pub statement-returns-in-If : goal.statement-returns-in-If
-statement-returns-in-If n c =
+pub statement-returns-in_ok-begun-in-If : goal.statement-returns-in_ok-begun-in-If
+statement-returns-in_ok-begun-in-If n c =
     let w : _ = c.args.self.now in
-    let test : _ = c.in-If.test in
-    same_walk (stmt_of c.args.x.now w) (if_of test.item (stmt_of c.get.result.now) (option_map else_step c.in-If.other) w) c.if_statement.result c.if_statement.new.self
-    (ap (λ s. stmt_of s w) c.in-If.is
-    ∙ (ap (λ r. r w) (seen_if c.in-If.field-0 test c.in-If.body c.in-If.other)
-    ∙ ap (λ b. if_of test.item (stmt_of b) (option_map else_step c.in-If.other) w) (sym c.get.ensures)))
-    c.if_statement.ensures
+    let x : _ = c.in-If in
+    let begun : _ = c.in_ok-begun-in-If.begun in
+    let other : Run made.Stmt = else_of (option_map else_step x.other) in
+    same_walk (stmt_of c.args.x.now w) (and_then (other c.if_begun.new.self) (λ b. pure (s.If begun.0.made begun.1 b))) c.if_made.result c.else_of-no.new.self
+    (ap (λ s. stmt_of s w) x.is
+    ∙ (ap (λ r. r w) (seen_if x.field-0 x.test x.body x.other)
+    ∙ (ap (λ b. if_of x.test.item (stmt_of b) (option_map else_step x.other) w) (sym c.get.ensures)
+    ∙ paired (typed x.test.item w) (stmt_of c.get.result.now) (λ t. λ a. other >>= (λ b. pure (s.If t.made a b))) begun.0 begun.1 c.if_begun.new.self c.in_ok-begun-in-If.ensures)))
+    (joined_pure (other c.if_begun.new.self) (λ b. s.If begun.0.made begun.1 b) c.else_of-no.result c.if_made.result c.else_of-no.new.self c.else_of-no.ensures c.if_made.ensures)
 
 pub statement-returns-in-While : goal.statement-returns-in-While
 statement-returns-in-While n c =
@@ -78,25 +81,13 @@ statement-returns-in-Tasks n c =
     ∙ (ap (λ r. r w) (seen_tasks c.in-Tasks.line x.open x.item x.close) ∙ ap (λ l. tasks_of c.in-Tasks.line (map task_step l) w) (sym c.as_slice-in-Tasks.ensures)))
     c.tasks.ensures
 
-pub if_statement-returns : goal.if_statement-returns
-if_statement-returns n c =
-    let test : _ = c.in_ok-test.test in
-    let other : Run made.Stmt = else_of (option_map else_step c.args.other.now) in
-    after (typed c.args.test.now c.args.self.now) (λ t. stmt_of c.args.body.now >>= (λ a. other >>= (λ b. pure (s.If t.made a b))))
-    test c.if_made.result c.typed.new.self c.else_of.new.self c.in_ok-test.ensures
-    (after (stmt_of c.args.body.now c.typed.new.self) (λ a. other >>= (λ b. pure (s.If test.made a b)))
-    c.in_ok-made.made c.if_made.result c.statement.new.self c.else_of.new.self c.in_ok-made.ensures
-    (subst (λ (v : made.Stmt). Does (and_then (other c.statement.new.self) (λ b. pure (s.If test.made v b))) c.if_made.result c.else_of.new.self) c.in_ok-yes.ensures
-    (joined_pure (other c.statement.new.self) (λ b. s.If test.made c.in_ok-yes.yes b)
-    c.else_of.result c.if_made.result c.else_of.new.self c.else_of.ensures c.if_made.ensures)))
-
 pub while_loop-returns : goal.while_loop-returns
 while_loop-returns n c =
     let test : _ = c.in_ok-test.test in
     after (typed c.args.test.now c.args.self.now) (λ t. stmt_of c.args.body.now >>= (λ a. pure (s.While t.made a c.args.at)))
-    test c.while_made.result c.typed.new.self c.statement.new.self c.in_ok-test.ensures
+    test c.while_made.result c.typed.new.self c.statement-body.new.self c.in_ok-test.ensures
     (joined_pure (stmt_of c.args.body.now c.typed.new.self) (λ a. s.While test.made a c.args.at)
-    c.statement.result c.while_made.result c.statement.new.self c.statement.ensures c.while_made.ensures)
+    c.statement-body.result c.while_made.result c.statement-body.new.self c.statement-body.ensures c.while_made.ensures)
 
 pub for_loop-returns : goal.for_loop-returns
 for_loop-returns n c =
@@ -105,7 +96,7 @@ for_loop-returns n c =
     after (for_parts head c.args.self.now) (λ ps. stmt_of c.args.body.now >>= (λ b. close_scope >>= (λ _. pure (loop_of head ps b))))
     parts c.for_made.result c.boxed_parts.new.self c.for_made.new.self c.in_ok-parts.ensures
     (joined (stmt_of c.args.body.now c.boxed_parts.new.self) (λ b. close_scope >>= (λ _. pure (loop_of head parts b)))
-    c.statement.result c.for_made.result c.statement.new.self c.for_made.new.self c.statement.ensures c.for_made.ensures)
+    c.statement-body.result c.for_made.result c.statement-body.new.self c.for_made.new.self c.statement-body.ensures c.for_made.ensures)
 
 pub loop_statement-returns : goal.loop_statement-returns
 loop_statement-returns n c =
@@ -115,13 +106,13 @@ loop_statement-returns n c =
     (λ ps. for_of c.args.head.now (stmt_of c.args.body.now) >>= (λ loop. judged_loop line.line.word ps (nest_of (length ps.names) loop)))
     parts c.loop_made.result c.loop_line.new.self c.loop_made.new.self c.in_ok-parts.ensures
     (joined (for_of c.args.head.now (stmt_of c.args.body.now) c.loop_line.new.self) (λ loop. judged_loop line.line.word parts (nest_of (length parts.names) loop))
-    c.for_loop.result c.loop_made.result c.for_loop.new.self c.loop_made.new.self c.for_loop.ensures c.loop_made.ensures)
+    c.for_loop-made.result c.loop_made.result c.for_loop-made.new.self c.loop_made.new.self c.for_loop-made.ensures c.loop_made.ensures)
 
 pub lone_task-returns : goal.lone_task-returns
 lone_task-returns n c =
     let line : _ = c.args.line.now in
     let nodes : _ = c.in_ok-nodes.nodes in
     after (task_line [] line c.args.self.now) (λ ns. stmt_of c.args.body.now >>= (λ b. pure (s.Tasks (made_task ns b line.line.word ∷ []) line.line.word)))
-    nodes c.task_made.result c.task_line.new.self c.statement.new.self c.in_ok-nodes.ensures
+    nodes c.task_made.result c.task_line.new.self c.statement-body.new.self c.in_ok-nodes.ensures
     (joined_pure (stmt_of c.args.body.now c.task_line.new.self) (λ b. s.Tasks (made_task nodes b line.line.word ∷ []) line.line.word)
-    c.statement.result c.task_made.result c.statement.new.self c.statement.ensures c.task_made.ensures)
+    c.statement-body.result c.task_made.result c.statement-body.new.self c.statement-body.ensures c.task_made.ensures)
