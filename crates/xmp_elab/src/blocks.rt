@@ -70,6 +70,7 @@ impl World {
     {
         self.open_scope()?;
         let mut done = Items::new(alloc);
+        // Each arm goes on by itself: what it did is lost where arms join.
         'list: for x in list {
             match x {
                 BlockItem::Mapping(mapping) => {

@@ -1,13 +1,13 @@
-use Rattle.std.proofs.Common.{◌≡◌, ◌∙◌, ap, sym, subst, map, length, List, [], ◌∷◌}
+use Rattle.std.proofs.Common.{◌≡◌, ◌∙◌, ap, sym, map, length, List, [], ◌∷◌}
 use Rattle.std.specs.Option.{option_map}
 use Rattle.xmp_prog.specs.declared.statements.Stmt as made
 use Rattle.xmp_prog.specs.declared.statements.Stmt.TheVariants as s
-use Rattle.xmp_elab.specs.Walk.{Does, Run, ◌>>=◌, and_then, close_scope, pure, typed}
+use Rattle.xmp_elab.specs.Walk.{Run, ◌>>=◌, and_then, close_scope, pure, typed}
 use Rattle.xmp_elab.specs.Statements.{else_of, for_of, for_parts, if_of, loop_of, while_of}
 use Rattle.xmp_elab.specs.Directives.{judged_loop, lone_task, loop_directive, loop_line, made_task, nest_of, task_line, tasks_of}
 use Rattle.xmp_elab.specs.Program.{block_of, else_step, inside_item, plain_of, stmt_of, task_step}
 use Rattle.xmp_elab.proofs.Seen.{seen_block, seen_for, seen_if, seen_loop, seen_plain, seen_task, seen_tasks, seen_while}
-use Rattle.xmp_elab.proofs.Joins.{after, joined, joined_pure}
+use Rattle.xmp_elab.proofs.Joins.{after, joined, joined_pure, paired}
 use Rattle.xmp_elab.proofs.Walks.{same_walk}
 use Rattle.xmp_elab.proofs.world.World.+statement.Goals as goal
 
