@@ -167,11 +167,7 @@ impl World {
     }
 
     // The parts of a `for` in a box, since they are let go where its body fails.
-    fn boxed_parts(
-        &mut self,
-        alloc: Global,
-        head: &ForHead,
-    ) -> Result<Boxed<ForParts>, AllocError>
+    fn boxed_parts(&mut self, alloc: Global, head: &ForHead) -> Result<Boxed<ForParts>, AllocError>
         ensures { Does (for_parts head.now self.old) result self.new }
     {
         let parts = self.for_parts(alloc, head)?;
