@@ -29,6 +29,7 @@ world_after : {A : Type 0} → Step A → World
 world_after (Gave a w) = w
 
 pair_next : {A B C : Type 0} (a c : A) (d : B) (s : Step B) (rest : A → B → Run C) (mid : World) → and_then {B = A × B} s (λ y. pure (a, y)) ≡ Gave (c, d) mid → and_then s (rest a) ≡ rest c d mid
+unfolding given world_after
 pair_next {A} {B} a c d (Gave y w) rest mid e =
     let p : a ≡ c = ap (λ (s : Step (A × B)). (given s).0) e in
     let q : y ≡ d = ap (λ (s : Step (A × B)). (given s).1) e in
