@@ -1,15 +1,15 @@
 // Statements with statements inside.
-ghost use Rattle.std.specs.Prelude.{◌≡◌, ◌<◌, ◌∷◌, ◌++◌, ◌+◌, ◌&&◌, [], IfOk, map, nat_lt, not};
+ghost use Rattle.std.specs.Prelude.{◌≡◌, ◌<◌, ◌∷◌, ◌++◌, ◌+◌, ◌&&◌, [], IfOk, IsErr, MatchResult, length, map, nat_lt, not};
 ghost use Rattle.std.specs.List.{list_all};
 ghost use Rattle.std.specs.Option.{option_map};
 ghost use Rattle.xmp_prog.specs.declared.statements.Stmt.TheVariants as stmt;
-ghost use Rattle.xmp_elab.specs.Walk.{Does};
-ghost use Rattle.xmp_elab.specs.Directives.{lone_task, loop_directive, made_task, share, task_line, tasks_of};
-ghost use Rattle.xmp_elab.specs.Statements.{else_of, for_of, if_of, while_of};
-ghost use Rattle.xmp_elab.specs.Program.{block_of, else_step, inside_item, item_of, plain_of, stmt_of, task_step};
+ghost use Rattle.xmp_elab.specs.Walk.{Does, and_then, close_scope, pure, typed};
+ghost use Rattle.xmp_elab.specs.Directives.{judged_loop, lone_task, loop_directive, made_task, nest_of, share, task_line, tasks_of};
+ghost use Rattle.xmp_elab.specs.Statements.{else_of, for_of, for_parts, if_of, loop_of, while_of};
+ghost use Rattle.xmp_elab.specs.Program.{block_of, else_step, inside_item, plain_of, stmt_of, task_step};
 
-use crate::loop_lines::nest_of;
-use crate::loops::{loop_of, while_statement};
+use crate::loop_lines::{LoopParts, nest_of};
+use crate::loops::{ForParts, loop_of, while_statement};
 use crate::rules::Rule;
 use crate::typed::Operand;
 use crate::world::World;
@@ -47,41 +47,16 @@ impl World {
         match x {
             Stmt::Plain(x) => self.plain(alloc, x),
             Stmt::Block(list) => self.block(alloc, list.item.as_slice()),
-            Stmt::If(_, test, body, other) => self.if_statement(
-                alloc,
-                body.get(),
-                &test.item,
-                other,
-            ),
+            Stmt::If(_, test, body, other) => {
+                let begun = self.if_begun(alloc, body.get(), &test.item)?;
+                let no = self.else_of(alloc, other);
+                if_made(alloc, begun, no)
+            }
             Stmt::While(at, test, body) => self.while_loop(alloc, body.get(), *at, &test.item),
             Stmt::For(head, body) => self.for_loop(alloc, body.get(), head),
             Stmt::Loop(line, head, body) => self.loop_statement(alloc, body.get(), line, head),
             Stmt::Task(line, body) => self.lone_task(alloc, body.get(), line),
             Stmt::Tasks(line, tasks) => self.tasks(alloc, tasks.item.as_slice(), *line),
-        }
-    }
-
-    // What stands in a block, an item at a time.
-    #[cycle(statement)]
-    fn item(
-        &mut self,
-        alloc: Global,
-        x: &BlockItem<Boxed<Stmt>>,
-        done: Items<prog::Stmt>,
-    ) -> Result<Items<prog::Stmt>, AllocError>
-        ensures { Does (item_of done (inside_item x.now) self.old) result self.new }
-    {
-        match x {
-            BlockItem::Mapping(mapping) => {
-                self.mapping(alloc, mapping)?;
-                Ok(done)
-            }
-            BlockItem::Declaration(d) => self.local_declaration(alloc, done, d),
-            BlockItem::Stmt(body) => {
-                let one = self.statement(alloc, body.get())?;
-                let made = pushed(done, one)?;
-                Ok(made)
-            }
         }
     }
 
@@ -95,8 +70,23 @@ impl World {
     {
         self.open_scope()?;
         let mut done = Items::new(alloc);
+        // Each arm goes on by itself: what it did is lost where arms join.
         'list: for x in list {
-            done = self.item(alloc, x, done)?;
+            match x {
+                BlockItem::Mapping(mapping) => {
+                    self.mapping(alloc, mapping)?;
+                    continue;
+                }
+                BlockItem::Declaration(d) => {
+                    done = self.local_declaration(alloc, done, d)?;
+                    continue;
+                }
+                BlockItem::Stmt(body) => {
+                    let one = self.statement(alloc, body.get())?;
+                    done = pushed(done, one)?;
+                    continue;
+                }
+            }
         }
         self.close_scope();
         Ok(prog::Stmt::Block(done))
@@ -116,20 +106,20 @@ impl World {
         }
     }
 
+    // The condition of an `if`, and the statement for where it isn't 0.
     #[cycle(statement)]
-    fn if_statement(
+    fn if_begun(
         &mut self,
         alloc: Global,
         body: &Stmt,
         test: &Expr,
-        other: &Option<(Place, Boxed<Stmt>)>,
-    ) -> Result<prog::Stmt, AllocError>
-        ensures { Does (if_of test.now (stmt_of body.now) (option_map else_step other.now) self.old) result self.new }
+    ) -> Result<(Operand, Boxed<prog::Stmt>), AllocError>
+        ensures { Does (and_then (typed test.now self.old) (λ t. λ w. and_then (stmt_of body.now w) (λ a. pure (t, a)))) result self.new }
     {
-        let Operand { made: test, .. } = self.typed(alloc, test)?;
-        let yes = self.statement(alloc, body)?;
-        let no = self.else_of(alloc, other)?;
-        if_made(alloc, test, yes, no)
+        let test = self.typed(alloc, test)?;
+        let made = self.statement(alloc, body)?;
+        let yes = Boxed::new(alloc, made)?;
+        Ok((test, yes))
     }
 
     #[cycle(statement)]
@@ -142,10 +132,9 @@ impl World {
     ) -> Result<prog::Stmt, AllocError>
         ensures { Does (while_of at test.now (stmt_of body.now) self.old) result self.new }
     {
-        let Operand { made: test, .. } = self.typed(alloc, test)?;
-        let body = self.statement(alloc, body)?;
-        let made = while_statement(alloc, test, body, at)?;
-        Ok(made)
+        let test = self.typed(alloc, test)?;
+        let body = self.statement(alloc, body);
+        while_made(alloc, test, body, at)
     }
 
     #[cycle(statement)]
@@ -157,11 +146,9 @@ impl World {
     ) -> Result<prog::Stmt, AllocError>
         ensures { Does (for_of head.now (stmt_of body.now) self.old) result self.new }
     {
-        let parts = self.for_parts(alloc, head)?;
-        let body = self.statement(alloc, body)?;
-        self.close_scope();
-        let made = loop_of(alloc, head, parts, body)?;
-        Ok(made)
+        let parts = self.boxed_parts(alloc, head)?;
+        let body = self.statement(alloc, body);
+        self.for_made(alloc, head, parts, body)
     }
 
     #[cycle(statement)]
@@ -175,9 +162,65 @@ impl World {
         ensures { Does (loop_directive line.now head.now (stmt_of body.now) self.old) result self.new }
     {
         let parts = self.loop_line(alloc, line)?;
-        let made = self.for_loop(alloc, body, head)?;
+        let made = self.for_loop(alloc, body, head);
+        self.loop_made(alloc, line.line.word, parts, made)
+    }
+
+    // The parts of a `for` in a box, since they are let go where its body fails.
+    fn boxed_parts(&mut self, alloc: Global, head: &ForHead) -> Result<Boxed<ForParts>, AllocError>
+        ensures { Does (for_parts head.now self.old) result self.new }
+    {
+        let parts = self.for_parts(alloc, head)?;
+        let boxed = Boxed::new(alloc, parts)?;
+        Ok(boxed)
+    }
+
+    // The end of a `for`, whose body may have failed.
+    fn for_made(
+        &mut self,
+        alloc: Global,
+        head: &ForHead,
+        parts: Boxed<ForParts>,
+        body: Result<prog::Stmt, AllocError>,
+    ) -> Result<prog::Stmt, AllocError>
+        ensures { MatchResult body (λ b. Does (and_then (close_scope self.old) (λ _. pure (loop_of head.now parts b))) result self.new) (λ _. IsErr result) }
+    {
+        match body {
+            Ok(body) => {
+                self.close_scope();
+                loop_of(alloc, head, parts.into_inner(), body)
+            }
+            Err(e) => Err(e),
+        }
+    }
+
+    // The end of a loop directive, whose `for` may have failed.
+    fn loop_made(
+        &mut self,
+        alloc: Global,
+        word: Place,
+        parts: LoopParts,
+        made: Result<prog::Stmt, AllocError>,
+    ) -> Result<prog::Stmt, AllocError>
+        ensures { MatchResult made (λ loop. Does (judged_loop word parts (nest_of (length parts.names) loop) self.old) result self.new) (λ _. IsErr result) }
+    {
+        match made {
+            Ok(made) => self.nest_made(alloc, word, parts, made),
+            Err(e) => Err(e),
+        }
+    }
+
+    fn nest_made(
+        &mut self,
+        alloc: Global,
+        word: Place,
+        parts: LoopParts,
+        made: prog::Stmt,
+    ) -> Result<prog::Stmt, AllocError>
+        ensures { Does (judged_loop word parts (nest_of (length parts.names) made) self.old) result self.new }
+    {
         let nest = nest_of(alloc, parts.names.len(), made)?;
-        self.judged_loop(alloc, line.line.word, parts, nest)
+        self.judged_loop(alloc, word, parts, nest)
     }
 
     // ---- tasks
@@ -207,9 +250,8 @@ impl World {
         ensures { Does (lone_task line.now (stmt_of body.now) self.old) result self.new }
     {
         let nodes = self.task_line(alloc, &[], line)?;
-        let body = self.statement(alloc, body)?;
-        let list = task_pushed(Items::new(alloc), nodes, body, line.line.word)?;
-        Ok(prog::Stmt::Tasks(list, line.line.word))
+        let body = self.statement(alloc, body);
+        task_made(alloc, nodes, body, line.line.word)
     }
 
     #[cycle(statement)]
@@ -258,15 +300,60 @@ pub(crate) fn pushed(
 
 fn if_made(
     alloc: Global,
+    begun: (Operand, Boxed<prog::Stmt>),
+    no: Result<prog::Stmt, AllocError>,
+) -> Result<prog::Stmt, AllocError>
+    ensures { MatchResult no (λ b. IfOk result (λ s. s ≡ stmt.If begun.0.made begun.1 b)) (λ _. IsErr result) }
+{
+    let (test, yes) = begun;
+    match no {
+        Ok(no) => if_of_parts(alloc, test.made, yes, no),
+        Err(e) => Err(e),
+    }
+}
+
+fn if_of_parts(
+    alloc: Global,
     test: prog::Expr,
-    yes: prog::Stmt,
+    yes: Boxed<prog::Stmt>,
     no: prog::Stmt,
 ) -> Result<prog::Stmt, AllocError>
     ensures { IfOk result (λ s. s ≡ stmt.If test yes no) }
 {
-    let yes = Boxed::new(alloc, yes)?;
     let no = Boxed::new(alloc, no)?;
     Ok(prog::Stmt::If(test, yes, no))
+}
+
+fn while_made(
+    alloc: Global,
+    test: Operand,
+    body: Result<prog::Stmt, AllocError>,
+    at: Place,
+) -> Result<prog::Stmt, AllocError>
+    ensures { MatchResult body (λ b. IfOk result (λ s. s ≡ stmt.While test.made b at)) (λ _. IsErr result) }
+{
+    match body {
+        Ok(body) => while_statement(alloc, test.made, body, at),
+        Err(e) => Err(e),
+    }
+}
+
+// A task by itself.
+fn task_made(
+    alloc: Global,
+    nodes: NodeSet,
+    body: Result<prog::Stmt, AllocError>,
+    at: Place,
+) -> Result<prog::Stmt, AllocError>
+    ensures { MatchResult body (λ b. IfOk result (λ s. s ≡ stmt.Tasks (made_task nodes b at ∷ []) at)) (λ _. IsErr result) }
+{
+    match body {
+        Ok(body) => {
+            let list = task_pushed(Items::new(alloc), nodes, body, at)?;
+            Ok(prog::Stmt::Tasks(list, at))
+        }
+        Err(e) => Err(e),
+    }
 }
 
 fn share(a: NodeSet, b: NodeSet) -> bool
