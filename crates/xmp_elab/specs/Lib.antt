@@ -12,3 +12,5 @@ pub mod MappingLines
 pub mod Program
 pub mod MappingRules
 pub mod Verdict
+pub mod Narrow
+pub mod Parts
