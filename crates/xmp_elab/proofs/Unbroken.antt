@@ -68,7 +68,7 @@ all_at f i (y ∷ ys) (suc k) x h e =
     let j : i + suc k ≡ i + 1 + k = omega arith in
     ap (λ n. f (n, x)) j ∙ all_at f (i + 1) ys k x (right_true (f (i, y)) (list_all f (enumerate_from (i + 1) ys)) h) e
 
-holds : (t : Bool) (rule : Rule) (at : Place) → unless t rule at ≡ [] → t ≡ true
+pub holds : (t : Bool) (rule : Rule) (at : Place) → unless t rule at ≡ [] → t ≡ true
 holds true rule at h = refl
 holds false rule at h = cc
 

@@ -6,9 +6,9 @@ ghost use Rattle.xmp_map.specs.Align.{aligned_dims, map_fault};
 ghost use Rattle.xmp_map.specs.RowMajor.{product};
 ghost use Rattle.xmp_map.specs.Spread.{sizes_fit};
 ghost use Rattle.xmp_elab.specs.Directives.{natural};
-ghost use Rattle.xmp_elab.specs.MappingRules.{align_of, aligned, item_at, mapping_rules, nodes_of, shadowed};
+ghost use Rattle.xmp_elab.specs.MappingRules.{align_of, aligned, item_at, mapping_rules, shadowed};
 ghost use Rattle.xmp_elab.specs.Narrow.{are_narrow, is_narrow_pair, is_narrow_point};
-ghost use Rattle.xmp_elab.specs.Parts.{EachMade, IsArray, IsGrid, IsHome, IsOver, IsSpread, IsTemplate, no_target, shadow_of, target_from, targets, widths_in};
+ghost use Rattle.xmp_elab.specs.Parts.{EachMade, IsArray, IsHome, IsOver, IsSpread, IsTemplate, no_target, shadow_of, target_from, targets, widths_in};
 
 use crate::align_rules::aligned;
 use crate::grids::narrowed;
@@ -183,7 +183,6 @@ fn spread_home(
 ) -> Result<Home, AllocError>
     requires shadows { shadows.now ≡ shadowed w.now }
     requires unbroken { mapping_rules w.now ≡ [] }
-    requires grid { IsGrid (map natural (nodes_of w.now)) grid.now }
     requires templates { EachMade (λ k line t. IsTemplate w.now grid.now k t) 0 w.now.mappings.templates templates.now }
     requires array { slice_get w.now.names.arrays k ≡ Some array.now }
     requires align { align_of w.now k ≡ Some align.now }
@@ -214,7 +213,6 @@ fn home_of(
     requires aligns { aligns.now ≡ aligned w.now }
     requires shadows { shadows.now ≡ shadowed w.now }
     requires unbroken { mapping_rules w.now ≡ [] }
-    requires grid { IsGrid (map natural (nodes_of w.now)) grid.now }
     requires templates { EachMade (λ k line t. IsTemplate w.now grid.now k t) 0 w.now.mappings.templates templates.now }
     requires array { slice_get w.now.names.arrays k ≡ Some array.now }
     ensures { IfOk result (λ h. IsHome array.now.coarray w.now templates.now k array.now.extents h) }
@@ -241,7 +239,6 @@ fn array_at(
     requires aligns { aligns.now ≡ aligned w.now }
     requires shadows { shadows.now ≡ shadowed w.now }
     requires unbroken { mapping_rules w.now ≡ [] }
-    requires grid { IsGrid (map natural (nodes_of w.now)) grid.now }
     requires templates { EachMade (λ k line t. IsTemplate w.now grid.now k t) 0 w.now.mappings.templates templates.now }
     requires array { slice_get w.now.names.arrays k ≡ Some array.now }
     ensures { IfOk result (λ made. IsArray w.now templates.now k array.now made) }
@@ -263,7 +260,6 @@ pub(crate) fn made_arrays(
     templates: &[Template],
 ) -> Result<Items<prog::Array>, AllocError>
     requires unbroken { mapping_rules w.now ≡ [] }
-    requires grid { IsGrid (map natural (nodes_of w.now)) grid.now }
     requires templates { EachMade (λ k line t. IsTemplate w.now grid.now k t) 0 w.now.mappings.templates templates.now }
     ensures { IfOk result (λ made. EachMade (IsArray w.now templates.now) 0 w.now.names.arrays made) }
 {
