@@ -64,10 +64,16 @@ IsTemplate w g k t = IsOf g (template_sizes w k) (forms_of w k) t
 
 -- ---- arrays
 
--- The dimension of the template, from the k-th on, whose point names a dimension of the array, with the point's constant.
+-- A dimension that no point names is whole at each node.
 abbrev pub no_target : Target
 no_target = record { dim = None; offset = pos 0 }
 
+-- The constant of a point that names a dimension of the array.
+abbrev pub offset_for : ℕ → AlignPoint → Option ℤ
+offset_for d ap.Star = None
+offset_for d (ap.Dummy e offset) = if e == d then Some offset else None
+
+-- The dimension of the template, from the k-th on, whose point names a dimension of the array, with the point's constant.
 abbrev pub target_from : ℕ → ℕ → List AlignPoint → Target
 target_from d k [] = no_target
 target_from d k (ap.Star ∷ more) = target_from d (k + 1) more

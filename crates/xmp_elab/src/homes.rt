@@ -8,7 +8,7 @@ ghost use Rattle.xmp_map.specs.Spread.{sizes_fit};
 ghost use Rattle.xmp_elab.specs.Directives.{natural};
 ghost use Rattle.xmp_elab.specs.MappingRules.{align_of, aligned, item_at, mapping_rules, shadowed};
 ghost use Rattle.xmp_elab.specs.Narrow.{are_narrow, is_narrow_pair, is_narrow_point};
-ghost use Rattle.xmp_elab.specs.Parts.{EachMade, IsArray, IsHome, IsOver, IsSpread, IsTemplate, no_target, shadow_of, target_from, targets, widths_in};
+ghost use Rattle.xmp_elab.specs.Parts.{EachMade, IsArray, IsHome, IsOver, IsSpread, IsTemplate, no_target, offset_for, shadow_of, target_from, targets, widths_in};
 
 use crate::align_rules::aligned;
 use crate::grids::narrowed;
@@ -25,20 +25,35 @@ use xmp_prog::Home;
 
 // ---- what the dimensions of an array are aligned with
 
-// The dimension of the template whose point names dimension `d` of the array, with the constant of the point.
+// The constant of a point, where it is that of dimension `d` of the array.
+fn offset_for(point: AlignPoint, d: usize) -> Option<i32>
+    requires { IsTrue (is_narrow_point point) }
+    ensures { result ≡ offset_for d point }
+{
+    match point {
+        AlignPoint::Star => None,
+        AlignPoint::Dummy { dimension, offset } => {
+            if dimension == d {
+                Some(offset as i32)
+            } else {
+                None
+            }
+        }
+    }
+}
+
+// What dimension `d` of the array is aligned with.
 fn target_of(d: usize, points: &[AlignPoint]) -> Target
     requires narrow { IsTrue (list_all is_narrow_point points.now) }
     requires few { length points.now ≤ 3 }
     ensures { result ≡ target_from d 0 points.now }
 {
     'points: for (k, point) in points.iter().enumerate() {
-        if let AlignPoint::Dummy { dimension, offset } = *point {
-            if dimension == d {
-                return Target {
-                    dim: Some(k as u32),
-                    offset: offset as i32,
-                };
-            }
+        if let Some(offset) = offset_for(*point, d) {
+            return Target {
+                dim: Some(k as u32),
+                offset,
+            };
         }
     }
     Target {
