@@ -64,6 +64,8 @@ mod mapping_texts;
 #[cfg(test)]
 mod name_texts;
 #[cfg(test)]
+mod parts_texts;
+#[cfg(test)]
 mod tests;
 #[cfg(test)]
 mod texts;

@@ -1,0 +1,109 @@
+// Texts of programs, and the parts of the typed program that they are.
+ghost use Rattle.std.specs.Prelude.{IsTrue};
+ghost use Rattle.xmp_elab.specs.Narrow.{is_count};
+
+use crate::elaborate_parts;
+use std::alloc::Global;
+use std::test::Fail;
+use xmp_lex::{expand, lex};
+use xmp_map::{ArrayMap, Target};
+use xmp_parse::parse;
+use xmp_prog::{Home, Kind, ProgParts};
+
+// The parts of a text for a number of nodes or none; nothing where it is no program.
+fn parts(alloc: Global, text: &[u8], given: Option<u32>) -> Option<ProgParts>
+    requires { IsTrue (is_count given) }
+{
+    if text.len() > 1048576 {
+        return None;
+    }
+    let Ok(tokens) = lex(alloc, text) else {
+        return None;
+    };
+    let Ok(tokens) = expand(alloc, tokens) else {
+        return None;
+    };
+    let Ok(tree) = parse(alloc, tokens.as_slice()) else {
+        return None;
+    };
+    match elaborate_parts(alloc, &tree, given) {
+        Ok(parts) => Some(parts),
+        Err(_) => None,
+    }
+}
+
+// How many nodes a program has, and its kind.
+fn nodes(parts: Option<ProgParts>) -> Option<(u32, Kind)> {
+    match parts {
+        Some(parts) => Some((parts.grid.count(), parts.kind)),
+        None => None,
+    }
+}
+
+// The home of the first array.
+fn first_home(parts: Option<ProgParts>) -> Option<Home> {
+    match parts {
+        Some(parts) => match parts.arrays.get(0) {
+            Some(array) => Some(array.home),
+            None => None,
+        },
+        None => None,
+    }
+}
+
+// What the first dimension is aligned with, and its widths.
+fn first_dimension(map: &ArrayMap) -> Option<(Target, (u32, u32))> {
+    if map.dims() == 0 {
+        return None;
+    }
+    Some((map.target(0), map.shadow(0)))
+}
+
+// The number of the template of an array, with its first dimension.
+fn spread(home: Option<Home>) -> Option<(u32, Option<(Target, (u32, u32))>)> {
+    match home {
+        Some(Home::Spread(number, map)) => Some((number, first_dimension(&map))),
+        _ => None,
+    }
+}
+
+#[test]
+fn nodes_are_the_product_of_the_sizes(rt: HostRuntime) -> Result<(), Fail> {
+    let alloc = rt.alloc();
+    let three = b"#pragma xmp nodes p[3]\nint main() {}";
+    assert_eq!(rt; nodes(parts(alloc, three, Some(3))), Some((3, Kind::Global)));
+    assert_eq!(rt; nodes(parts(alloc, three, None)), Some((3, Kind::Global)));
+    assert_eq!(rt; nodes(parts(alloc, three, Some(4))), None);
+    Ok(())
+}
+
+#[test]
+fn nodes_without_a_nodes_array_stand_in_a_row(rt: HostRuntime) -> Result<(), Fail> {
+    let alloc = rt.alloc();
+    assert_eq!(rt; nodes(parts(alloc, b"int main() {}", Some(5))), Some((5, Kind::Global)));
+    assert_eq!(rt; nodes(parts(alloc, b"int main() {}", None)), Some((1, Kind::Global)));
+    Ok(())
+}
+
+#[test]
+fn an_aligned_array_has_its_map(rt: HostRuntime) -> Result<(), Fail> {
+    let alloc = rt.alloc();
+    let text = b"int a[14];\n#pragma xmp nodes p[4]\n#pragma xmp template s[4]\n#pragma xmp template t[16]\n#pragma xmp distribute s[block] onto p\n#pragma xmp distribute t[block] onto p\n#pragma xmp align a[i] with t[i+2]\n#pragma xmp shadow a[1:2]\nint main() {}";
+    let target = Target {
+        dim: Some(0),
+        offset: 2,
+    };
+    let home = first_home(parts(alloc, text, None));
+    assert_eq!(rt; spread(home), Some((1, Some((target, (1, 2))))));
+    Ok(())
+}
+
+#[test]
+fn a_coarray_stays_at_its_image(rt: HostRuntime) -> Result<(), Fail> {
+    let alloc = rt.alloc();
+    let text = b"int c[4]:[*], a[2];\nint main() {}";
+    assert_eq!(rt; nodes(parts(alloc, text, Some(2))), Some((2, Kind::Coarray)));
+    assert_eq!(rt; first_home(parts(alloc, text, Some(2))), Some(Home::Image));
+    assert_eq!(rt; first_home(parts(alloc, b"int a[2];\nint main() {}", None)), Some(Home::Copy));
+    Ok(())
+}
