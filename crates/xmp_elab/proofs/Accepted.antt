@@ -1,5 +1,5 @@
 -- Where no rule of mappings breaks, the grid, the templates and the maps of a program can be made.
-use Rattle.std.proofs.Common.{◌≡◌, ◌≤◌, ◌<◌, ◌∙◌, sym, ap, refl, subst, ◌++◌, ◌∷◌, [], ◌+◌, ◌*◌, ◌&&◌, ℕ, zero, suc, ℤ, pos, Bool, true, false, List, Option, Some, None, arith, length, map, IsTrue, eqb-true, leb-true, tt}
+use Rattle.std.proofs.Common.{◌≡◌, ◌≤◌, ◌<◌, ◌∙◌, sym, ap, refl, subst, ◌++◌, ◌∷◌, [], ◌+◌, ◌*◌, ◌&&◌, ℕ, zero, suc, ℤ, pos, Bool, true, false, List, Option, Some, None, arith, length, map, IsTrue, eqb-true, leb-true}
 use Rattle.std.specs.Prelude.{slice_get, ◌==◌, nat_le, if◌then◌else◌}
 use Rattle.std.specs.List.{list_all, enumerate_from}
 use Rattle.std.proofs.lemmas.Option.{same_Some, none-some}
@@ -60,16 +60,16 @@ cells_right w k a h c e =
 
 -- What a map is made from.
 pub record MapFits (extents : List ℕ) (points : List AlignPoint) (shadow : Option Shadow) (t : Template) : Type 0 where
-  pub points : IsTrue (list_all is_narrow_point points)
+  pub narrow : IsTrue (list_all is_narrow_point points)
   pub few : length points ≤ 3
-  pub shadow : IsTrue (are_narrow shadow)
-  pub widths : length (widths_in extents shadow) ≡ length extents
-  pub sizes : IsTrue (sizes_fit extents)
+  pub narrow_widths : IsTrue (are_narrow shadow)
+  pub as_extents : length (widths_in extents shadow) ≡ length extents
+  pub fit : IsTrue (sizes_fit extents)
   pub cells : product extents ≤ 4194304
   pub right : map_fault t.dims t.spread (aligned_dims extents (targets extents points) (widths_in extents shadow)) ≡ None
 
 narrow_point : (extents : List ℕ) (b : Bool) (size : Option ℤ) (p : AlignPoint) → point_fits extents b size p ≡ true → is_narrow_point p ≡ true
-narrow_point extents b None p h = absurd (cc : ⊥)
+narrow_point extents b None p h = absurd (cc)
 narrow_point extents b (Some z) ap.Star h = refl
 narrow_point extents b (Some z) (ap.Dummy d o) h = left_true (is_small o) _ h
 
@@ -93,11 +93,11 @@ map_fits extents sizes forms points shadow g t r q is fit cells =
     let short : length extents ≤ 3 = at_most_three (length extents) (left_true (one_to_three (length extents)) _ fit) in
     let ws : length (widths_in extents shadow) ≡ length extents = widths_length extents forms points shadow q in
     record {
-      points = narrow_points extents forms sizes 0 points r.fit;
+      narrow = narrow_points extents forms sizes 0 points r.fit;
       few = at_most_three (length points) r.few;
-      shadow = narrow_shadow extents forms points shadow q;
-      widths = ws;
-      sizes = fit;
+      narrow_widths = narrow_shadow extents forms points shadow q;
+      as_extents = ws;
+      fit = fit;
       cells = cells;
       right = no_fault _ _ _
           (names_right extents sizes forms points (widths_in extents shadow) t.spread r made short ws)
@@ -130,8 +130,8 @@ points_of w k array a l at is e h t =
     let same : length a.points ≡ length l.sizes = eqb-true (length a.points) _ (right_true (one_to_three (length a.points)) _ counts) ∙ ap (λ ss. length ss) sizes in
     record {
       few = left_true (one_to_three (length a.points)) _ counts;
-      sizes = same;
-      forms = same ∙ sym (eqb-true (length (forms_of w a.template)) (length l.sizes) (left_true _ _ t.spread));
+      as_sizes = same;
+      as_forms = same ∙ sym (eqb-true (length (forms_of w a.template)) (length l.sizes) (left_true _ _ t.spread));
       different = left_true (all_different (dimensions_in a.points)) (dummies_right a.dummies (dimensions_in a.points)) (left_true _ _ rest);
       fit = subst (λ ss. points_right array.extents (forms_of w a.template) ss a.points ≡ true) sizes
           (subst (λ es. points_right es (forms_of w a.template) (template_sizes w a.template) a.points ≡ true) extents

@@ -13,8 +13,8 @@ use Rattle.xmp_elab.specs.declared.mappings.AlignPoint.TheVariants as ap
 use Rattle.xmp_elab.specs.declared.mappings.Form.{Form}
 use Rattle.xmp_elab.specs.Numbers.{first_place, is_at}
 use Rattle.xmp_elab.specs.MappingRules.{all_different, dimension_in, dimensions_in, interval_dimension, spans_intervals}
-use Rattle.xmp_elab.specs.Parts.{no_target, target_from}
-use Rattle.xmp_elab.proofs.Unbroken.{all_at}
+use Rattle.xmp_elab.specs.Parts.{no_target, target_at, target_from}
+use Rattle.xmp_elab.proofs.Unbroken.{all_here}
 
 -- ---- a dimension has one point
 
@@ -37,7 +37,7 @@ is_at_place i None h = cc
 is_at_place i (Some j) h = ap Some (eqb-true j i h)
 
 first_here : (ds : List ℕ) (i d : ℕ) → all_different ds ≡ true → slice_get ds i ≡ Some d → first_place d ds ≡ Some i
-first_here ds i d h e = is_at_place i (first_place d ds) (all_at (λ x. is_at x.0 (first_place x.1 ds)) 0 ds i d h e)
+first_here ds i d h e = is_at_place i (first_place d ds) (all_here (λ x. is_at x.0 (first_place x.1 ds)) ds i d h e)
 
 pub unique : (points : List AlignPoint) (i k d : ℕ) (o q : ℤ) → all_different (dimensions_in points) ≡ true → slice_get points i ≡ Some (ap.Dummy d o) → slice_get points k ≡ Some (ap.Dummy d q) → i ≡ k
 unique points i k d o q h e f =
@@ -54,7 +54,7 @@ pub record Named (d j : ℕ) (points : List AlignPoint) (t : Target) : Type 0 wh
   pub place : ℕ
   pub offset : ℤ
   pub at : slice_get points place ≡ Some (ap.Dummy d offset)
-  pub is : t ≡ record { dim = Some (j + place); offset = offset }
+  pub is : t ≡ target_at (j + place) offset
 
 abbrev pub Unnamed : ℕ → List AlignPoint → Target → Type 0
 Unnamed d points t = (t ≡ no_target) × ((i : ℕ) (o : ℤ) → slice_get points i ≡ Some (ap.Dummy d o) → ⊥)
@@ -62,8 +62,12 @@ Unnamed d points t = (t ≡ no_target) × ((i : ℕ) (o : ℤ) → slice_get poi
 pub star_not : (d : ℕ) (o : ℤ) → Some ap.Star ≡ Some (ap.Dummy d o) → ⊥
 star_not d o e = cc
 
+abbrev dim_in : ℕ → Option AlignPoint → ℕ
+dim_in c (Some (ap.Dummy d o)) = d
+dim_in c _ = c
+
 dimension_of : (c d : ℕ) (q o : ℤ) → Some (ap.Dummy c q) ≡ Some (ap.Dummy d o) → c ≡ d
-dimension_of c d q o e = cc
+dimension_of c d q o e = ap (dim_in c) e
 
 pub found : (d j : ℕ) (points : List AlignPoint) → Unnamed d points (target_from d j points) ⊎ Named d j points (target_from d j points)
 found d j [] = inl (refl, λ i o e. none-some (ap.Dummy d o) e)
@@ -76,7 +80,7 @@ found d j (ap.Star ∷ ps) = ⊎_elim (λ u. inl (u.0, star d ps u.1)) (λ n. in
     later : Named d (j + 1) ps (target_from d (j + 1) ps) → Named d j (ap.Star ∷ ps) (target_from d (j + 1) ps)
     later n =
         let e : j + 1 + n.place ≡ j + suc n.place = omega arith in
-        record { place = suc n.place; offset = n.offset; at = n.at; is = n.is ∙ ap (λ m. record { dim = Some m; offset = n.offset }) e }
+        record { place = suc n.place; offset = n.offset; at = n.at; is = n.is ∙ ap (λ m. target_at m n.offset) e }
 found d j (ap.Dummy c q ∷ ps) = at (c == d) refl
   where
     other : (c == d) ≡ false → ((i : ℕ) (o : ℤ) → slice_get ps i ≡ Some (ap.Dummy d o) → ⊥) → (i : ℕ) (o : ℤ) → slice_get (ap.Dummy c q ∷ ps) i ≡ Some (ap.Dummy d o) → ⊥
@@ -86,12 +90,12 @@ found d j (ap.Dummy c q ∷ ps) = at (c == d) refl
     later : Named d (j + 1) ps (target_from d (j + 1) ps) → Named d j (ap.Dummy c q ∷ ps) (target_from d (j + 1) ps)
     later n =
         let e : j + 1 + n.place ≡ j + suc n.place = omega arith in
-        record { place = suc n.place; offset = n.offset; at = n.at; is = n.is ∙ ap (λ m. record { dim = Some m; offset = n.offset }) e }
+        record { place = suc n.place; offset = n.offset; at = n.at; is = n.is ∙ ap (λ m. target_at m n.offset) e }
 
-    at : (b : Bool) → (c == d) ≡ b → Unnamed d (ap.Dummy c q ∷ ps) (if b then record { dim = Some j; offset = q } else target_from d (j + 1) ps) ⊎ Named d j (ap.Dummy c q ∷ ps) (if b then record { dim = Some j; offset = q } else target_from d (j + 1) ps)
+    at : (b : Bool) → (c == d) ≡ b → Unnamed d (ap.Dummy c q ∷ ps) (if b then target_at j q else target_from d (j + 1) ps) ⊎ Named d j (ap.Dummy c q ∷ ps) (if b then target_at j q else target_from d (j + 1) ps)
     at true e =
         let z : j ≡ j + 0 = omega arith in
-        inr (record { place = 0; offset = q; at = ap (λ n. Some (ap.Dummy n q)) (eqb-true c d e); is = ap (λ m. record { dim = Some m; offset = q }) z })
+        inr (record { place = 0; offset = q; at = ap (λ n. Some (ap.Dummy n q)) (eqb-true c d e); is = ap (λ m. target_at m q) z })
     at false e = ⊎_elim (λ u. inl (u.0, other e u.1)) (λ n. inr (later n)) (found d (j + 1) ps)
 
 -- ---- the dimensions that name a dimension of the template
@@ -131,7 +135,7 @@ named_by_none points k e no = ⊎_elim (λ u. ap (λ t. names t.dim k) u.0) (λ 
 -- ---- the dimensions that may have a shadow
 
 member : (d : ℕ) (ds : List ℕ) (o : Option ℕ) → first_place d ds ≡ o → is_some o ≡ true → (n : ℕ) × (slice_get ds n ≡ Some d)
-member d ds None p h = absurd (cc : ⊥)
+member d ds None p h = absurd (cc)
 member d ds (Some i) p h =
     let q = position-Some (λ n. n == d) ds i 0 p in
     (i, slice_get-get_or ds i 0 q.0 ∙ ap Some (eqb-true (get_or ds i 0) d q.1))
@@ -155,10 +159,7 @@ chunked : (forms : List Form) (points : List AlignPoint) (j d : ℕ) → Lists f
 chunked forms [] j d n e = absurd (none-some d e)
 chunked forms (p ∷ ps) j d n e = at p (spans_intervals (slice_get forms j)) refl n e
   where
-    rest : List ℕ
-    rest = flat_map (interval_dimension forms) (enumerate_from (j + 1) ps)
-
-    at : (p : AlignPoint) (b : Bool) → spans_intervals (slice_get forms j) ≡ b → (n : ℕ) → slice_get ((if b then dimension_in p else []) ++ rest) n ≡ Some d → Chunked forms (p ∷ ps) j d
+    at : (p : AlignPoint) (b : Bool) → spans_intervals (slice_get forms j) ≡ b → (n : ℕ) → slice_get ((if b then dimension_in p else []) ++ flat_map (interval_dimension forms) (enumerate_from (j + 1) ps)) n ≡ Some d → Chunked forms (p ∷ ps) j d
     at p false s n e = next_point forms p ps j d (chunked forms ps (j + 1) d n e)
     at ap.Star true s n e = next_point forms ap.Star ps j d (chunked forms ps (j + 1) d n e)
     at (ap.Dummy c q) true s zero e =
@@ -168,6 +169,5 @@ chunked forms (p ∷ ps) j d n e = at p (spans_intervals (slice_get forms j)) re
 
 pub in_intervals : (forms : List Form) (points : List AlignPoint) (d : ℕ) → is_some (first_place d (flat_map (interval_dimension forms) (enumerate_from 0 points))) ≡ true → Chunked forms points 0 d
 in_intervals forms points d h =
-    let ds : List ℕ = flat_map (interval_dimension forms) (enumerate_from 0 points) in
-    let m = member d ds (first_place d ds) refl h in
+    let m = member d (flat_map (interval_dimension forms) (enumerate_from 0 points)) (first_place d (flat_map (interval_dimension forms) (enumerate_from 0 points))) refl h in
     chunked forms points 0 d m.0 m.1

@@ -1,6 +1,6 @@
 -- The sizes and forms of a template that breaks no rule make a template.
-use Rattle.std.proofs.Common.{◌≡◌, ◌≤◌, ◌<◌, ◌∙◌, sym, ap, ap₂, refl, subst, ◌∷◌, [], ◌+◌, ◌&&◌, ℕ, zero, suc, ℤ, pos, negsuc, Bool, true, false, cond, List, Option, Some, None, arith, length, map, take, sum, IsTrue, eq-eqb, eqb-true, leb-true, le-leb, tt, ⊤}
-use Rattle.std.specs.Prelude.{◌==◌, nat_le, int_le, slice_index, if◌then◌else◌}
+use Rattle.std.proofs.Common.{◌≡◌, ◌≤◌, ◌<◌, ◌∙◌, sym, ap, ap₂, refl, subst, ◌∷◌, [], ◌+◌, ◌&&◌, ℕ, zero, suc, ℤ, pos, negsuc, Bool, true, false, cond, List, Option, Some, None, arith, length, map, take, sum, IsTrue, eq-eqb, eqb-true, leb-true, le-leb}
+use Rattle.std.specs.Prelude.{⊤, ◌==◌, nat_le, int_le, slice_index, if◌then◌else◌}
 use Rattle.std.specs.List.{list_all, count_by}
 use Rattle.std.proofs.lemmas.Bool.Decides.{nat_tests}
 use Rattle.std.proofs.lemmas.List.{length-map}
@@ -66,7 +66,7 @@ meant (suc k) (n ∷ ns) h = ap (λ l. n ∷ l) (meant k ns (omega arith))
 
 meant_of : (ls : List ℤ) → length ls ≤ 16 → take (length ls) (padded 16 (map natural ls)) ≡ map natural ls
 meant_of ls h =
-    let e : length (map natural ls) ≡ length ls = length-map natural ls in
+    let e : length (map natural ls) ≡ length ls = length-map ls natural in
     ap (λ n. take n (padded 16 (map natural ls))) (sym e) ∙ meant 16 (map natural ls) (subst (λ n. n ≤ 16) (sym e) h)
 
 -- No number of a list is above its sum.
@@ -94,7 +94,7 @@ form_here : (f : Form) (s p : ℤ) (g : ℕ) → g ≡ natural p → nat_le (nat
 form_here form.Whole s p g e few x h = (refl, refl)
 form_here form.Block s p g e few x h = (refl, refl)
 form_here (form.Cyclic (pos n)) s p g e few x h = (both_true (valid.is_extent n) true h refl, right_true (nat_le 1 n) _ h)
-form_here (form.Cyclic (negsuc n)) s p g e few x h = absurd (cc : ⊥)
+form_here (form.Cyclic (negsuc n)) s p g e few x h = absurd (cc)
 form_here (form.Gblock ls) s p g e few x h =
     let n : length ls ≡ natural p = counts_is (length ls) p (left_true (counts (length ls) p) (lengths_right ls s) h) in
     let t : sum (map natural ls) ≡ natural s = counts_is (sum (map natural ls)) s (right_true (list_all (λ n. int_le (pos 0) n) ls) _ (right_true (counts (length ls) p) (lengths_right ls s) h)) in
@@ -157,8 +157,8 @@ too_many a b c d rest h = grind (arith, nat_tests)
 agrees : (nodes : List ℤ) → one_to_three (length nodes) ≡ true → Agrees (filled 1 (map natural nodes)) 0 nodes
 agrees [] h = tt
 agrees (a ∷ []) h = (refl, tt)
-agrees (a ∷ b ∷ []) h = (refl, refl, tt)
-agrees (a ∷ b ∷ c ∷ []) h = (refl, refl, refl, tt)
+agrees (a ∷ b ∷ []) h = (refl, (refl, tt))
+agrees (a ∷ b ∷ c ∷ []) h = (refl, (refl, (refl, tt)))
 agrees (a ∷ b ∷ c ∷ d ∷ rest) h = absurd (too_many a b c d rest h)
 
 no_fault : (a b c : Bool) → a ≡ true → b ≡ true → c ≡ true → (if a then (if b then (if c then None else Some Chunk) else Some Spread) else Some Size) ≡ None
@@ -169,8 +169,8 @@ no_fault true true false h k l = cc
 
 -- The three facts that the template is made from.
 pub record Makes (nodes sizes : List ℤ) (forms : List Form) (g : Grid) : Type 0 where
-  pub sizes : IsTrue (list_all is_narrow sizes)
-  pub forms : IsTrue (list_all is_narrow_form forms)
+  pub narrow : IsTrue (list_all is_narrow sizes)
+  pub narrow_forms : IsTrue (list_all is_narrow_form forms)
   pub right : template_fault g.dims g.sizes (map natural sizes) (map made_form forms) ≡ None
 
 pub makes_template : (nodes sizes : List ℤ) (forms : List Form) (g : Grid) → RightNodes nodes → RightTemplate nodes sizes forms → IsGrid (map natural nodes) g → Makes nodes sizes forms g
@@ -178,13 +178,13 @@ makes_template nodes sizes forms g n t is =
     let same : length forms ≡ length sizes = eqb-true (length forms) (length sizes) (left_true (length forms == length sizes) _ t.spread) in
     let many : count_by is_distributed forms ≡ length nodes = eqb-true (count_by is_distributed forms) (length nodes) (right_true (length forms == length sizes) _ t.spread) in
     let fit = all_fit forms sizes (filled 1 (map natural nodes)) same t.extents nodes 0 (agrees nodes n.few) (small_nodes nodes n) many t.forms in
-    let dims : spreads (map made_form forms) ≡ g.dims = spreads_are forms ∙ (many ∙ (sym (length-map natural nodes) ∙ sym is.1)) in
-    let lens : length (map made_form forms) ≡ length (map natural sizes) = length-map made_form forms ∙ (same ∙ sym (length-map natural sizes)) in
+    let dims : spreads (map made_form forms) ≡ g.dims = spreads_are forms ∙ (many ∙ (sym (length-map nodes natural) ∙ sym is.1)) in
+    let lens : length (map made_form forms) ≡ length (map natural sizes) = length-map forms made_form ∙ (same ∙ sym (length-map sizes natural)) in
     record {
-      sizes = sizes_narrow sizes t.extents;
-      forms = fit.1;
+      narrow = sizes_narrow sizes t.extents;
+      narrow_forms = fit.1;
       right = no_fault (sizes_fit (map natural sizes)) _ _
-          (both_true _ _ (ap one_to_three (length-map natural sizes) ∙ t.few) (sizes_there sizes t.extents))
+          (both_true _ _ (ap one_to_three (length-map sizes natural) ∙ t.few) (sizes_there sizes t.extents))
           (both_true _ _ (eq-eqb _ _ lens) (eq-eqb _ _ dims))
           (subst (λ l. chunks_fit (map natural sizes) (map made_form forms) l 0 ≡ true) (sym is.0) fit.0);
     }

@@ -1,12 +1,12 @@
 -- Lists of which each item is made from the one in its place.
-use Rattle.std.proofs.Common.{◌≡◌, ◌≤◌, ◌<◌, ◌∙◌, sym, ap, refl, subst, ◌++◌, ◌∷◌, [], ◌+◌, ℕ, zero, suc, ℤ, Bool, true, false, List, Option, Some, None, arith, length, get_or, map, take, drop, append_assoc, tt}
+use Rattle.std.proofs.Common.{◌≡◌, ◌≤◌, ◌<◌, ◌∙◌, sym, ap, refl, subst, ◌++◌, ◌∷◌, [], ◌+◌, ℕ, zero, suc, ℤ, Bool, true, false, List, Option, Some, None, arith, length, get_or, map, take, drop, append_assoc}
 use Rattle.std.specs.Prelude.{slice_get, slice_set, ◌==◌, if◌then◌else◌}
 use Rattle.std.proofs.lemmas.Option.{same_Some, none-some}
 use Rattle.std.proofs.lemmas.List.{length-take, take_more, take_all, drop_all}
 use Rattle.xmp_map.specs.declared.aligned.Target.{Target}
 use Rattle.xmp_elab.specs.declared.mappings.AlignPoint.{AlignPoint}
 use Rattle.xmp_elab.specs.declared.mappings.AlignPoint.TheVariants as ap
-use Rattle.xmp_elab.specs.Parts.{EachMade, no_target, offset_for, padded, target_from, targets_from}
+use Rattle.xmp_elab.specs.Parts.{EachMade, no_target, offset_for, padded, target_at, target_from, targets_from}
 use Rattle.xmp_elab.proofs.Steps.{unrolled}
 
 made_push : {A B : Type 0} (Is : ℕ → A → B → Type 0) (k : ℕ) (xs : List A) (ys : List B) (x : A) (y : B) → EachMade Is k xs ys → Is (k + length xs) x y →
@@ -61,23 +61,23 @@ skip : (d k : ℕ) (p : AlignPoint) (more : List AlignPoint) → offset_for d p 
 skip d k ap.Star more h = refl
 skip d k (ap.Dummy c o) more h = go (c == d) h
   where
-    go : (b : Bool) → (if b then Some o else None) ≡ None → (if b then record { dim = Some k; offset = o } else target_from d (k + 1) more) ≡ target_from d (k + 1) more
+    go : (b : Bool) → (if b then Some o else None) ≡ None → (if b then target_at k o else target_from d (k + 1) more) ≡ target_from d (k + 1) more
     go true e = absurd (none-some o (sym e))
     go false e = refl
 
-taken : (d k : ℕ) (p : AlignPoint) (more : List AlignPoint) (q : ℤ) → offset_for d p ≡ Some q → target_from d k (p ∷ more) ≡ record { dim = Some k; offset = q }
+taken : (d k : ℕ) (p : AlignPoint) (more : List AlignPoint) (q : ℤ) → offset_for d p ≡ Some q → target_from d k (p ∷ more) ≡ target_at k q
 taken d k ap.Star more q h = absurd (none-some q h)
 taken d k (ap.Dummy c o) more q h = go (c == d) h
   where
-    go : (b : Bool) → (if b then Some o else None) ≡ Some q → (if b then record { dim = Some k; offset = o } else target_from d (k + 1) more) ≡ record { dim = Some k; offset = q }
-    go true e = ap (λ z. record { dim = Some k; offset = z }) (same_Some o q e)
+    go : (b : Bool) → (if b then Some o else None) ≡ Some q → (if b then target_at k o else target_from d (k + 1) more) ≡ target_at k q
+    go true e = ap (λ z. target_at k z) (same_Some o q e)
     go false e = absurd (none-some q e)
 
 -- A point that doesn't name the dimension, and one that does.
 pub point_passed : (d k : ℕ) (points : List AlignPoint) (p : AlignPoint) → k < length points → p ≡ get_or points k p → offset_for d p ≡ None → target_from d k (drop k points) ≡ target_from d (k + 1) (drop (k + 1) points)
 point_passed d k points p lt is h = ap (target_from d k) (unrolled points k p lt is) ∙ skip d k p (drop (k + 1) points) h
 
-pub point_taken : (d k : ℕ) (points : List AlignPoint) (p : AlignPoint) (q : ℤ) → k < length points → p ≡ get_or points k p → offset_for d p ≡ Some q → target_from d k (drop k points) ≡ record { dim = Some k; offset = q }
+pub point_taken : (d k : ℕ) (points : List AlignPoint) (p : AlignPoint) (q : ℤ) → k < length points → p ≡ get_or points k p → offset_for d p ≡ Some q → target_from d k (drop k points) ≡ target_at k q
 point_taken d k points p q lt is h = ap (target_from d k) (unrolled points k p lt is) ∙ taken d k p (drop (k + 1) points) q h
 
 pub no_point : (d k : ℕ) (points : List AlignPoint) → length points ≤ k → target_from d k (drop k points) ≡ no_target

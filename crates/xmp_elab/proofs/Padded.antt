@@ -1,15 +1,14 @@
 -- Lists of at most three items, filled up to three.
-use Rattle.std.proofs.Common.{◌≡◌, ◌≤◌, ◌<◌, ◌∙◌, sym, ap, refl, subst, ◌∷◌, [], ◌+◌, ◌&&◌, ℕ, zero, suc, Bool, true, false, cond, List, Option, Some, None, arith, length, map}
+use Rattle.std.proofs.Common.{◌≡◌, ◌≤◌, ◌<◌, ◌∙◌, sym, ap, refl, subst, ◌∷◌, [], ◌+◌, ◌&&◌, ℕ, zero, suc, Bool, true, false, cond, List, Option, Some, None, arith, length, map, leb-true}
 use Rattle.std.specs.Prelude.{slice_get, nat_le}
 use Rattle.std.specs.List.{list_all, count_by}
-use Rattle.std.proofs.lemmas.Bool.Decides.{nat_tests}
 use Rattle.std.proofs.lemmas.Option.{same_Some, none-some}
 use Rattle.xmp_map.specs.Nodes.{filled}
 use Rattle.xmp_elab.specs.MappingRules.{one_to_three}
 use Rattle.xmp_elab.proofs.Unbroken.{both_true, left_true, right_true}
 
 pub at_most_three : (n : ℕ) → one_to_three n ≡ true → n ≤ 3
-at_most_three n h = grind (arith, nat_tests)
+at_most_three n h = leb-true n 3 (right_true (nat_le 1 n) (nat_le n 3) h)
 
 module _ {A B : Type 0} (f : A → B) (d : B) where
   -- An item of the list itself.

@@ -52,7 +52,7 @@ at_least (negsuc n ∷ ns) h = cc
 
 pub makes : (nodes : List ℤ) → RightNodes nodes → IsTrue (makes_grid (map natural nodes))
 makes nodes r =
-    both_true _ _ (ap one_to_three (length-map natural nodes) ∙ r.few)
+    both_true _ _ (ap one_to_three (length-map nodes natural) ∙ r.few)
     (both_true (list_all (λ s. nat_le 1 s) (map natural nodes)) _ (at_least nodes r.some) r.most)
 
 -- ---- narrow numbers
@@ -72,7 +72,7 @@ factor_right (suc n) p m h k =
 some_nodes : (ns : List ℕ) → list_all (λ s. nat_le 1 s) ns ≡ true → 0 < product ns
 unfolding product
 some_nodes [] h = omega arith
-some_nodes (zero ∷ ns) h = absurd (cc : ⊥)
+some_nodes (zero ∷ ns) h = absurd (cc)
 some_nodes (suc n ∷ ns) h =
     let rest : 0 < product ns = some_nodes ns (right_true (nat_le 1 (suc n)) _ h) in
     let e : suc n * product ns ≡ product ns + n * product ns = omega arith in

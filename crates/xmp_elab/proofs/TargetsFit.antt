@@ -24,13 +24,13 @@ use Rattle.xmp_elab.specs.MappingRules.{all_different, dimensions_in, distribute
 use Rattle.xmp_elab.specs.Parts.{made_form, target_from, targets, targets_from}
 use Rattle.xmp_elab.proofs.Dimensions.{Named, found, named_by, named_by_none, star_not}
 use Rattle.xmp_elab.proofs.Padded.{all_filled, at_most_three, count_filled, filled_get, filled_past, mapped, mapped_to}
-use Rattle.xmp_elab.proofs.Unbroken.{all_at, both_true, left_true, right_true}
+use Rattle.xmp_elab.proofs.Unbroken.{all_here, both_true, left_true, right_true}
 
 -- What is right of the points of an align, over the sizes and forms of its template.
 pub record RightPoints (extents : List ℕ) (sizes : List ℤ) (forms : List Form) (points : List AlignPoint) : Type 0 where
   pub few : one_to_three (length points) ≡ true
-  pub sizes : length points ≡ length sizes
-  pub forms : length points ≡ length forms
+  pub as_sizes : length points ≡ length sizes
+  pub as_forms : length points ≡ length forms
   pub different : all_different (dimensions_in points) ≡ true
   pub fit : points_right extents forms sizes points ≡ true
 
@@ -41,7 +41,7 @@ pub record Spreads (sizes : List ℤ) (forms : List Form) (ss : List SpreadDim) 
 
 -- ---- how often a dimension of the template is named
 
-count_in : (ℕ → Bool) → ℕ → List ℕ → ℕ
+abbrev count_in : (ℕ → Bool) → ℕ → List ℕ → ℕ
 count_in t j [] = 0
 count_in t j (x ∷ xs) = cond (t j) 1 0 + count_in t (j + 1) xs
 
@@ -140,7 +140,7 @@ named_ok n d e = subst (λ m. name_ok m d ≡ true) (sym e) (go (is_whole d))
 
 point_at : (extents : List ℕ) (sizes : List ℤ) (forms : List Form) (points : List AlignPoint) (k : ℕ) (p : AlignPoint) → points_right extents forms sizes points ≡ true → slice_get points k ≡ Some p →
     point_fits extents (distributes (slice_get forms k)) (slice_get sizes k) p ≡ true
-point_at extents sizes forms points k p h e = all_at (λ x. point_fits extents (distributes (slice_get forms x.0)) (slice_get sizes x.0) x.1) 0 points k p h e
+point_at extents sizes forms points k p h e = all_here (λ x. point_fits extents (distributes (slice_get forms x.0)) (slice_get sizes x.0) x.1) points k p h e
 
 star_spread : (extents : List ℕ) (b : Bool) (size : Option ℤ) → point_fits extents b size ap.Star ≡ true → b ≡ false
 star_spread extents b None h = cc
@@ -148,11 +148,11 @@ star_spread extents false (Some z) h = refl
 star_spread extents true (Some z) h = cc
 
 dimension_there : (extents : List ℕ) (b : Bool) (size : Option ℤ) (d : ℕ) (o : ℤ) → point_fits extents b size (ap.Dummy d o) ≡ true → d < length extents
-dimension_there extents b None d o h = absurd (cc : ⊥)
+dimension_there extents b None d o h = absurd (cc)
 dimension_there extents b (Some z) d o h = go (slice_get extents d) refl (right_true (is_small o) _ h)
   where
     go : (x : Option ℕ) → slice_get extents d ≡ x → reaches z o x ≡ true → d < length extents
-    go None e k = absurd (cc : ⊥)
+    go None e k = absurd (cc)
     go (Some n) e k = slice_get_within extents d n e
 
 dimension_ok : (extents : List ℕ) (sizes : List ℤ) (forms : List Form) (points : List AlignPoint) (ws : List (ℕ × ℕ)) (ss : List SpreadDim) (k : ℕ) (s : SpreadDim) →
@@ -161,7 +161,7 @@ dimension_ok : (extents : List ℕ) (sizes : List ℤ) (forms : List Form) (poin
 dimension_ok extents sizes forms points ws ss k s r made few h e = go (slice_get points k) refl
   where
     short : length forms ≤ 3
-    short = let n = at_most_three (length points) r.few in let m = r.forms in omega arith
+    short = let n = at_most_three (length points) r.few in let m = r.as_forms in omega arith
 
     times : named (aligned_dims extents (targets extents points) ws) k ≡ count_in (λ e. names (target_from e 0 points).dim k) 0 extents
     times = named_times points k extents ws few h
@@ -172,7 +172,7 @@ dimension_ok extents sizes forms points ws ss k s r made few h e = go (slice_get
     go : (o : Option AlignPoint) → slice_get points k ≡ o → name_ok (named (aligned_dims extents (targets extents points) ws) k) s.dim.dist ≡ true
     go None p =
         let no : (d : ℕ) (o : ℤ) → slice_get points k ≡ Some (ap.Dummy d o) → ⊥ = λ d o q. none-some (ap.Dummy d o) (sym p ∙ q) in
-        let past : length forms ≤ k = let m = r.forms in let l = past_end points k p in omega arith in
+        let past : length forms ≤ k = let m = r.as_forms in let l = past_end points k p in omega arith in
         unnamed_ok _ s.dim.dist (times ∙ (count_same _ (λ e. false) 0 extents (λ e. named_by_none points k e no) ∙ count_none 0 extents))
         (ap is_whole (spread ∙ ap made_or_whole (slice_get_past forms k past)))
     go (Some ap.Star) p =
@@ -227,7 +227,7 @@ position_ok : (extents : List ℕ) (sizes : List ℤ) (ss : List SpreadDim) (for
 position_ok extents sizes ss forms k d x o b made few e h = go (slice_get sizes k) refl h
   where
     go : (size : Option ℤ) → slice_get sizes k ≡ size → point_fits extents b size (ap.Dummy d o) ≡ true → (nat_lt k (length sizes) && positions_fit o x (slice_get ss k)) ≡ true
-    go None q p = absurd (cc : ⊥)
+    go None q p = absurd (cc)
     go (Some z) q p =
         let there = mapped (λ s. s.dim.size) ss k (natural z) (ap (λ l. slice_get l k) made.sizes ∙ filled_get natural 1 sizes k z few q) in
         let reach : reaches z o (Some x) ≡ true = subst (λ n. reaches z o n ≡ true) e (right_true (is_small o) _ p) in
@@ -240,7 +240,7 @@ target_ok extents sizes forms points ss i x w r made e =
     ⊎_elim (λ u. ap (λ t. target_fits (length sizes) ss t.dim t.offset x) u.0) (λ n. ap (λ t. target_fits (length sizes) ss t.dim t.offset x) n.is ∙ fits n) (found i 0 points)
   where
     few : length sizes ≤ 3
-    few = let n = at_most_three (length points) r.few in let m = r.sizes in omega arith
+    few = let n = at_most_three (length points) r.few in let m = r.as_sizes in omega arith
 
     fits : (n : Named i 0 points (target_from i 0 points)) → (nat_lt (0 + n.place) (length sizes) && positions_fit n.offset x (slice_get ss (0 + n.place))) ≡ true
     fits n =

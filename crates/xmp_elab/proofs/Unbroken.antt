@@ -41,6 +41,11 @@ none_at f i (y ∷ ys) (suc k) x h e =
     let j : i + suc k ≡ i + 1 + k = omega arith in
     ap (λ n. f (n, x)) j ∙ none_at f (i + 1) ys k x (right_none (f (i, y)) (flat_map f (enumerate_from (i + 1) ys)) h) e
 
+pub none_here : {A B : Type 0} (f : ℕ × A → List B) (xs : List A) (k : ℕ) (x : A) → flat_map f (enumerate_from 0 xs) ≡ [] → slice_get xs k ≡ Some x → f (k, x) ≡ []
+none_here f xs k x h e =
+    let j : k ≡ 0 + k = omega arith in
+    ap (λ n. f (n, x)) j ∙ none_at f 0 xs k x h e
+
 -- ---- tests
 
 pub left_true : (a b : Bool) → (a && b) ≡ true → a ≡ true
@@ -67,6 +72,11 @@ all_at f i (y ∷ ys) zero x h e =
 all_at f i (y ∷ ys) (suc k) x h e =
     let j : i + suc k ≡ i + 1 + k = omega arith in
     ap (λ n. f (n, x)) j ∙ all_at f (i + 1) ys k x (right_true (f (i, y)) (list_all f (enumerate_from (i + 1) ys)) h) e
+
+pub all_here : {A : Type 0} (f : ℕ × A → Bool) (xs : List A) (k : ℕ) (x : A) → list_all f (enumerate_from 0 xs) ≡ true → slice_get xs k ≡ Some x → f (k, x) ≡ true
+all_here f xs k x h e =
+    let j : k ≡ 0 + k = omega arith in
+    ap (λ n. f (n, x)) j ∙ all_at f 0 xs k x h e
 
 pub holds : (t : Bool) (rule : Rule) (at : Place) → unless t rule at ≡ [] → t ≡ true
 holds true rule at h = refl
@@ -105,7 +115,7 @@ within f (x ∷ xs) zero h = (x, refl)
 within f (x ∷ xs) (suc i) h = within f xs i (omega arith)
 
 item_of : {A : Type 0} (f : A → ℕ) (xs : List A) (k : ℕ) (o : Option ℕ) → first_place k (map f xs) ≡ o → is_some o ≡ true → (x : A) × (item_at xs o ≡ Some x)
-item_of f xs k None p h = absurd (cc : ⊥)
+item_of f xs k None p h = absurd (cc)
 item_of f xs k (Some i) p h = within f xs i (position-Some (λ n. n == k) (map f xs) i 0 p).0
 
 pub some_item : {A : Type 0} (f : A → ℕ) (xs : List A) (k : ℕ) → is_some (first_place k (map f xs)) ≡ true → (x : A) × (item_at xs (first_place k (map f xs)) ≡ Some x)
@@ -131,8 +141,8 @@ no_cell_rule w h = right_none (loop_rules w) _ (right_none (shadow_rules w) _ (a
 pub nodes_at : (w : World) (l : NodesLine) → mapping_rules w ≡ [] → slice_get w.mappings.nodes 0 ≡ Some l → nodes_right w.given (line_sizes (given_or_one w) l) ≡ true
 nodes_at w l h e =
     let rules : nodes_rules w ≡ [] = left_none (nodes_rules w) _ h in
-    let one : nodes_rule w (0, l) ≡ [] = none_at (nodes_rule w) 0 w.mappings.nodes 0 l (left_none _ (has_nodes (length w.mappings.nodes) w.mappings.first_directive) rules) e in
-    right_true (0 == 0) _ (holds _ M1 l.at one)
+    let one : nodes_rule w (0, l) ≡ [] = none_here (nodes_rule w) w.mappings.nodes 0 l (left_none (flat_map (nodes_rule w) (enumerate_from 0 w.mappings.nodes)) (has_nodes (length w.mappings.nodes) w.mappings.first_directive) rules) e in
+    holds (nodes_right w.given (line_sizes (given_or_one w) l)) M1 l.at one
 
 -- A template, its first distribution, and what is right of them.
 pub record RightTemplate (nodes sizes : List ℤ) (forms : List Form) : Type 0 where
@@ -144,15 +154,21 @@ pub record RightTemplate (nodes sizes : List ℤ) (forms : List Form) : Type 0 w
 distribution_at : (w : World) (k i : ℕ) (d : Distribution) → mapping_rules w ≡ [] → slice_get w.mappings.distributions i ≡ Some d → is_first_distribution w (i, d) ≡ true →
     (spread_right (nodes_of w) (template_sizes w d.template) d.forms ≡ true) × (forms_right d.forms (template_sizes w d.template) (nodes_of w) ≡ true)
 distribution_at w k i d h e f =
-    let one : distribution_rule w (i, d) ≡ [] = none_at (distribution_rule w) 0 w.mappings.distributions i d (left_none (distribution_rules w) _ (after_templates w h)) e in
-    let s = right_true (is_first_distribution w (i, d)) _ (holds _ M3 d.at (left_none _ _ one)) in
-    (s, second_true (is_first_distribution w (i, d)) _ f (holds _ M4 d.at (right_none (unless (is_first_distribution w (i, d) && spread_right (nodes_of w) (template_sizes w d.template) d.forms) M3 d.at) _ one)))
+    let one : distribution_rule w (i, d) ≡ [] = none_here (distribution_rule w) w.mappings.distributions i d (left_none (distribution_rules w) _ (after_templates w h)) e in
+    let a : Bool = is_first_distribution w (i, d) in
+    let b : Bool = spread_right (nodes_of w) (template_sizes w d.template) d.forms in
+    let c : Bool = forms_right d.forms (template_sizes w d.template) (nodes_of w) in (
+      right_true a b (holds (a && b) M3 d.at (left_none (unless (a && b) M3 d.at) (unless (not a || c) M4 d.at) one)),
+      second_true a c f (holds (not a || c) M4 d.at (right_none (unless (a && b) M3 d.at) (unless (not a || c) M4 d.at) one)),
+    )
 
 pub template_at : (w : World) (k : ℕ) (l : TemplateLine) → mapping_rules w ≡ [] → slice_get w.mappings.templates k ≡ Some l → RightTemplate (nodes_of w) l.sizes (forms_of w k)
 template_at w k l h e =
-    let one : template_rule w (k, l) ≡ [] = none_at (template_rule w) 0 w.mappings.templates k l (left_none (template_rules w) _ (after_nodes w h)) e in
-    let sizes = holds (one_to_three (length l.sizes) && list_all is_extent l.sizes) M2 l.at (left_none _ _ one) in
-    let spread = holds (is_some (first_place k (distributed w))) M3 l.at (right_none (unless (one_to_three (length l.sizes) && list_all is_extent l.sizes) M2 l.at) _ one) in
+    let one : template_rule w (k, l) ≡ [] = none_here (template_rule w) w.mappings.templates k l (left_none (template_rules w) _ (after_nodes w h)) e in
+    let a : Bool = one_to_three (length l.sizes) && list_all is_extent l.sizes in
+    let b : Bool = is_some (first_place k (distributed w)) in
+    let sizes = holds a M2 l.at (left_none (unless a M2 l.at) (unless b M3 l.at) one) in
+    let spread = holds b M3 l.at (right_none (unless a M2 l.at) (unless b M3 l.at) one) in
     let item = some_item (λ d. d.template) w.mappings.distributions k spread in
     let first = first_of_all (λ d. d.template) w.mappings.distributions k item.0 item.1 in
     let right = distribution_at w k first.place item.0 h first.at (is_first (λ d. d.template) w.mappings.distributions k item.0 first) in
@@ -167,8 +183,8 @@ template_at w k l h e =
 pub align_at : (w : World) (k : ℕ) (a : Align) → mapping_rules w ≡ [] → align_of w k ≡ Some a → (a.array ≡ k) × (w.names.coarray ≡ false) × (align_right w a ≡ true)
 align_at w k a h e =
     let first = first_of_all (λ x. x.array) w.mappings.aligns k a e in
-    let one : align_rule w (first.place, a) ≡ [] = none_at (align_rule w) 0 w.mappings.aligns first.place a (left_none (align_rules w) _ (after_distributions w h)) first.at in
-    let both = right_true (is_first_align w (first.place, a)) (not w.names.coarray && align_right w a) (holds _ M5 a.at one) in
+    let one : align_rule w (first.place, a) ≡ [] = none_here (align_rule w) w.mappings.aligns first.place a (left_none (align_rules w) _ (after_distributions w h)) first.at in
+    let both = right_true (is_first_align w (first.place, a)) (not w.names.coarray && align_right w a) (holds (is_first_align w (first.place, a) && (not w.names.coarray && align_right w a)) M5 a.at one) in
     (first.same, untrue w.names.coarray (left_true (not w.names.coarray) (align_right w a) both), right_true (not w.names.coarray) (align_right w a) both)
   where
     untrue : (b : Bool) → not b ≡ true → b ≡ false
@@ -179,5 +195,5 @@ align_at w k a h e =
 pub shadow_at : (w : World) (k : ℕ) (s : Shadow) → mapping_rules w ≡ [] → item_at w.mappings.shadows (first_place k (shadowed w)) ≡ Some s → (s.array ≡ k) × (shadow_right w (align_of w s.array) s ≡ true)
 shadow_at w k s h e =
     let first = first_of_all (λ x. x.array) w.mappings.shadows k s e in
-    let one : shadow_rule w (first.place, s) ≡ [] = none_at (shadow_rule w) 0 w.mappings.shadows first.place s (left_none (shadow_rules w) _ (after_aligns w h)) first.at in
-    (first.same, right_true (is_first_shadow w (first.place, s)) (shadow_right w (align_of w s.array) s) (holds _ M6 s.at one))
+    let one : shadow_rule w (first.place, s) ≡ [] = none_here (shadow_rule w) w.mappings.shadows first.place s (left_none (shadow_rules w) _ (after_aligns w h)) first.at in
+    (first.same, right_true (is_first_shadow w (first.place, s)) (shadow_right w (align_of w s.array) s) (holds (is_first_shadow w (first.place, s) && shadow_right w (align_of w s.array) s) M6 s.at one))

@@ -11,7 +11,7 @@ use Rattle.xmp_elab.specs.Verdict.{after_names, broken_in, first_in, is_of_names
 use Rattle.xmp_elab.proofs.Unbroken.{right_none}
 
 one_is_first : (r : Refusal) (o : Option Refusal) → first_of (Some r) o ≡ None → ⊥
-one_is_first r None h = absurd (cc : ⊥)
+one_is_first r None h = absurd (cc)
 one_is_first r (Some q) h = at (comes_first r q) h
   where
     at : (b : Bool) → (if b then Some r else Some q) ≡ None → ⊥
@@ -32,8 +32,8 @@ neither p [] h k = refl
 neither p (b ∷ bs) h k = at (p b) refl
   where
     at : (t : Bool) → p b ≡ t → b ∷ bs ≡ []
-    at true e = absurd (cc : ⊥)
-    at false e = absurd (cc : ⊥)
+    at true e = absurd (cc)
+    at false e = absurd (cc)
 
 pub no_verdict : (bs : List Broken) → verdict_of bs ≡ None → bs ≡ []
 no_verdict bs h =

@@ -1,6 +1,6 @@
 -- A shadow that breaks no rule: its widths are small, and stand on dimensions with intervals.
-use Rattle.std.proofs.Common.{◌≡◌, ◌≤◌, ◌<◌, ◌∙◌, ⊎_elim, sym, ap, ap₂, refl, subst, ◌∷◌, [], ◌+◌, ◌&&◌, ◌||◌, ℕ, zero, suc, ℤ, pos, negsuc, Bool, true, false, List, Option, Some, None, arith, length, map, IsTrue, tt, ⊤, int_eq}
-use Rattle.std.specs.Prelude.{slice_get, is_some, ◌==◌, nat_le, int_le}
+use Rattle.std.proofs.Common.{◌≡◌, ◌≤◌, ◌<◌, ◌∙◌, ⊎_elim, sym, ap, ap₂, refl, subst, ◌∷◌, [], ◌+◌, ◌&&◌, ◌||◌, ℕ, zero, suc, ℤ, pos, negsuc, Bool, true, false, List, Option, Some, None, arith, length, map, IsTrue, int_eq}
+use Rattle.std.specs.Prelude.{⊤, slice_get, is_some, ◌==◌, nat_le, int_le}
 use Rattle.std.specs.List.{list_all, enumerate_from}
 use Rattle.std.proofs.lemmas.Option.{same_Some, none-some}
 use Rattle.std.proofs.lemmas.List.{length-map}
@@ -25,7 +25,7 @@ use Rattle.xmp_elab.specs.Parts.{made_form, target_from, targets, widths_in}
 use Rattle.xmp_elab.proofs.Dimensions.{Chunked, Named, found, in_intervals, unique}
 use Rattle.xmp_elab.proofs.Padded.{all_filled, at_most_three, filled_get, mapped}
 use Rattle.xmp_elab.proofs.TargetsFit.{RightPoints, Spreads, all_dims}
-use Rattle.xmp_elab.proofs.Unbroken.{all_at, both_true, left_true, right_true}
+use Rattle.xmp_elab.proofs.Unbroken.{all_here, both_true, left_true, right_true}
 
 -- What is right of a shadow, where there is one.
 abbrev pub RightShadow : List ℕ → List Form → List AlignPoint → Option Shadow → Type 0
@@ -33,8 +33,8 @@ RightShadow extents forms points None = ⊤
 RightShadow extents forms points (Some s) = (length s.widths ≡ length extents) × (widths_right (interval_dimensions forms points) s.widths ≡ true)
 
 pub widths_length : (extents : List ℕ) (forms : List Form) (points : List AlignPoint) (shadow : Option Shadow) → RightShadow extents forms points shadow → length (widths_in extents shadow) ≡ length extents
-widths_length extents forms points None r = length-map (λ x. (0, 0)) extents
-widths_length extents forms points (Some s) r = length-map (λ x. (natural x.0, natural x.1)) s.widths ∙ r.0
+widths_length extents forms points None r = length-map extents (λ x. (0, 0))
+widths_length extents forms points (Some s) r = length-map s.widths (λ x. (natural x.0, natural x.1)) ∙ r.0
 
 -- ---- narrow numbers
 
@@ -84,7 +84,7 @@ chunked_under sizes forms extents points ss d r made h =
     c = in_intervals forms points d h
 
     few : length forms ≤ 3
-    few = let n = at_most_three (length points) r.few in let m = r.forms in omega arith
+    few = let n = at_most_three (length points) r.few in let m = r.as_forms in omega arith
 
     at : (n : Named d 0 points (target_from d 0 points)) → is_chunked_under (slice_get ss (0 + n.place)) ≡ true
     at n =
@@ -130,7 +130,7 @@ shadow_ok sizes forms extents points ss None d x w r made q e =
 shadow_ok sizes forms extents points ss (Some s) d x w r made q e =
     let there = mapped (λ x. (natural x.0, natural x.1)) s.widths d w e in
     subst (λ v. is_shadow ss (aligned_dim x (target_from d 0 points) v) ≡ true) there.2
-    (width_ok sizes forms extents points ss d there.0 r made (all_at (width_right (interval_dimensions forms points)) 0 s.widths d there.0 q.1 there.1))
+    (width_ok sizes forms extents points ss d there.0 r made (all_here (width_right (interval_dimensions forms points)) s.widths d there.0 q.1 there.1))
 
 pub shadows_right : (extents : List ℕ) (sizes : List ℤ) (forms : List Form) (points : List AlignPoint) (shadow : Option Shadow) (ss : List SpreadDim) →
     RightPoints extents sizes forms points → Spreads sizes forms ss → RightShadow extents forms points shadow →

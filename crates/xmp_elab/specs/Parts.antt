@@ -68,6 +68,9 @@ IsTemplate w g k t = IsOf g (template_sizes w k) (forms_of w k) t
 abbrev pub no_target : Target
 no_target = record { dim = None; offset = pos 0 }
 
+abbrev pub target_at : ℕ → ℤ → Target
+target_at k offset = record { dim = Some k; offset = offset }
+
 -- The constant of a point that names a dimension of the array.
 abbrev pub offset_for : ℕ → AlignPoint → Option ℤ
 offset_for d ap.Star = None
@@ -77,7 +80,7 @@ offset_for d (ap.Dummy e offset) = if e == d then Some offset else None
 abbrev pub target_from : ℕ → ℕ → List AlignPoint → Target
 target_from d k [] = no_target
 target_from d k (ap.Star ∷ more) = target_from d (k + 1) more
-target_from d k (ap.Dummy e offset ∷ more) = if e == d then record { dim = Some k; offset = offset } else target_from d (k + 1) more
+target_from d k (ap.Dummy e offset ∷ more) = if e == d then target_at k offset else target_from d (k + 1) more
 
 abbrev pub targets_from : ℕ → List ℕ → List AlignPoint → List Target
 targets_from d extents points = map (λ x. target_from x.0 0 points) (enumerate_from d extents)
