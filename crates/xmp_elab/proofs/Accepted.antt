@@ -24,7 +24,7 @@ use Rattle.xmp_elab.specs.MappingRules.{align_of, align_right, all_different, ce
 use Rattle.xmp_elab.specs.Narrow.{are_narrow, is_count, is_narrow_point}
 use Rattle.xmp_elab.specs.Parts.{EachMade, IsGrid, IsOf, IsTemplate, shadow_of, targets, widths_in}
 use Rattle.xmp_elab.proofs.FormsFit.{Makes, makes_template}
-use Rattle.xmp_elab.proofs.MadeLists.{made_at}
+use Rattle.xmp_elab.proofs.MadeLists.{made_here}
 use Rattle.xmp_elab.proofs.Padded.{at_most_three}
 use Rattle.xmp_elab.proofs.Rows.{right_nodes}
 use Rattle.xmp_elab.proofs.TargetsFit.{RightPoints, Spreads, names_right, targets_right}
@@ -159,7 +159,7 @@ pub map_facts : (w : World) (g : Grid) (templates : List Template) (k : ℕ) (ar
 map_facts w g templates k array a h made at e =
     let r = align_at w k a h e in
     let l = declared w a r.2 in
-    let t = made_at (λ k line t. IsTemplate w g k t) 0 w.mappings.templates templates a.template l.0 made l.1 in
+    let t = made_here (λ k line t. IsTemplate w g k t) w.mappings.templates templates a.template l.0 made l.1 in
     let sizes : template_sizes w a.template ≡ l.0.sizes = ap template_sizes_in l.1 in
     let cells = cells_right w k array h r.1 at in (
       t.0,

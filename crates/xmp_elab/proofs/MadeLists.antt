@@ -34,7 +34,7 @@ pub made_all : {A B : Type 0} (Is : ℕ → A → B → Type 0) (xs : List A) (y
 made_all Is xs ys i le h = subst (λ l. EachMade Is 0 l ys) (take_all i xs le) h
 
 -- What an item was made into.
-pub made_at : {A B : Type 0} (Is : ℕ → A → B → Type 0) (k : ℕ) (xs : List A) (ys : List B) (i : ℕ) (x : A) → EachMade Is k xs ys → slice_get xs i ≡ Some x →
+made_at : {A B : Type 0} (Is : ℕ → A → B → Type 0) (k : ℕ) (xs : List A) (ys : List B) (i : ℕ) (x : A) → EachMade Is k xs ys → slice_get xs i ≡ Some x →
     (y : B) × (slice_get ys i ≡ Some y) × Is (k + i) x y
 made_at Is k [] ys i x h e = absurd (none-some x e)
 made_at Is k (a ∷ as) [] i x h e = absurd h
@@ -44,6 +44,13 @@ made_at Is k (a ∷ as) (b ∷ bs) zero x h e =
 made_at Is k (a ∷ as) (b ∷ bs) (suc i) x h e =
     let j : k + 1 + i ≡ k + suc i = omega arith in
     let r = made_at Is (k + 1) as bs i x h.1 e in
+    (r.0, r.1, subst (λ n. Is n x r.0) j r.2)
+
+pub made_here : {A B : Type 0} (Is : ℕ → A → B → Type 0) (xs : List A) (ys : List B) (i : ℕ) (x : A) → EachMade Is 0 xs ys → slice_get xs i ≡ Some x →
+    (y : B) × (slice_get ys i ≡ Some y) × Is i x y
+made_here Is xs ys i x h e =
+    let j : 0 + i ≡ i = omega arith in
+    let r = made_at Is 0 xs ys i x h e in
     (r.0, r.1, subst (λ n. Is n x r.0) j r.2)
 
 -- ---- a padded list, written from the front on

@@ -1,8 +1,9 @@
 // The parts of the typed program of a tree.
-ghost use Rattle.std.specs.Prelude.{◌≡◌, [], Err, IfErr, IfOk, IsTrue, None, Some};
-ghost use Rattle.xmp_elab.specs.MappingRules.{mapping_rules};
+ghost use Rattle.std.specs.Prelude.{◌≡◌, [], IfErr, IfOk, IsTrue, None, map};
+ghost use Rattle.xmp_elab.specs.Directives.{natural};
+ghost use Rattle.xmp_elab.specs.MappingRules.{mapping_rules, nodes_of};
 ghost use Rattle.xmp_elab.specs.Narrow.{is_count};
-ghost use Rattle.xmp_elab.specs.Parts.{IsParts, Made, RefusedBy, kind_of};
+ghost use Rattle.xmp_elab.specs.Parts.{EachMade, IsArray, IsGrid, IsParts, IsTemplate, Made, RefusedBy, kind_of};
 ghost use Rattle.xmp_elab.specs.Verdict.{broken_in, verdict, verdict_of};
 
 use crate::grids::{made_grid, made_templates};
@@ -15,7 +16,8 @@ use crate::world::World;
 use sqlite_items::Items;
 use std::alloc::{AllocError, Global};
 use xmp_base::{Fault, Refusal};
-use xmp_prog::{Kind, ProgParts, Stmt};
+use xmp_map::{Grid, Template};
+use xmp_prog::{Array, Kind, ProgParts, Stmt};
 use xmp_tree::Tree;
 
 // The verdict on a world after the walk.
@@ -34,16 +36,39 @@ fn kind_of(coarray: bool) -> Kind
     if coarray { Kind::Coarray } else { Kind::Global }
 }
 
-// The parts of a program by its main and the world after the walk, in which no rule of mappings breaks.
-fn made_parts(alloc: Global, body: Stmt, w: World) -> Result<ProgParts, AllocError>
-    requires unbroken { mapping_rules w ≡ [] }
-    requires count { IsTrue (is_count w.given) }
-    ensures { IfOk result (λ p. Made body w p) }
+// The grid, the templates and the arrays of a program.
+#[derive(Drop)]
+struct Placed {
+    grid: Grid,
+    templates: Items<Template>,
+    arrays: Items<Array>,
+}
+
+// The same of a program in which no rule of mappings breaks.
+fn placed(alloc: Global, w: &World) -> Result<Placed, AllocError>
+    requires unbroken { mapping_rules w.now ≡ [] }
+    requires count { IsTrue (is_count w.now.given) }
+    ensures grid { IfOk result (λ m. IsGrid (map natural (nodes_of w.now)) m.grid) }
+    ensures templates { IfOk result (λ m. EachMade (λ k line t. IsTemplate w.now m.grid k t) 0 w.now.mappings.templates m.templates) }
+    ensures arrays { IfOk result (λ m. EachMade (IsArray w.now m.templates) 0 w.now.names.arrays m.arrays) }
 {
-    let nodes = nodes_of(alloc, &w)?;
+    let nodes = nodes_of(alloc, w)?;
     let grid = made_grid(alloc, nodes.as_slice())?;
-    let templates = made_templates(alloc, &w, &grid)?;
-    let arrays = made_arrays(alloc, &w, &grid, templates.as_slice())?;
+    let templates = made_templates(alloc, w, &grid)?;
+    let arrays = made_arrays(alloc, w, &grid, templates.as_slice())?;
+    Ok(Placed {
+        grid,
+        templates,
+        arrays,
+    })
+}
+
+fn assembled(body: Stmt, w: World, placed: Placed) -> ProgParts
+    requires grid { IsGrid (map natural (nodes_of w)) placed.grid }
+    requires templates { EachMade (λ k line t. IsTemplate w placed.grid k t) 0 w.mappings.templates placed.templates }
+    requires arrays { EachMade (IsArray w placed.templates) 0 w.names.arrays placed.arrays }
+    ensures { Made body w result }
+{
     let World {
         names,
         scalars,
@@ -51,7 +76,12 @@ fn made_parts(alloc: Global, body: Stmt, w: World) -> Result<ProgParts, AllocErr
         start,
         ..
     } = w;
-    Ok(ProgParts {
+    let Placed {
+        grid,
+        templates,
+        arrays,
+    } = placed;
+    ProgParts {
         grid,
         kind: kind_of(names.coarray),
         scalars,
@@ -60,7 +90,17 @@ fn made_parts(alloc: Global, body: Stmt, w: World) -> Result<ProgParts, AllocErr
         functions,
         start,
         body,
-    })
+    }
+}
+
+// The parts of a program by its main and the world after the walk, in which no rule of mappings breaks.
+fn made_parts(alloc: Global, body: Stmt, w: World) -> Result<ProgParts, AllocError>
+    requires unbroken { mapping_rules w ≡ [] }
+    requires count { IsTrue (is_count w.given) }
+    ensures { IfOk result (λ p. Made body w p) }
+{
+    let placed = placed(alloc, &w)?;
+    Ok(assembled(body, w, placed))
 }
 
 /// The parts of the typed program of a tree, for a number of nodes or none, or the rule that it is refused for: the first
