@@ -81,7 +81,7 @@ found d j (ap.Star ∷ ps) = ⊎_elim (λ u. inl (u.0, star d ps u.1)) (λ n. in
     later n =
         let e : j + 1 + n.place ≡ j + suc n.place = omega arith in
         record { place = suc n.place; offset = n.offset; at = n.at; is = n.is ∙ ap (λ m. target_at m n.offset) e }
-found d j (ap.Dummy c q ∷ ps) = at (c == d) refl
+found d j (ap.Dummy c q ∷ ps) = at (found d (j + 1) ps) (c == d) refl
   where
     other : (c == d) ≡ false → ((i : ℕ) (o : ℤ) → slice_get ps i ≡ Some (ap.Dummy d o) → ⊥) → (i : ℕ) (o : ℤ) → slice_get (ap.Dummy c q ∷ ps) i ≡ Some (ap.Dummy d o) → ⊥
     other ne u zero o e = eqb-false c d ne (dimension_of c d q o e)
@@ -92,11 +92,11 @@ found d j (ap.Dummy c q ∷ ps) = at (c == d) refl
         let e : j + 1 + n.place ≡ j + suc n.place = omega arith in
         record { place = suc n.place; offset = n.offset; at = n.at; is = n.is ∙ ap (λ m. target_at m n.offset) e }
 
-    at : (b : Bool) → (c == d) ≡ b → Unnamed d (ap.Dummy c q ∷ ps) (if b then target_at j q else target_from d (j + 1) ps) ⊎ Named d j (ap.Dummy c q ∷ ps) (if b then target_at j q else target_from d (j + 1) ps)
-    at true e =
+    at : Unnamed d ps (target_from d (j + 1) ps) ⊎ Named d (j + 1) ps (target_from d (j + 1) ps) → (b : Bool) → (c == d) ≡ b → Unnamed d (ap.Dummy c q ∷ ps) (if b then target_at j q else target_from d (j + 1) ps) ⊎ Named d j (ap.Dummy c q ∷ ps) (if b then target_at j q else target_from d (j + 1) ps)
+    at rest true e =
         let z : j ≡ j + 0 = omega arith in
         inr (record { place = 0; offset = q; at = ap (λ n. Some (ap.Dummy n q)) (eqb-true c d e); is = ap (λ m. target_at m q) z })
-    at false e = ⊎_elim (λ u. inl (u.0, other e u.1)) (λ n. inr (later n)) (found d (j + 1) ps)
+    at rest false e = ⊎_elim (λ u. inl (u.0, other e u.1)) (λ n. inr (later n)) rest
 
 -- ---- the dimensions that name a dimension of the template
 
@@ -155,17 +155,17 @@ next_point forms p ps j d c =
     let e : j + 1 + c.place ≡ j + suc c.place = omega arith in
     record { place = suc c.place; offset = c.offset; at = c.at; spans = subst (λ m. spans_intervals (slice_get forms m) ≡ true) e c.spans }
 
-chunked : (forms : List Form) (points : List AlignPoint) (j d : ℕ) → Lists forms points j d
+chunked : (forms : List Form) (points : List AlignPoint) (j d : ℕ) (n : ℕ) → slice_get (flat_map (interval_dimension forms) (enumerate_from j points)) n ≡ Some d → Chunked forms points j d
 chunked forms [] j d n e = absurd (none-some d e)
-chunked forms (p ∷ ps) j d n e = at p (spans_intervals (slice_get forms j)) refl n e
+chunked forms (p ∷ ps) j d n e = at (chunked forms ps (j + 1) d) p (spans_intervals (slice_get forms j)) refl n e
   where
-    at : (p : AlignPoint) (b : Bool) → spans_intervals (slice_get forms j) ≡ b → (n : ℕ) → slice_get ((if b then dimension_in p else []) ++ flat_map (interval_dimension forms) (enumerate_from (j + 1) ps)) n ≡ Some d → Chunked forms (p ∷ ps) j d
-    at p false s n e = next_point forms p ps j d (chunked forms ps (j + 1) d n e)
-    at ap.Star true s n e = next_point forms ap.Star ps j d (chunked forms ps (j + 1) d n e)
-    at (ap.Dummy c q) true s zero e =
+    at : Lists forms ps (j + 1) d → (p : AlignPoint) (b : Bool) → spans_intervals (slice_get forms j) ≡ b → (n : ℕ) → slice_get ((if b then dimension_in p else []) ++ flat_map (interval_dimension forms) (enumerate_from (j + 1) ps)) n ≡ Some d → Chunked forms (p ∷ ps) j d
+    at rest p false s n e = next_point forms p ps j d (rest n e)
+    at rest ap.Star true s n e = next_point forms ap.Star ps j d (rest n e)
+    at rest (ap.Dummy c q) true s zero e =
         let z : j ≡ j + 0 = omega arith in
         record { place = 0; offset = q; at = ap (λ m. Some (ap.Dummy m q)) (same_Some c d e); spans = subst (λ m. spans_intervals (slice_get forms m) ≡ true) z s }
-    at (ap.Dummy c q) true s (suc n) e = next_point forms (ap.Dummy c q) ps j d (chunked forms ps (j + 1) d n e)
+    at rest (ap.Dummy c q) true s (suc n) e = next_point forms (ap.Dummy c q) ps j d (rest n e)
 
 pub in_intervals : (forms : List Form) (points : List AlignPoint) (d : ℕ) → is_some (first_place d (flat_map (interval_dimension forms) (enumerate_from 0 points))) ≡ true → Chunked forms points 0 d
 in_intervals forms points d h =

@@ -116,14 +116,16 @@ behind_whole : (nodes : List ℤ) → nodes_behind form.Whole nodes ≡ nodes
 behind_whole [] = refl
 behind_whole (n ∷ ns) = refl
 
-whole_step : (fs : List Form) (s : ℤ) (ss : List ℤ) (grid : List ℕ) → Fits fs ss grid → Fits (form.Whole ∷ fs) (s ∷ ss) grid
+whole_step : (fs : List Form) (s : ℤ) (ss : List ℤ) (grid : List ℕ) → Fits fs ss grid → (nodes : List ℤ) (k : ℕ) → Agrees grid k nodes → list_all (λ n. nat_le (natural n) 16) nodes ≡ true → count_by is_distributed (form.Whole ∷ fs) ≡ length nodes → forms_right (form.Whole ∷ fs) (s ∷ ss) nodes ≡ true →
+    (chunks_fit (map natural (s ∷ ss)) (map made_form (form.Whole ∷ fs)) grid k ≡ true) × (list_all is_narrow_form (form.Whole ∷ fs) ≡ true)
 whole_step fs s ss grid rest nodes k a few c h =
     let n : count_by is_distributed fs ≡ length nodes = let m = count_more form.Whole fs in omega arith in
     let r = rest nodes k a few n (subst (λ l. forms_right fs ss l ≡ true) (behind_whole nodes) (right_true (form_fits form.Whole s nodes) _ h)) in
     let j : k ≡ k + 0 = omega arith in
     (subst (λ i. chunks_fit (map natural ss) (map made_form fs) grid i ≡ true) j r.0, r.1)
 
-node_step : (f : Form) (fs : List Form) (s : ℤ) (ss : List ℤ) (grid : List ℕ) → is_distributed f ≡ true → is_extent s ≡ true → Fits fs ss grid → Fits (f ∷ fs) (s ∷ ss) grid
+node_step : (f : Form) (fs : List Form) (s : ℤ) (ss : List ℤ) (grid : List ℕ) → is_distributed f ≡ true → is_extent s ≡ true → Fits fs ss grid → (nodes : List ℤ) (k : ℕ) → Agrees grid k nodes → list_all (λ n. nat_le (natural n) 16) nodes ≡ true → count_by is_distributed (f ∷ fs) ≡ length nodes → forms_right (f ∷ fs) (s ∷ ss) nodes ≡ true →
+    (chunks_fit (map natural (s ∷ ss)) (map made_form (f ∷ fs)) grid k ≡ true) × (list_all is_narrow_form (f ∷ fs) ≡ true)
 node_step f fs s ss grid d x rest [] k a few c h =
     let m = count_more f fs in
     let one : cond (is_distributed f) 1 0 ≡ 1 = ap (λ b. cond b 1 0) d in
@@ -141,7 +143,7 @@ node_step f fs s ss grid d x rest (p ∷ more) k a few c h =
     )
 
 all_fit : (fs : List Form) (ss : List ℤ) (grid : List ℕ) → length fs ≡ length ss → list_all is_extent ss ≡ true → Fits fs ss grid
-all_fit [] [] grid e x nodes k a few c h = (refl, refl)
+all_fit [] [] grid e x = λ nodes k a few c h. (refl, refl)
 all_fit [] (s ∷ ss) grid e x = absurd (omega arith)
 all_fit (f ∷ fs) [] grid e x = absurd (omega arith)
 all_fit (form.Whole ∷ fs) (s ∷ ss) grid e x = whole_step fs s ss grid (all_fit fs ss grid (omega arith) (right_true (is_extent s) _ x))

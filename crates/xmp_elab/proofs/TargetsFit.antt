@@ -1,5 +1,5 @@
 -- An align that breaks no rule: each dimension of the template is named as often as it must be, and no cell leaves it.
-use Rattle.std.proofs.Common.{◌≡◌, ◌≤◌, ◌<◌, ◌∙◌, ⊎_elim, inl, inr, sym, ap, refl, subst, ◌∷◌, [], ◌+◌, ◌&&◌, ◌||◌, not, ℕ, zero, suc, ℤ, pos, negsuc, ◌+ℤ◌, Bool, true, false, cond, List, Option, Some, None, arith, length, map, eq-eqb, eqb-true, eqb-false, le-leb, leb-true, lt-ltb}
+use Rattle.std.proofs.Common.{◌≡◌, ◌≤◌, ◌<◌, ◌∙◌, ⊎_elim, inl, inr, sym, ap, ap₂, refl, subst, ◌∷◌, [], ◌+◌, ◌&&◌, ◌||◌, not, ℕ, zero, suc, ℤ, pos, negsuc, ◌+ℤ◌, Bool, true, false, cond, List, Option, Some, None, arith, length, map, eq-eqb, eqb-true, eqb-false, le-leb, leb-true, lt-ltb}
 use Rattle.std.specs.Prelude.{slice_get, ◌==◌, nat_le, nat_lt, int_le}
 use Rattle.std.specs.List.{list_all, count_by, enumerate_from}
 use Rattle.std.proofs.lemmas.Bool.{cases_lt}
@@ -51,7 +51,7 @@ count_same t u j (x ∷ xs) h = let r = count_same t u (j + 1) xs h in ap (λ b.
 
 count_none : (j : ℕ) (xs : List ℕ) → count_in (λ e. false) j xs ≡ 0
 count_none j [] = refl
-count_none j (x ∷ xs) = count_none (j + 1) xs
+count_none j (x ∷ xs) = ap (λ n. 0 + n) (count_none (j + 1) xs)
 
 unequal : (d j : ℕ) → (d ≡ j → ⊥) → (b : Bool) → (d == j) ≡ b → cond (d == j) 1 0 ≡ 0
 unequal d j h false e = ap (λ b. cond b 1 0) e
@@ -61,14 +61,13 @@ count_below : (d j : ℕ) (xs : List ℕ) → d < j → count_in (λ e. d == e) 
 count_below d j [] h = refl
 count_below d j (x ∷ xs) h =
     let z = unequal d j (λ e. omega (arith, e)) (d == j) refl in
-    let r = count_below d (j + 1) xs (omega arith) in
-    omega arith
+    ap₂ (λ a b. a + b) z (count_below d (j + 1) xs (omega arith))
 
 count_one : (d j : ℕ) (xs : List ℕ) → j ≤ d → d < j + length xs → count_in (λ e. d == e) j xs ≡ 1
 count_one d j [] h k = absurd (omega arith)
 count_one d j (x ∷ xs) h k =
-    ⊎_elim (λ lt. let z = unequal d j (λ e. omega (arith, e, lt)) (d == j) refl in let r = count_one d (j + 1) xs (omega (arith, lt)) (omega arith) in omega arith)
-    (λ le. let o : cond (d == j) 1 0 ≡ 1 = ap (λ b. cond b 1 0) (eq-eqb d j (omega (arith, le))) in let r = count_below d (j + 1) xs (omega (arith, le)) in omega arith)
+    ⊎_elim (λ lt. let z = unequal d j (λ e. omega (arith, e, lt)) (d == j) refl in ap₂ (λ a b. a + b) z (count_one d (j + 1) xs (omega (arith, lt)) (omega arith)))
+    (λ le. let o : cond (d == j) 1 0 ≡ 1 = ap (λ b. cond b 1 0) (eq-eqb d j (omega (arith, le))) in ap₂ (λ a b. a + b) o (count_below d (j + 1) xs (omega (arith, le))))
     (cases_lt j d)
 
 count_dims : (points : List AlignPoint) (k j : ℕ) (extents : List ℕ) (ws : List (ℕ × ℕ)) → length ws ≡ length extents →
@@ -173,15 +172,15 @@ dimension_ok extents sizes forms points ws ss k s r made few h e = go (slice_get
     go None p =
         let no : (d : ℕ) (o : ℤ) → slice_get points k ≡ Some (ap.Dummy d o) → ⊥ = λ d o q. none-some (ap.Dummy d o) (sym p ∙ q) in
         let past : length forms ≤ k = let m = r.as_forms in let l = past_end points k p in omega arith in
-        unnamed_ok _ s.dim.dist (times ∙ (count_same _ (λ e. false) 0 extents (λ e. named_by_none points k e no) ∙ count_none 0 extents))
+        unnamed_ok (named (aligned_dims extents (targets extents points) ws) k) s.dim.dist (times ∙ (count_same (λ e. names (target_from e 0 points).dim k) (λ e. false) 0 extents (λ e. named_by_none points k e no) ∙ count_none 0 extents))
         (ap is_whole (spread ∙ ap made_or_whole (slice_get_past forms k past)))
     go (Some ap.Star) p =
         let no : (d : ℕ) (o : ℤ) → slice_get points k ≡ Some (ap.Dummy d o) → ⊥ = λ d o q. star_not d o (sym p ∙ q) in
-        unnamed_ok _ s.dim.dist (times ∙ (count_same _ (λ e. false) 0 extents (λ e. named_by_none points k e no) ∙ count_none 0 extents))
+        unnamed_ok (named (aligned_dims extents (targets extents points) ws) k) s.dim.dist (times ∙ (count_same (λ e. names (target_from e 0 points).dim k) (λ e. false) 0 extents (λ e. named_by_none points k e no) ∙ count_none 0 extents))
         (ap is_whole spread ∙ undistributed (slice_get forms k) (star_spread extents (distributes (slice_get forms k)) (slice_get sizes k) (point_at extents sizes forms points k ap.Star r.fit p)))
     go (Some (ap.Dummy d o)) p =
         let there : d < length extents = dimension_there extents (distributes (slice_get forms k)) (slice_get sizes k) d o (point_at extents sizes forms points k (ap.Dummy d o) r.fit p) in
-        named_ok _ s.dim.dist (times ∙ (count_same _ (λ e. d == e) 0 extents (λ e. named_by points k e d o r.different p) ∙ count_one d 0 extents (omega arith) (omega arith)))
+        named_ok (named (aligned_dims extents (targets extents points) ws) k) s.dim.dist (times ∙ (count_same (λ e. names (target_from e 0 points).dim k) (λ e. d == e) 0 extents (λ e. named_by points k e d o r.different p) ∙ count_one d 0 extents (omega arith) (omega arith)))
 
 names_all : (ls : List AlignedDim) (ss : List SpreadDim) (k : ℕ) → ((i : ℕ) (s : SpreadDim) → slice_get ss i ≡ Some s → name_ok (named ls (k + i)) s.dim.dist ≡ true) → names_fit ls ss k ≡ true
 names_all ls [] k h = refl

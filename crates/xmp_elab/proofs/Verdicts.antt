@@ -26,14 +26,17 @@ names_first : (o : Option Refusal) (bs : List Broken) → after_names o bs ≡ N
 names_first None bs h = (refl, h)
 names_first (Some r) bs h = absurd (none-some r (sym h))
 
+full : (b : Broken) (bs : List Broken) → b ∷ bs ≡ [] → ⊥
+full b bs h = cc
+
 -- What neither passes a test nor fails it isn't there.
 neither : (p : Broken → Bool) (bs : List Broken) → filter p bs ≡ [] → filter (λ b. not (p b)) bs ≡ [] → bs ≡ []
 neither p [] h k = refl
 neither p (b ∷ bs) h k = at (p b) refl
   where
     at : (t : Bool) → p b ≡ t → b ∷ bs ≡ []
-    at true e = absurd (cc)
-    at false e = absurd (cc)
+    at true e = absurd (full b (filter p bs) (ap (λ t. cond t (b ∷ filter p bs) (filter p bs)) (sym e) ∙ h))
+    at false e = absurd (full b (filter (λ x. not (p x)) bs) (ap (λ t. cond (not t) (b ∷ filter (λ x. not (p x)) bs) (filter (λ x. not (p x)) bs)) (sym e) ∙ k))
 
 pub no_verdict : (bs : List Broken) → verdict_of bs ≡ None → bs ≡ []
 no_verdict bs h =

@@ -56,9 +56,6 @@ narrow_shadow extents forms points (Some s) r = narrow_pairs (interval_dimension
 
 -- ---- one dimension of the array
 
-none_wide : (ss : List SpreadDim) (d : Option ℕ) → shadow_fits ss d 0 0 ≡ true
-none_wide ss d = refl
-
 shadowed_form : (f : Form) → has_intervals f ≡ true → has_shadow (made_form f) ≡ true
 shadowed_form form.Whole h = cc
 shadowed_form form.Block h = refl

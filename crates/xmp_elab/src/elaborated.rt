@@ -45,7 +45,7 @@ struct Placed {
 }
 
 // The same of a program in which no rule of mappings breaks.
-fn placed(alloc: Global, w: &World) -> Result<Placed, AllocError>
+fn place_all(alloc: Global, w: &World) -> Result<Placed, AllocError>
     requires unbroken { mapping_rules w.now ≡ [] }
     requires count { IsTrue (is_count w.now.given) }
     ensures grid { IfOk result (λ m. IsGrid (map natural (nodes_of w.now)) m.grid) }
@@ -99,7 +99,7 @@ fn made_parts(alloc: Global, body: Stmt, w: World) -> Result<ProgParts, AllocErr
     requires count { IsTrue (is_count w.given) }
     ensures { IfOk result (λ p. Made body w p) }
 {
-    let placed = placed(alloc, &w)?;
+    let placed = place_all(alloc, &w)?;
     Ok(assembled(body, w, placed))
 }
 
