@@ -11,7 +11,7 @@ use Rattle.xmp_map.specs.RowMajor.{product}
 use Rattle.xmp_map.specs.Spread.{sizes_fit}
 use Rattle.xmp_elab.specs.declared.mappings.Align.{Align}
 use Rattle.xmp_elab.specs.declared.mappings.AlignPoint.{AlignPoint}
-use Rattle.xmp_elab.specs.declared.mappings.AlignPoint.TheVariants as ap
+use Rattle.xmp_elab.specs.declared.mappings.AlignPoint.TheVariants as point
 use Rattle.xmp_elab.specs.declared.mappings.Form.{Form}
 use Rattle.xmp_elab.specs.declared.mappings.Shadow.{Shadow}
 use Rattle.xmp_elab.specs.declared.mappings.TemplateLine.{TemplateLine}
@@ -70,8 +70,8 @@ pub record MapFits (extents : List ℕ) (points : List AlignPoint) (shadow : Opt
 
 narrow_point : (extents : List ℕ) (b : Bool) (size : Option ℤ) (p : AlignPoint) → point_fits extents b size p ≡ true → is_narrow_point p ≡ true
 narrow_point extents b None p h = absurd (cc)
-narrow_point extents b (Some z) ap.Star h = refl
-narrow_point extents b (Some z) (ap.Dummy d o) h = left_true (is_small o) _ h
+narrow_point extents b (Some z) point.Star h = refl
+narrow_point extents b (Some z) (point.Dummy d o) h = left_true (is_small o) _ h
 
 narrow_points : (extents : List ℕ) (forms : List Form) (sizes : List ℤ) (j : ℕ) (points : List AlignPoint) →
     list_all (λ x. point_fits extents (distributes (slice_get forms x.0)) (slice_get sizes x.0) x.1) (enumerate_from j points) ≡ true → list_all is_narrow_point points ≡ true

@@ -5,7 +5,7 @@ use Rattle.std.proofs.lemmas.Option.{same_Some, none-some}
 use Rattle.std.proofs.lemmas.List.{length-take, take_more, take_all, drop_all}
 use Rattle.xmp_map.specs.declared.aligned.Target.{Target}
 use Rattle.xmp_elab.specs.declared.mappings.AlignPoint.{AlignPoint}
-use Rattle.xmp_elab.specs.declared.mappings.AlignPoint.TheVariants as ap
+use Rattle.xmp_elab.specs.declared.mappings.AlignPoint.TheVariants as point
 use Rattle.xmp_elab.specs.Parts.{EachMade, no_target, offset_for, padded, target_at, target_from, targets_from}
 use Rattle.xmp_elab.proofs.Steps.{unrolled}
 
@@ -65,16 +65,16 @@ set_padded (suc k) (x ∷ xs) (suc i) v e h = ap (λ l. x ∷ l) (set_padded k x
 -- ---- targets
 
 skip : (d k : ℕ) (p : AlignPoint) (more : List AlignPoint) → offset_for d p ≡ None → target_from d k (p ∷ more) ≡ target_from d (k + 1) more
-skip d k ap.Star more h = refl
-skip d k (ap.Dummy c o) more h = go (c == d) h
+skip d k point.Star more h = refl
+skip d k (point.Dummy c o) more h = go (c == d) h
   where
     go : (b : Bool) → (if b then Some o else None) ≡ None → (if b then target_at k o else target_from d (k + 1) more) ≡ target_from d (k + 1) more
     go true e = absurd (none-some o (sym e))
     go false e = refl
 
 taken : (d k : ℕ) (p : AlignPoint) (more : List AlignPoint) (q : ℤ) → offset_for d p ≡ Some q → target_from d k (p ∷ more) ≡ target_at k q
-taken d k ap.Star more q h = absurd (none-some q h)
-taken d k (ap.Dummy c o) more q h = go (c == d) h
+taken d k point.Star more q h = absurd (none-some q h)
+taken d k (point.Dummy c o) more q h = go (c == d) h
   where
     go : (b : Bool) → (if b then Some o else None) ≡ Some q → (if b then target_at k o else target_from d (k + 1) more) ≡ target_at k q
     go true e = ap (λ z. target_at k z) (same_Some o q e)

@@ -16,7 +16,7 @@ use Rattle.xmp_map.specs.Align.{aligned_dim, aligned_dims, dims_of, is_target, n
 use Rattle.xmp_map.specs.Nodes.{filled}
 use Rattle.xmp_map.specs.Spread.{is_whole}
 use Rattle.xmp_elab.specs.declared.mappings.AlignPoint.{AlignPoint}
-use Rattle.xmp_elab.specs.declared.mappings.AlignPoint.TheVariants as ap
+use Rattle.xmp_elab.specs.declared.mappings.AlignPoint.TheVariants as point
 use Rattle.xmp_elab.specs.declared.mappings.Form.{Form}
 use Rattle.xmp_elab.specs.declared.mappings.Form.TheVariants as form
 use Rattle.xmp_elab.specs.Directives.{is_small, natural}
@@ -141,12 +141,12 @@ point_at : (extents : List ℕ) (sizes : List ℤ) (forms : List Form) (points :
     point_fits extents (distributes (slice_get forms k)) (slice_get sizes k) p ≡ true
 point_at extents sizes forms points k p h e = all_here (λ x. point_fits extents (distributes (slice_get forms x.0)) (slice_get sizes x.0) x.1) points k p h e
 
-star_spread : (extents : List ℕ) (b : Bool) (size : Option ℤ) → point_fits extents b size ap.Star ≡ true → b ≡ false
+star_spread : (extents : List ℕ) (b : Bool) (size : Option ℤ) → point_fits extents b size point.Star ≡ true → b ≡ false
 star_spread extents b None h = cc
 star_spread extents false (Some z) h = refl
 star_spread extents true (Some z) h = cc
 
-dimension_there : (extents : List ℕ) (b : Bool) (size : Option ℤ) (d : ℕ) (o : ℤ) → point_fits extents b size (ap.Dummy d o) ≡ true → d < length extents
+dimension_there : (extents : List ℕ) (b : Bool) (size : Option ℤ) (d : ℕ) (o : ℤ) → point_fits extents b size (point.Dummy d o) ≡ true → d < length extents
 dimension_there extents b None d o h = absurd (cc)
 dimension_there extents b (Some z) d o h = go (slice_get extents d) refl (right_true (is_small o) _ h)
   where
@@ -170,16 +170,16 @@ dimension_ok extents sizes forms points ws ss k s r made few h e = go (slice_get
 
     go : (o : Option AlignPoint) → slice_get points k ≡ o → name_ok (named (aligned_dims extents (targets extents points) ws) k) s.dim.dist ≡ true
     go None p =
-        let no : (d : ℕ) (o : ℤ) → slice_get points k ≡ Some (ap.Dummy d o) → ⊥ = λ d o q. none-some (ap.Dummy d o) (sym p ∙ q) in
+        let no : (d : ℕ) (o : ℤ) → slice_get points k ≡ Some (point.Dummy d o) → ⊥ = λ d o q. none-some (point.Dummy d o) (sym p ∙ q) in
         let past : length forms ≤ k = let m = r.as_forms in let l = past_end points k p in omega arith in
         unnamed_ok (named (aligned_dims extents (targets extents points) ws) k) s.dim.dist (times ∙ (count_same (λ e. names (target_from e 0 points).dim k) (λ e. false) 0 extents (λ e. named_by_none points k e no) ∙ count_none 0 extents))
         (ap is_whole (spread ∙ ap made_or_whole (slice_get_past forms k past)))
-    go (Some ap.Star) p =
-        let no : (d : ℕ) (o : ℤ) → slice_get points k ≡ Some (ap.Dummy d o) → ⊥ = λ d o q. star_not d o (sym p ∙ q) in
+    go (Some point.Star) p =
+        let no : (d : ℕ) (o : ℤ) → slice_get points k ≡ Some (point.Dummy d o) → ⊥ = λ d o q. star_not d o (sym p ∙ q) in
         unnamed_ok (named (aligned_dims extents (targets extents points) ws) k) s.dim.dist (times ∙ (count_same (λ e. names (target_from e 0 points).dim k) (λ e. false) 0 extents (λ e. named_by_none points k e no) ∙ count_none 0 extents))
-        (ap is_whole spread ∙ undistributed (slice_get forms k) (star_spread extents (distributes (slice_get forms k)) (slice_get sizes k) (point_at extents sizes forms points k ap.Star r.fit p)))
-    go (Some (ap.Dummy d o)) p =
-        let there : d < length extents = dimension_there extents (distributes (slice_get forms k)) (slice_get sizes k) d o (point_at extents sizes forms points k (ap.Dummy d o) r.fit p) in
+        (ap is_whole spread ∙ undistributed (slice_get forms k) (star_spread extents (distributes (slice_get forms k)) (slice_get sizes k) (point_at extents sizes forms points k point.Star r.fit p)))
+    go (Some (point.Dummy d o)) p =
+        let there : d < length extents = dimension_there extents (distributes (slice_get forms k)) (slice_get sizes k) d o (point_at extents sizes forms points k (point.Dummy d o) r.fit p) in
         named_ok (named (aligned_dims extents (targets extents points) ws) k) s.dim.dist (times ∙ (count_same (λ e. names (target_from e 0 points).dim k) (λ e. d == e) 0 extents (λ e. named_by points k e d o r.different p) ∙ count_one d 0 extents (omega arith) (omega arith)))
 
 names_all : (ls : List AlignedDim) (ss : List SpreadDim) (k : ℕ) → ((i : ℕ) (s : SpreadDim) → slice_get ss i ≡ Some s → name_ok (named ls (k + i)) s.dim.dist ≡ true) → names_fit ls ss k ≡ true
@@ -222,10 +222,10 @@ reaches_inside (pos m) z x s h e = inside_of x m z s.dim.size (right_true (int_l
 reaches_inside (negsuc m) z x s h e = cc
 
 position_ok : (extents : List ℕ) (sizes : List ℤ) (ss : List SpreadDim) (forms : List Form) (k d x : ℕ) (o : ℤ) (b : Bool) → Spreads sizes forms ss → length sizes ≤ 3 → slice_get extents d ≡ Some x →
-    point_fits extents b (slice_get sizes k) (ap.Dummy d o) ≡ true → (nat_lt k (length sizes) && positions_fit o x (slice_get ss k)) ≡ true
+    point_fits extents b (slice_get sizes k) (point.Dummy d o) ≡ true → (nat_lt k (length sizes) && positions_fit o x (slice_get ss k)) ≡ true
 position_ok extents sizes ss forms k d x o b made few e h = go (slice_get sizes k) refl h
   where
-    go : (size : Option ℤ) → slice_get sizes k ≡ size → point_fits extents b size (ap.Dummy d o) ≡ true → (nat_lt k (length sizes) && positions_fit o x (slice_get ss k)) ≡ true
+    go : (size : Option ℤ) → slice_get sizes k ≡ size → point_fits extents b size (point.Dummy d o) ≡ true → (nat_lt k (length sizes) && positions_fit o x (slice_get ss k)) ≡ true
     go None q p = absurd (cc)
     go (Some z) q p =
         let there = mapped (λ s. s.dim.size) ss k (natural z) (ap (λ l. slice_get l k) made.sizes ∙ filled_get natural 1 sizes k z few q) in
@@ -245,7 +245,7 @@ target_ok extents sizes forms points ss i x w r made e =
     fits n =
         let z : n.place ≡ 0 + n.place = omega arith in
         subst (λ k. (nat_lt k (length sizes) && positions_fit n.offset x (slice_get ss k)) ≡ true) z
-        (position_ok extents sizes ss forms n.place i x n.offset (distributes (slice_get forms n.place)) made few e (point_at extents sizes forms points n.place (ap.Dummy i n.offset) r.fit n.at))
+        (position_ok extents sizes ss forms n.place i x n.offset (distributes (slice_get forms n.place)) made few e (point_at extents sizes forms points n.place (point.Dummy i n.offset) r.fit n.at))
 
 pub targets_right : (extents : List ℕ) (sizes : List ℤ) (forms : List Form) (points : List AlignPoint) (ws : List (ℕ × ℕ)) (ss : List SpreadDim) →
     RightPoints extents sizes forms points → Spreads sizes forms ss → length ws ≡ length extents →

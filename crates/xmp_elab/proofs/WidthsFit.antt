@@ -12,7 +12,7 @@ use Rattle.xmp_map.specs.Align.{aligned_dim, aligned_dims, dims_of, is_chunked_u
 use Rattle.xmp_map.specs.Nodes.{filled}
 use Rattle.xmp_map.specs.Shadow.{has_shadow}
 use Rattle.xmp_elab.specs.declared.mappings.AlignPoint.{AlignPoint}
-use Rattle.xmp_elab.specs.declared.mappings.AlignPoint.TheVariants as ap
+use Rattle.xmp_elab.specs.declared.mappings.AlignPoint.TheVariants as point
 use Rattle.xmp_elab.specs.declared.mappings.Form.{Form}
 use Rattle.xmp_elab.specs.declared.mappings.Form.TheVariants as form
 use Rattle.xmp_elab.specs.declared.mappings.Shadow.{Shadow}
