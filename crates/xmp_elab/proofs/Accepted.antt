@@ -18,6 +18,7 @@ use Rattle.xmp_elab.specs.declared.mappings.TemplateLine.{TemplateLine}
 use Rattle.xmp_elab.specs.declared.names.Array.{Array}
 use Rattle.xmp_elab.specs.declared.rules.Rule.TheVariants.{M10}
 use Rattle.xmp_elab.specs.declared.world.World.{World}
+use Rattle.xmp_elab.specs.Rules.{unless}
 use Rattle.xmp_elab.specs.Declarations.{most_cells}
 use Rattle.xmp_elab.specs.Directives.{extents_in, is_small, natural}
 use Rattle.xmp_elab.specs.MappingRules.{align_of, align_right, all_different, cell_rules, cells_from, copies, dimensions_in, distributes, dummies_right, forms_of, interval_dimensions, mapping_rules, nodes_of, number_of_nodes, one_to_three, point_fits, points_right, shadow_right, template_sizes, template_sizes_in, widths_right}
@@ -44,15 +45,15 @@ cells_at : (times before : ℕ) (xs : List Array) (k : ℕ) (a : Array) → cell
 cells_at times before [] k a h e = absurd (none-some a e)
 cells_at times before (x ∷ xs) zero a h e =
     (before, subst (λ y. (sizes_fit y.extents && nat_le ((before + product y.extents) * times) most_cells) ≡ true) (same_Some x a e)
-    (holds (sizes_fit x.extents && nat_le ((before + product x.extents) * times) most_cells) M10 x.at (left_none _ (cells_from times (before + product x.extents) xs) h)))
-cells_at times before (x ∷ xs) (suc k) a h e = cells_at times (before + product x.extents) xs k a (right_none _ (cells_from times (before + product x.extents) xs) h) e
+    (holds (sizes_fit x.extents && nat_le ((before + product x.extents) * times) most_cells) M10 x.at (left_none (unless (sizes_fit x.extents && nat_le ((before + product x.extents) * times) most_cells) M10 x.at) (cells_from times (before + product x.extents) xs) h)))
+cells_at times before (x ∷ xs) (suc k) a h e = cells_at times (before + product x.extents) xs k a (right_none (unless (sizes_fit x.extents && nat_le ((before + product x.extents) * times) most_cells) M10 x.at) (cells_from times (before + product x.extents) xs) h) e
 
 -- An array of a program without coarrays.
 pub cells_right : (w : World) (k : ℕ) (a : Array) → mapping_rules w ≡ [] → w.names.coarray ≡ false → slice_get w.names.arrays k ≡ Some a → (sizes_fit a.extents ≡ true) × (product a.extents ≤ 4194304)
 cells_right w k a h c e =
     let once : copies w ≡ 1 = ap (λ b. if b then number_of_nodes w else 1) c in
     let at = cells_at (copies w) 0 w.names.arrays k a (no_cell_rule w h) e in
-    let few : (at.0 + product a.extents) * copies w ≤ 4194304 = leb-true _ 4194304 (right_true (sizes_fit a.extents) _ at.1) in
+    let few : (at.0 + product a.extents) * copies w ≤ 4194304 = leb-true ((at.0 + product a.extents) * copies w) 4194304 (right_true (sizes_fit a.extents) _ at.1) in
     let all : (at.0 + product a.extents) * 1 ≤ 4194304 = subst (λ n. (at.0 + product a.extents) * n ≤ 4194304) once few in
     (left_true (sizes_fit a.extents) _ at.1, omega arith)
 
@@ -110,13 +111,13 @@ declared : (w : World) (a : Align) → align_right w a ≡ true → (l : Templat
 declared w a h = go (slice_get w.mappings.templates a.template) refl
   where
     counts : (one_to_three (length a.points) && (length a.points == length (template_sizes w a.template))) ≡ true
-    counts = right_true (length a.dummies == length (extents_in (slice_get w.names.arrays a.array))) _ (left_true _ _ h)
+    counts = right_true (length a.dummies == length (extents_in (slice_get w.names.arrays a.array))) _ (left_true ((length a.dummies == length (extents_in (slice_get w.names.arrays a.array))) && (one_to_three (length a.points) && (length a.points == length (template_sizes w a.template)))) _ h)
 
     go : (o : Option TemplateLine) → slice_get w.mappings.templates a.template ≡ o → (l : TemplateLine) × (slice_get w.mappings.templates a.template ≡ Some l)
     go (Some l) e = (l, e)
     go None e =
         let none : length (template_sizes w a.template) ≡ 0 = ap (λ o. length (template_sizes_in o)) e in
-        let same : length a.points ≡ length (template_sizes w a.template) = eqb-true _ _ (right_true (one_to_three (length a.points)) _ counts) in
+        let same : length a.points ≡ length (template_sizes w a.template) = eqb-true (length a.points) (length (template_sizes w a.template)) (right_true (one_to_three (length a.points)) _ counts) in
         let some : 1 ≤ length a.points = leb-true 1 (length a.points) (left_true (nat_le 1 (length a.points)) _ (left_true (one_to_three (length a.points)) _ counts)) in
         absurd (omega arith)
 
@@ -125,14 +126,14 @@ points_of : (w : World) (k : ℕ) (array : Array) (a : Align) (l : TemplateLine)
 points_of w k array a l at is e h t =
     let extents : extents_in (slice_get w.names.arrays a.array) ≡ array.extents = ap (λ n. extents_in (slice_get w.names.arrays n)) is ∙ ap extents_in at in
     let sizes : template_sizes w a.template ≡ l.sizes = ap template_sizes_in e in
-    let counts = right_true (length a.dummies == length (extents_in (slice_get w.names.arrays a.array))) (one_to_three (length a.points) && (length a.points == length (template_sizes w a.template))) (left_true _ _ h) in
+    let counts = right_true (length a.dummies == length (extents_in (slice_get w.names.arrays a.array))) (one_to_three (length a.points) && (length a.points == length (template_sizes w a.template))) (left_true ((length a.dummies == length (extents_in (slice_get w.names.arrays a.array))) && (one_to_three (length a.points) && (length a.points == length (template_sizes w a.template)))) _ h) in
     let rest = right_true ((length a.dummies == length (extents_in (slice_get w.names.arrays a.array))) && (one_to_three (length a.points) && (length a.points == length (template_sizes w a.template)))) _ h in
-    let same : length a.points ≡ length l.sizes = eqb-true (length a.points) _ (right_true (one_to_three (length a.points)) _ counts) ∙ ap (λ ss. length ss) sizes in
+    let same : length a.points ≡ length l.sizes = eqb-true (length a.points) (length (template_sizes w a.template)) (right_true (one_to_three (length a.points)) _ counts) ∙ ap (λ ss. length ss) sizes in
     record {
       few = left_true (one_to_three (length a.points)) _ counts;
       as_sizes = same;
-      as_forms = same ∙ sym (eqb-true (length (forms_of w a.template)) (length l.sizes) (left_true _ _ t.spread));
-      different = left_true (all_different (dimensions_in a.points)) (dummies_right a.dummies (dimensions_in a.points)) (left_true _ _ rest);
+      as_forms = same ∙ sym (eqb-true (length (forms_of w a.template)) (length l.sizes) (left_true (length (forms_of w a.template) == length l.sizes) _ t.spread));
+      different = left_true (all_different (dimensions_in a.points)) (dummies_right a.dummies (dimensions_in a.points)) (left_true (all_different (dimensions_in a.points) && dummies_right a.dummies (dimensions_in a.points)) _ rest);
       fit = subst (λ ss. points_right array.extents (forms_of w a.template) ss a.points ≡ true) sizes
           (subst (λ es. points_right es (forms_of w a.template) (template_sizes w a.template) a.points ≡ true) extents
           (right_true (all_different (dimensions_in a.points) && dummies_right a.dummies (dimensions_in a.points)) _ rest));
@@ -148,7 +149,7 @@ shadow_of_array w k array a h at e = go (shadow_of w k) refl
         let r = shadow_at w k s h p in
         let right : shadow_right w (Some a) s ≡ true = subst (λ o. shadow_right w o s ≡ true) (ap (align_of w) r.0 ∙ e) r.1 in
         let extents : extents_in (slice_get w.names.arrays s.array) ≡ array.extents = ap (λ n. extents_in (slice_get w.names.arrays n)) r.0 ∙ ap extents_in at in (
-          eqb-true (length s.widths) _ (left_true _ _ right) ∙ ap (λ es. length es) extents,
+          eqb-true (length s.widths) (length (extents_in (slice_get w.names.arrays s.array))) (left_true (length s.widths == length (extents_in (slice_get w.names.arrays s.array))) _ right) ∙ ap (λ es. length es) extents,
           right_true (length s.widths == length (extents_in (slice_get w.names.arrays s.array))) (widths_right (interval_dimensions (forms_of w a.template) a.points) s.widths) right,
         )
 
