@@ -1,14 +1,13 @@
 // Where the cells of the arrays of a program lie in which no rule breaks.
-ghost use Rattle.std.specs.Prelude.{◌≡◌, ◌≤◌, ◌<◌, [], false, IfOk, IsTrue, None, Some, length, map, option_copied, slice_get};
+ghost use Rattle.std.specs.Prelude.{◌≡◌, ◌≤◌, [], IfOk, IsTrue, None, Some, length, map, option_copied, slice_get};
 ghost use Rattle.std.specs.List.{list_all};
-ghost use Rattle.xmp_dist.specs.Valid.{is_extent};
 ghost use Rattle.xmp_map.specs.Align.{aligned_dims, map_fault};
 ghost use Rattle.xmp_map.specs.RowMajor.{product};
 ghost use Rattle.xmp_map.specs.Spread.{sizes_fit};
 ghost use Rattle.xmp_elab.specs.Directives.{natural};
-ghost use Rattle.xmp_elab.specs.MappingRules.{align_of, aligned, item_at, mapping_rules, shadowed};
+ghost use Rattle.xmp_elab.specs.MappingRules.{align_of, aligned, mapping_rules, shadowed};
 ghost use Rattle.xmp_elab.specs.Narrow.{are_narrow, is_narrow_pair, is_narrow_point};
-ghost use Rattle.xmp_elab.specs.Parts.{EachMade, IsArray, IsHome, IsOver, IsSpread, IsTemplate, no_target, offset_for, shadow_of, target_from, targets, widths_in};
+ghost use Rattle.xmp_elab.specs.Parts.{EachMade, IsArray, IsHome, IsOver, IsSpread, IsTemplate, offset_for, shadow_of, target_from, targets, widths_in};
 
 use crate::align_rules::aligned;
 use crate::grids::narrowed;

@@ -51,18 +51,31 @@ fn first_home(parts: Option<ProgParts>) -> Option<Home> {
     }
 }
 
-// What the first dimension is aligned with, and its widths.
-fn first_dimension(map: &ArrayMap) -> Option<(Target, (u32, u32))> {
+// How the first dimension of an array lies: the number of its template, its target, and its widths.
+#[derive(Clone, Copy, PartialEq, Eq, Debug)]
+struct Lying {
+    template: u32,
+    target: Target,
+    low: u32,
+    high: u32,
+}
+
+fn first_dimension(template: u32, map: &ArrayMap) -> Option<Lying> {
     if map.dims() == 0 {
         return None;
     }
-    Some((map.target(0), map.shadow(0)))
+    let (low, high) = map.shadow(0);
+    Some(Lying {
+        template,
+        target: map.target(0),
+        low,
+        high,
+    })
 }
 
-// The number of the template of an array, with its first dimension.
-fn spread(home: Option<Home>) -> Option<(u32, Option<(Target, (u32, u32))>)> {
+fn spread(home: Option<Home>) -> Option<Lying> {
     match home {
-        Some(Home::Spread(number, map)) => Some((number, first_dimension(&map))),
+        Some(Home::Spread(template, map)) => first_dimension(template, &map),
         _ => None,
     }
 }
@@ -89,12 +102,16 @@ fn nodes_without_a_nodes_array_stand_in_a_row(rt: HostRuntime) -> Result<(), Fai
 fn an_aligned_array_has_its_map(rt: HostRuntime) -> Result<(), Fail> {
     let alloc = rt.alloc();
     let text = b"int a[14];\n#pragma xmp nodes p[4]\n#pragma xmp template s[4]\n#pragma xmp template t[16]\n#pragma xmp distribute s[block] onto p\n#pragma xmp distribute t[block] onto p\n#pragma xmp align a[i] with t[i+2]\n#pragma xmp shadow a[1:2]\nint main() {}";
-    let target = Target {
-        dim: Some(0),
-        offset: 2,
+    let expected = Lying {
+        template: 1,
+        target: Target {
+            dim: Some(0),
+            offset: 2,
+        },
+        low: 1,
+        high: 2,
     };
-    let home = first_home(parts(alloc, text, None));
-    assert_eq!(rt; spread(home), Some((1, Some((target, (1, 2))))));
+    assert_eq!(rt; spread(first_home(parts(alloc, text, None))), Some(expected));
     Ok(())
 }
 
