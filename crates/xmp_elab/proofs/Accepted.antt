@@ -1,12 +1,12 @@
 -- Where no rule of mappings breaks, the grid, the templates and the maps of a program can be made.
-use Rattle.std.proofs.Common.{◌≡◌, ◌≤◌, ◌<◌, ◌∙◌, sym, ap, refl, subst, ◌++◌, ◌∷◌, [], ◌+◌, ◌*◌, ◌&&◌, ℕ, zero, suc, ℤ, pos, Bool, true, false, List, Option, Some, None, arith, length, map, IsTrue, eqb-true, leb-true}
+use Rattle.std.proofs.Common.{◌≡◌, ◌≤◌, ◌∙◌, sym, ap, refl, subst, ◌∷◌, [], ◌+◌, ◌*◌, ◌&&◌, ℕ, zero, suc, ℤ, Bool, true, false, List, Option, Some, None, arith, length, map, IsTrue, eqb-true, leb-true}
 use Rattle.std.specs.Prelude.{slice_get, ◌==◌, nat_le, if◌then◌else◌}
 use Rattle.std.specs.List.{list_all, enumerate_from}
 use Rattle.std.proofs.lemmas.Option.{same_Some, none-some}
 use Rattle.xmp_map.specs.declared.fault.MapError.TheVariants as fault
 use Rattle.xmp_map.specs.declared.grid.Grid.{Grid}
 use Rattle.xmp_map.specs.declared.template.Template.{Template}
-use Rattle.xmp_map.specs.Align.{aligned_dims, is_shadow, is_target, map_fault, names_fit}
+use Rattle.xmp_map.specs.Align.{aligned_dims, is_target, map_fault}
 use Rattle.xmp_map.specs.RowMajor.{product}
 use Rattle.xmp_map.specs.Spread.{sizes_fit}
 use Rattle.xmp_elab.specs.declared.mappings.Align.{Align}
@@ -21,7 +21,7 @@ use Rattle.xmp_elab.specs.declared.world.World.{World}
 use Rattle.xmp_elab.specs.Rules.{unless}
 use Rattle.xmp_elab.specs.Declarations.{most_cells}
 use Rattle.xmp_elab.specs.Directives.{extents_in, is_small, natural}
-use Rattle.xmp_elab.specs.MappingRules.{align_of, align_right, all_different, cell_rules, cells_from, copies, dimensions_in, distributes, dummies_right, forms_of, interval_dimensions, mapping_rules, nodes_of, number_of_nodes, one_to_three, point_fits, points_right, shadow_right, template_sizes, template_sizes_in, widths_right}
+use Rattle.xmp_elab.specs.MappingRules.{align_of, align_right, all_different, cells_from, copies, dimensions_in, distributes, dummies_right, forms_of, interval_dimensions, mapping_rules, nodes_of, number_of_nodes, one_to_three, point_fits, points_right, shadow_right, template_sizes, template_sizes_in, widths_right}
 use Rattle.xmp_elab.specs.Narrow.{are_narrow, is_count, is_narrow_point}
 use Rattle.xmp_elab.specs.Parts.{EachMade, IsGrid, IsOf, IsTemplate, shadow_of, targets, widths_in}
 use Rattle.xmp_elab.proofs.FormsFit.{Makes, makes_template}

@@ -1,9 +1,8 @@
 -- Which point of a template names a dimension of an array, where no dimension stands in two points.
-use Rattle.std.proofs.Common.{◌≡◌, ◌≤◌, ◌<◌, ◌∙◌, ◌⊎◌, inl, inr, ⊎_elim, sym, ap, refl, subst, ◌++◌, ◌∷◌, [], ◌+◌, ℕ, zero, suc, ℤ, pos, Bool, true, false, cond, List, Option, Some, None, arith, length, get_or, take, eq-eqb, eqb-true, eqb-false}
+use Rattle.std.proofs.Common.{◌≡◌, ◌<◌, ◌∙◌, ◌⊎◌, inl, inr, ⊎_elim, sym, ap, refl, subst, ◌++◌, ◌∷◌, [], ◌+◌, ℕ, zero, suc, ℤ, Bool, true, false, List, Option, Some, None, arith, length, get_or, take, eq-eqb, eqb-true, true≢false}
 use Rattle.std.specs.Prelude.{slice_get, is_some, ◌==◌, if◌then◌else◌}
 use Rattle.std.specs.List.{flat_map, enumerate_from}
 use Rattle.std.proofs.lemmas.Bool.{cases_lt}
-use Rattle.std.proofs.lemmas.Bool.Decides.{nat_tests}
 use Rattle.std.proofs.lemmas.Option.{same_Some, none-some, slice_get-get_or}
 use Rattle.std.proofs.lemmas.List.Quantifiers.{position-Some}
 use Rattle.xmp_map.specs.declared.aligned.Target.{Target}
@@ -15,6 +14,9 @@ use Rattle.xmp_elab.specs.Numbers.{first_place, is_at}
 use Rattle.xmp_elab.specs.MappingRules.{all_different, dimension_in, dimensions_in, interval_dimension, spans_intervals}
 use Rattle.xmp_elab.specs.Parts.{no_target, target_at, target_from}
 use Rattle.xmp_elab.proofs.Unbroken.{all_here}
+
+differ : (c d : ℕ) → (c == d) ≡ false → c ≡ d → ⊥
+differ c d h e = true≢false (sym (eq-eqb c d e) ∙ h)
 
 -- ---- a dimension has one point
 
@@ -84,7 +86,7 @@ found d j (point.Star ∷ ps) = ⊎_elim (λ u. inl (u.0, star d ps u.1)) (λ n.
 found d j (point.Dummy c q ∷ ps) = at (found d (j + 1) ps) (c == d) refl
   where
     other : (c == d) ≡ false → ((i : ℕ) (o : ℤ) → slice_get ps i ≡ Some (point.Dummy d o) → ⊥) → (i : ℕ) (o : ℤ) → slice_get (point.Dummy c q ∷ ps) i ≡ Some (point.Dummy d o) → ⊥
-    other ne u zero o e = eqb-false c d ne (dimension_of c d q o e)
+    other ne u zero o e = differ c d ne (dimension_of c d q o e)
     other ne u (suc i) o e = u i o e
 
     later : Named d (j + 1) ps (target_from d (j + 1) ps) → Named d j (point.Dummy c q ∷ ps) (target_from d (j + 1) ps)
@@ -120,7 +122,7 @@ named_by points k e d o h at =
         apart false q = q ∙ sym p
         apart true q =
             let same : n.place ≡ k = let r = eqb-true (0 + n.place) k q in omega arith in
-            absurd (eqb-false d e p (dimension_of d e o n.offset (sym at ∙ (ap (slice_get points) (sym same) ∙ n.at))))
+            absurd (differ d e p (dimension_of d e o n.offset (sym at ∙ (ap (slice_get points) (sym same) ∙ n.at))))
 
 -- A point without one isn't named.
 pub named_by_none : (points : List AlignPoint) (k e : ℕ) → ((d : ℕ) (o : ℤ) → slice_get points k ≡ Some (point.Dummy d o) → ⊥) → names (target_from e 0 points).dim k ≡ false

@@ -1,5 +1,5 @@
 -- The sizes and forms of a template that breaks no rule make a template.
-use Rattle.std.proofs.Common.{◌≡◌, ◌≤◌, ◌<◌, ◌∙◌, sym, ap, ap₂, refl, subst, ◌∷◌, [], ◌+◌, ◌&&◌, ℕ, zero, suc, ℤ, pos, negsuc, Bool, true, false, cond, List, Option, Some, None, arith, length, map, take, sum, IsTrue, eq-eqb, eqb-true, leb-true, le-leb}
+use Rattle.std.proofs.Common.{◌≡◌, ◌≤◌, ◌∙◌, sym, ap, ap₂, refl, subst, ◌∷◌, [], ◌+◌, ℕ, zero, suc, ℤ, pos, negsuc, Bool, true, false, cond, List, Some, None, arith, length, map, take, sum, IsTrue, eq-eqb, eqb-true, leb-true, le-leb}
 use Rattle.std.specs.Prelude.{⊤, ◌==◌, nat_le, int_le, slice_index, if◌then◌else◌}
 use Rattle.std.specs.List.{list_all, count_by}
 use Rattle.std.proofs.lemmas.Bool.Decides.{nat_tests}
@@ -7,7 +7,6 @@ use Rattle.std.proofs.lemmas.List.{length-map}
 use Rattle.std.proofs.lemmas.List.Sums.{sum_by-cons}
 use Rattle.xmp_dist.specs.Valid as valid
 use Rattle.xmp_map.specs.declared.grid.Grid.{Grid}
-use Rattle.xmp_map.specs.declared.fault.MapError.{MapError}
 use Rattle.xmp_map.specs.declared.fault.MapError.TheVariants.{Size, Spread, Chunk}
 use Rattle.xmp_map.specs.Nodes.{filled}
 use Rattle.xmp_map.specs.Spread.{chunk_fits, chunks_fit, sizes_fit, spread, spreads, template_fault}
@@ -15,7 +14,7 @@ use Rattle.xmp_elab.specs.declared.mappings.Form.{Form}
 use Rattle.xmp_elab.specs.declared.mappings.Form.TheVariants as form
 use Rattle.xmp_elab.specs.Declarations.{is_extent}
 use Rattle.xmp_elab.specs.Directives.{natural}
-use Rattle.xmp_elab.specs.MappingRules.{counts, form_fits, form_right, forms_right, is_distributed, lengths_right, nodes_behind, one_to_three, spread_right}
+use Rattle.xmp_elab.specs.MappingRules.{counts, form_fits, form_right, forms_right, is_distributed, lengths_right, nodes_behind, one_to_three}
 use Rattle.xmp_elab.specs.Narrow.{is_narrow, is_narrow_form}
 use Rattle.xmp_elab.specs.Parts.{IsGrid, made_form, padded}
 use Rattle.xmp_elab.proofs.Rows.{RightNodes, small_nodes}

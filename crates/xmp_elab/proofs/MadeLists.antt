@@ -1,5 +1,5 @@
 -- Lists of which each item is made from the one in its place.
-use Rattle.std.proofs.Common.{◌≡◌, ◌≤◌, ◌<◌, ◌∙◌, sym, ap, refl, subst, ◌++◌, ◌∷◌, [], ◌+◌, ℕ, zero, suc, ℤ, Bool, true, false, List, Option, Some, None, arith, length, get_or, map, take, drop, append_assoc}
+use Rattle.std.proofs.Common.{◌≡◌, ◌≤◌, ◌<◌, ◌∙◌, sym, ap, refl, subst, ◌++◌, ◌∷◌, [], ◌+◌, ℕ, zero, suc, ℤ, Bool, true, false, List, Some, None, arith, length, get_or, take, drop, append_assoc}
 use Rattle.std.specs.Prelude.{slice_get, slice_set, ◌==◌, if◌then◌else◌}
 use Rattle.std.proofs.lemmas.Option.{same_Some, none-some}
 use Rattle.std.proofs.lemmas.List.{length-take, take_more, take_all, drop_all}

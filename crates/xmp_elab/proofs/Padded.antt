@@ -1,5 +1,5 @@
 -- Lists of at most three items, filled up to three.
-use Rattle.std.proofs.Common.{◌≡◌, ◌≤◌, ◌<◌, ◌∙◌, sym, ap, refl, subst, ◌∷◌, [], ◌+◌, ◌&&◌, ℕ, zero, suc, Bool, true, false, cond, List, Option, Some, None, arith, length, map, leb-true}
+use Rattle.std.proofs.Common.{◌≡◌, ◌≤◌, sym, ap, refl, ◌∷◌, [], ℕ, zero, suc, Bool, true, false, cond, List, Some, None, arith, length, map, leb-true}
 use Rattle.std.specs.Prelude.{slice_get, nat_le}
 use Rattle.std.specs.List.{list_all, count_by}
 use Rattle.std.proofs.lemmas.Option.{same_Some, none-some}

@@ -1,5 +1,5 @@
 -- The sizes of a nodes array that breaks no rule make a grid.
-use Rattle.std.proofs.Common.{◌≡◌, ◌≤◌, ◌<◌, ◌∙◌, sym, ap, ap₂, refl, subst, ◌∷◌, [], ◌+◌, ◌*◌, ◌&&◌, ℕ, zero, suc, ℤ, pos, negsuc, Bool, true, false, List, Option, Some, None, arith, length, map, IsTrue, leb→le, le-leb, leb-true}
+use Rattle.std.proofs.Common.{◌≡◌, ◌≤◌, ◌<◌, ◌∙◌, ap, refl, ◌∷◌, [], ◌+◌, ◌*◌, ◌&&◌, ℕ, zero, suc, ℤ, pos, negsuc, true, List, Option, Some, None, arith, length, map, IsTrue, le-leb, leb-true}
 use Rattle.std.specs.Prelude.{slice_get, nat_le, int_le}
 use Rattle.std.specs.Option.{unwrap_or}
 use Rattle.std.specs.List.{list_all}

@@ -1,16 +1,13 @@
 -- An align that breaks no rule: each dimension of the template is named as often as it must be, and no cell leaves it.
-use Rattle.std.proofs.Common.{◌≡◌, ◌≤◌, ◌<◌, ◌∙◌, ⊎_elim, inl, inr, sym, ap, ap₂, refl, subst, ◌∷◌, [], ◌+◌, ◌&&◌, ◌||◌, not, ℕ, zero, suc, ℤ, pos, negsuc, ◌+ℤ◌, Bool, true, false, cond, List, Option, Some, None, arith, length, map, eq-eqb, eqb-true, eqb-false, le-leb, leb-true, lt-ltb}
+use Rattle.std.proofs.Common.{◌≡◌, ◌≤◌, ◌<◌, ◌∙◌, ⊎_elim, sym, ap, ap₂, refl, subst, ◌∷◌, [], ◌+◌, ◌&&◌, ◌||◌, ℕ, zero, suc, ℤ, pos, negsuc, ◌+ℤ◌, Bool, true, false, cond, List, Option, Some, None, arith, length, map, eq-eqb, eqb-true, le-leb, leb-true, lt-ltb}
 use Rattle.std.specs.Prelude.{slice_get, ◌==◌, nat_le, nat_lt, int_le}
-use Rattle.std.specs.List.{list_all, count_by, enumerate_from}
+use Rattle.std.specs.List.{list_all, count_by}
 use Rattle.std.proofs.lemmas.Bool.{cases_lt}
-use Rattle.std.proofs.lemmas.Bool.Decides.{nat_tests}
-use Rattle.std.proofs.lemmas.Int.{ints}
 use Rattle.std.proofs.lemmas.List.Sums.{sum_by-cons}
 use Rattle.std.proofs.lemmas.Option.{same_Some, none-some, slice_get_past, slice_get_within}
 use Rattle.xmp_dist.specs.declared.form.Dist.{Dist}
 use Rattle.xmp_dist.specs.declared.form.Dist.TheVariants as dist
 use Rattle.xmp_map.specs.declared.aligned.AlignedDim.{AlignedDim}
-use Rattle.xmp_map.specs.declared.aligned.Target.{Target}
 use Rattle.xmp_map.specs.declared.spread_dim.SpreadDim.{SpreadDim}
 use Rattle.xmp_map.specs.Align.{aligned_dim, aligned_dims, dims_of, is_target, named, names, names_fit, positions_fit, target_fits, unused}
 use Rattle.xmp_map.specs.Nodes.{filled}
@@ -20,11 +17,11 @@ use Rattle.xmp_elab.specs.declared.mappings.AlignPoint.TheVariants as point
 use Rattle.xmp_elab.specs.declared.mappings.Form.{Form}
 use Rattle.xmp_elab.specs.declared.mappings.Form.TheVariants as form
 use Rattle.xmp_elab.specs.Directives.{is_small, natural}
-use Rattle.xmp_elab.specs.MappingRules.{all_different, dimensions_in, distributes, is_distributed, one_to_three, point_fits, point_right, points_right, reaches}
+use Rattle.xmp_elab.specs.MappingRules.{all_different, dimensions_in, distributes, one_to_three, point_fits, points_right, reaches}
 use Rattle.xmp_elab.specs.Parts.{made_form, target_from, targets, targets_from}
 use Rattle.xmp_elab.proofs.Dimensions.{Named, found, named_by, named_by_none, star_not}
 use Rattle.xmp_elab.proofs.Padded.{all_filled, at_most_three, count_filled, filled_get, filled_past, mapped, mapped_to}
-use Rattle.xmp_elab.proofs.Unbroken.{all_here, both_true, left_true, right_true}
+use Rattle.xmp_elab.proofs.Unbroken.{all_here, both_true, right_true}
 
 -- What is right of the points of an align, over the sizes and forms of its template.
 pub record RightPoints (extents : List ℕ) (sizes : List ℤ) (forms : List Form) (points : List AlignPoint) : Type 0 where

@@ -1,9 +1,8 @@
 -- What follows of each line where no rule of mappings breaks.
-use Rattle.std.proofs.Common.{◌≡◌, ◌∙◌, sym, ap, refl, subst, ◌++◌, ◌∷◌, [], ◌+◌, ◌<◌, ◌&&◌, ◌||◌, not, ℕ, zero, suc, ℤ, Bool, true, false, List, Option, Some, None, arith, length, get_or, map, eq-eqb, eqb-true, IsTrue, pos}
-use Rattle.std.specs.Prelude.{slice_get, is_some, ◌==◌, nat_le, int_le}
-use Rattle.std.specs.List.{flat_map, list_all, enumerate_from, position}
-use Rattle.std.proofs.lemmas.Option.{same_Some, none-some, slice_get-get_or}
-use Rattle.std.proofs.lemmas.List.{length-map}
+use Rattle.std.proofs.Common.{◌≡◌, ◌∙◌, sym, ap, refl, subst, ◌++◌, ◌∷◌, [], ◌+◌, ◌<◌, ◌&&◌, ◌||◌, not, ℕ, zero, suc, ℤ, Bool, true, false, List, Option, Some, None, arith, length, get_or, map, eq-eqb, eqb-true}
+use Rattle.std.specs.Prelude.{slice_get, is_some, ◌==◌}
+use Rattle.std.specs.List.{flat_map, list_all, enumerate_from}
+use Rattle.std.proofs.lemmas.Option.{same_Some, none-some}
 use Rattle.std.proofs.lemmas.List.Quantifiers.{position-Some}
 use Rattle.xmp_base.specs.declared.place.Place.{Place}
 use Rattle.xmp_elab.specs.declared.mappings.Align.{Align}
@@ -12,7 +11,6 @@ use Rattle.xmp_elab.specs.declared.mappings.Form.{Form}
 use Rattle.xmp_elab.specs.declared.mappings.NodesLine.{NodesLine}
 use Rattle.xmp_elab.specs.declared.mappings.Shadow.{Shadow}
 use Rattle.xmp_elab.specs.declared.mappings.TemplateLine.{TemplateLine}
-use Rattle.xmp_elab.specs.declared.rules.Broken.{Broken}
 use Rattle.xmp_elab.specs.declared.rules.Rule.{Rule}
 use Rattle.xmp_elab.specs.declared.rules.Rule.TheVariants.{M1, M2, M3, M4, M5, M6}
 use Rattle.xmp_elab.specs.declared.world.World.{World}
@@ -20,7 +18,7 @@ use Rattle.xmp_elab.specs.Rules.{unless}
 use Rattle.xmp_elab.specs.Numbers.{first_place, is_at}
 use Rattle.xmp_elab.specs.Declarations.{is_extent}
 use Rattle.xmp_elab.specs.Directives.{given_or_one, line_sizes}
-use Rattle.xmp_elab.specs.MappingRules.{item_at, nodes_of, nodes_right, nodes_rule, nodes_rules, has_nodes, template_rule, template_rules, distribution_rule, distribution_rules, align_rule, align_rules, shadow_rule, shadow_rules, loop_rules, cell_rules, mapping_rules, distributed, aligned, shadowed, align_of, forms_in, forms_of, template_sizes, template_sizes_in, one_to_three, spread_right, forms_right, is_first_distribution, is_first_align, is_first_shadow, align_right, shadow_right}
+use Rattle.xmp_elab.specs.MappingRules.{item_at, nodes_of, nodes_right, nodes_rule, nodes_rules, has_nodes, template_rule, template_rules, distribution_rule, distribution_rules, align_rule, align_rules, shadow_rule, shadow_rules, loop_rules, cell_rules, mapping_rules, distributed, shadowed, align_of, forms_in, forms_of, template_sizes, template_sizes_in, one_to_three, spread_right, forms_right, is_first_distribution, is_first_align, is_first_shadow, align_right, shadow_right}
 
 -- ---- lists with nothing in them
 

@@ -1,5 +1,5 @@
 -- Where there is no verdict, no rule breaks.
-use Rattle.std.proofs.Common.{◌≡◌, refl, ap, sym, Bool, true, false, List, Option, Some, None, [], ◌∷◌, cond, ◌∙◌, not, ◌++◌}
+use Rattle.std.proofs.Common.{◌≡◌, refl, ap, sym, Bool, true, false, List, Option, Some, None, [], ◌∷◌, cond, ◌∙◌, not}
 use Rattle.std.specs.Prelude.{filter, if◌then◌else◌}
 use Rattle.std.proofs.lemmas.Option.{none-some}
 use Rattle.xmp_base.specs.declared.refusal.Refusal.{Refusal}

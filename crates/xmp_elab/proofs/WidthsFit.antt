@@ -1,22 +1,17 @@
 -- A shadow that breaks no rule: its widths are small, and stand on dimensions with intervals.
-use Rattle.std.proofs.Common.{◌≡◌, ◌≤◌, ◌<◌, ◌∙◌, ⊎_elim, sym, ap, ap₂, refl, subst, ◌∷◌, [], ◌+◌, ◌&&◌, ◌||◌, ℕ, zero, suc, ℤ, pos, negsuc, Bool, true, false, List, Option, Some, None, arith, length, map, IsTrue, int_eq}
-use Rattle.std.specs.Prelude.{⊤, slice_get, is_some, ◌==◌, nat_le, int_le}
+use Rattle.std.proofs.Common.{◌≡◌, ◌≤◌, ◌∙◌, ⊎_elim, ap, refl, subst, ◌∷◌, [], ◌+◌, ◌&&◌, ◌||◌, ℕ, zero, suc, ℤ, pos, negsuc, Bool, true, false, List, Option, Some, None, arith, length, IsTrue, int_eq}
+use Rattle.std.specs.Prelude.{⊤, slice_get, is_some, ◌==◌, nat_le}
 use Rattle.std.specs.List.{list_all, enumerate_from}
-use Rattle.std.proofs.lemmas.Option.{same_Some, none-some}
 use Rattle.std.proofs.lemmas.List.{length-map}
-use Rattle.xmp_dist.specs.declared.form.Dist.{Dist}
 use Rattle.xmp_dist.specs.declared.form.Dist.TheVariants as dist
-use Rattle.xmp_map.specs.declared.aligned.Target.{Target}
 use Rattle.xmp_map.specs.declared.spread_dim.SpreadDim.{SpreadDim}
 use Rattle.xmp_map.specs.Align.{aligned_dim, aligned_dims, dims_of, is_chunked_under, is_shadow, shadow_fits, under, unused}
-use Rattle.xmp_map.specs.Nodes.{filled}
 use Rattle.xmp_map.specs.Shadow.{has_shadow}
 use Rattle.xmp_elab.specs.declared.mappings.AlignPoint.{AlignPoint}
 use Rattle.xmp_elab.specs.declared.mappings.AlignPoint.TheVariants as point
 use Rattle.xmp_elab.specs.declared.mappings.Form.{Form}
 use Rattle.xmp_elab.specs.declared.mappings.Form.TheVariants as form
 use Rattle.xmp_elab.specs.declared.mappings.Shadow.{Shadow}
-use Rattle.xmp_elab.specs.Declarations.{most_cells}
 use Rattle.xmp_elab.specs.Directives.{natural}
 use Rattle.xmp_elab.specs.Numbers.{first_place}
 use Rattle.xmp_elab.specs.MappingRules.{has_intervals, interval_dimensions, is_width, spans_intervals, width_right, widths_right}

@@ -1,5 +1,5 @@
 -- Numbers that fit the narrow types of grids, templates and maps: at most 4,194,304. Source: this project.
-use Rattle.std.specs.Prelude.{ℕ, ℤ, List, Bool, true, ◌&&◌, nat_le, length, Option, Some, None}
+use Rattle.std.specs.Prelude.{ℕ, ℤ, Bool, true, ◌&&◌, nat_le, length, Option, Some, None}
 use Rattle.std.specs.List.{list_all}
 use Rattle.xmp_elab.specs.declared.mappings.Form.{Form}
 use Rattle.xmp_elab.specs.declared.mappings.Form.TheVariants as form
