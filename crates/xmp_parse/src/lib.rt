@@ -21,8 +21,6 @@ mod marks;
 mod parameter_lists;
 mod parts;
 mod plain_statements;
-#[cfg(test)]
-mod program_tests;
 mod programs;
 mod reader;
 mod refusals;

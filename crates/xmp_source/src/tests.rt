@@ -1,9 +1,8 @@
 // Whole texts: which are programs, and where the others cease to be.
-use crate::programs::parse;
+use crate::source::tree_of;
 use std::alloc::Global;
 use std::test::Fail;
 use xmp_base::Fault;
-use xmp_lex::{expand, lex};
 
 /// The rule of a refusal with its line and column, 0 for want of memory.
 fn rule_and_place(fault: Fault) -> (u16, u32, u32) {
@@ -18,15 +17,7 @@ fn broken(alloc: Global, text: &[u8]) -> Option<(u16, u32, u32)> {
     if text.len() > 1048576 {
         return Some((0, 0, 0));
     }
-    let tokens = match lex(alloc, text) {
-        Ok(tokens) => tokens,
-        Err(fault) => return Some(rule_and_place(fault)),
-    };
-    let tokens = match expand(alloc, tokens) {
-        Ok(tokens) => tokens,
-        Err(fault) => return Some(rule_and_place(fault)),
-    };
-    match parse(alloc, tokens.as_slice()) {
+    match tree_of(alloc, text) {
         Ok(_program) => None,
         Err(fault) => Some(rule_and_place(fault)),
     }

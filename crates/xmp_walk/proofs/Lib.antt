@@ -1,0 +1,16 @@
+mod Cells
+mod Coarrays
+mod Enumerated
+mod Joins
+mod Limits
+mod Nests
+mod NodeBoxes
+mod NodeRanges
+mod NodeSets
+mod Places
+mod Reductions
+mod Rolls
+mod SameIndices
+mod Seen
+mod Steps
+mod Walks
