@@ -4,7 +4,13 @@
 mod laws;
 mod source;
 #[cfg(test)]
-mod tests;
+mod text_tests;
+#[cfg(test)]
+mod tree_builders;
+#[cfg(test)]
+mod tree_makers;
+#[cfg(test)]
+mod tree_tests;
 
 pub use laws::{one_source_tree, tree_or_refused};
 pub use source::tree_of;

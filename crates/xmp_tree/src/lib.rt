@@ -1,14 +1,10 @@
 //! The syntax tree of a program, its spelling and its grammar.
 #![tactic(auto)]
 
-#[cfg(test)]
-mod builders;
 mod declaration;
 mod directive;
 mod expression;
 mod laws;
-#[cfg(test)]
-mod makers;
 mod parts;
 mod program;
 mod rest;
@@ -17,8 +13,6 @@ mod spelling_lines;
 mod spelling_program;
 mod spelling_statements;
 mod statement;
-#[cfg(test)]
-mod tests;
 
 pub use declaration::{Declaration, Declarator};
 pub use directive::{

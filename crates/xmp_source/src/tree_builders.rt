@@ -1,10 +1,10 @@
 // Parts of trees, made by hand. Each builder takes and gives what may have failed for want of memory, so that they nest.
-use crate::*;
 use sqlite_items::{Boxed, Items};
 use std::alloc::Global;
 use xmp_base::{Bytes, Place};
 use xmp_lex::Mark;
 use xmp_num::Ty;
+use xmp_tree::*;
 
 pub const AT: Place = Place { line: 1, column: 1 };
 

@@ -1,12 +1,12 @@
-use crate::builders::*;
-use crate::makers::*;
-use crate::*;
+use crate::tree_builders::*;
+use crate::tree_makers::*;
 use sqlite_items::Items;
 use std::alloc::Global;
 use std::fmt::Write;
 use std::test::Fail;
 use xmp_lex::{Mark, TokenKind, lex};
 use xmp_num::Ty;
+use xmp_tree::*;
 
 fn show_bytes(row: &mut String, bytes: &[u8]) -> Result<(), Fail> {
     for byte in bytes {

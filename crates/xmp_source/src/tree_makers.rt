@@ -1,10 +1,10 @@
 // Statements, directives and the items of blocks, made by hand.
-use crate::builders::*;
-use crate::*;
+use crate::tree_builders::*;
 use sqlite_items::{Boxed, Items};
 use std::alloc::Global;
 use xmp_base::Place;
 use xmp_lex::Mark;
+use xmp_tree::*;
 
 pub type Item = Option<BlockItem<Stmt>>;
 
