@@ -13,8 +13,8 @@ use crate::world::World;
 use sqlite_items::Items;
 use std::alloc::{AllocError, Global};
 
-/// The array of each align.
-pub(crate) fn aligned(alloc: Global, w: &World) -> Result<Numbers, AllocError>
+/// The array of each align, in the order of the text.
+pub fn aligned(alloc: Global, w: &World) -> Result<Numbers, AllocError>
     ensures { IfOk result (λ ns. ns ≡ aligned w.now) }
 {
     let mut numbers = Numbers::new(alloc);

@@ -37,6 +37,7 @@ mod typed;
 mod walk;
 mod world;
 
+pub use align_rules::aligned;
 pub use formats::{Mode, fits_format, is_scan_format};
 pub use loop_lines::LoopParts;
 pub use loops::{First, ForParts, Shape};
@@ -44,9 +45,13 @@ pub use mappings::{
     Align, AlignPoint, Distribution, Form, LoopUse, Mappings, NodesLine, Shadow, TemplateLine,
 };
 pub use names::{Array, Environment, Meaning, Region, Signature};
+pub use nodes_rules::nodes_of;
+pub use numbers::Numbers;
 pub use operators::Operator;
 pub use program::walk_program;
 pub use rules::{Broken, Notes, Rule};
 pub use rules_of_mappings::mapping_rules;
+pub use shadow_rules::shadowed;
+pub use template_rules::distributed;
 pub use typed::{Operand, Parts, Typed, Value};
 pub use world::World;

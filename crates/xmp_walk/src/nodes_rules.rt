@@ -61,7 +61,7 @@ pub(crate) fn line_sizes(
 }
 
 /// The sizes of the first nodes array; where there is none all nodes stand in a row.
-pub(crate) fn nodes_of(alloc: Global, w: &World) -> Result<Items<i64>, AllocError>
+pub fn nodes_of(alloc: Global, w: &World) -> Result<Items<i64>, AllocError>
     ensures { IfOk result (λ sizes. sizes ≡ nodes_of w.now) }
 {
     match w.mappings.nodes.get(0) {

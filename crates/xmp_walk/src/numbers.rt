@@ -6,9 +6,10 @@ use sqlite_items::Items;
 use std::alloc::{AllocError, Global};
 use std::marker::Model;
 
-/// Numbers in a row.
+/// Numbers in a row, of which the first that equals a number is found at once. What lines are about is held so: the first
+/// line on an array or a template is the one that counts.
 #[derive(Drop)]
-pub(crate) struct Numbers {
+pub struct Numbers {
     all: Items<usize>,
     // the place of the first, by number
     places: Items<Option<usize>>,
@@ -53,7 +54,7 @@ impl Numbers {
     }
 
     /// The place of the first that is this number. Takes constant time.
-    pub(crate) fn first_place(&self, number: usize) -> Option<usize>
+    pub fn first_place(&self, number: usize) -> Option<usize>
         ensures { result ≡ first_place number self.now }
     {
         match self.places.get(number) {

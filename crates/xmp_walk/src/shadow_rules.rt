@@ -12,8 +12,8 @@ use crate::world::World;
 use sqlite_items::Items;
 use std::alloc::{AllocError, Global};
 
-// The array of each shadow.
-fn shadowed(alloc: Global, w: &World) -> Result<Numbers, AllocError>
+/// The array of each shadow, in the order of the text.
+pub fn shadowed(alloc: Global, w: &World) -> Result<Numbers, AllocError>
     ensures { IfOk result (λ ns. ns ≡ shadowed w.now) }
 {
     let mut numbers = Numbers::new(alloc);

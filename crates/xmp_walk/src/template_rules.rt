@@ -14,8 +14,8 @@ use crate::world::World;
 use sqlite_items::Items;
 use std::alloc::{AllocError, Global};
 
-/// The template of each distribution.
-pub(crate) fn distributed(alloc: Global, w: &World) -> Result<Numbers, AllocError>
+/// The template of each distribution, in the order of the text.
+pub fn distributed(alloc: Global, w: &World) -> Result<Numbers, AllocError>
     ensures { IfOk result (λ ns. ns ≡ distributed w.now) }
 {
     let mut numbers = Numbers::new(alloc);
