@@ -287,6 +287,10 @@ start_world given coarray = record {
   broken = [];
 }
 
+-- The number of nodes after the walk is the given one. (No step of the walk changes it.)
+abbrev pub with_count : Option ℕ → Step made.Stmt → Step made.Stmt
+with_count given (Gave body w) = Gave body (record w { given = given })
+
 -- The walk over a program, for a number of nodes or none: the body of main, and the world after it.
 abbrev pub program_of : Tree → Option ℕ → Step made.Stmt
-program_of t given = tops_of t.parts (start_world given (list_any coarray_top t.parts))
+program_of t given = with_count given (tops_of t.parts (start_world given (list_any coarray_top t.parts)))

@@ -228,9 +228,11 @@ pub fn walk_program(
     t: &Tree,
     given: Option<u32>,
 ) -> Result<(prog::Stmt, World), AllocError>
-    ensures { IfOk result (λ r. program_of t.now given ≡ Gave r.0 r.1) }
+    ensures walk { IfOk result (λ r. program_of t.now given ≡ Gave r.0 r.1) }
+    ensures count { IfOk result (λ r. r.1.given ≡ given) }
 {
     let mut world = start_world(alloc, given, has_coarray(t))?;
     let body = world.tops(alloc, t.parts.as_slice())?;
+    world.given = given;
     Ok((body, world))
 }
