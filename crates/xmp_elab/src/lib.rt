@@ -1,17 +1,23 @@
-//! The verdict on the names, types and mappings of a program: the first rule of names that it breaks, or, where it breaks none,
-//! the first rule of mappings.
+//! From the tree of a program to the parts of the typed program, or to the rule that it is refused for: the first rule of names
+//! that it breaks, or, where it breaks none, the first rule of mappings.
+//!
+//! The walk over the tree is below, in xmp_walk. Here are the verdict, and the grid, the templates and the maps that are made where no rule breaks.
 #![tactic(auto)]
 
-mod judged;
+mod elaborated;
+mod grids;
+mod homes;
 #[cfg(test)]
 mod mapping_texts;
 #[cfg(test)]
 mod name_texts;
+#[cfg(test)]
+mod parts_texts;
 #[cfg(test)]
 mod texts;
 #[cfg(test)]
 mod value_texts;
 mod verdict;
 
-pub use judged::first_refusal;
+pub use elaborated::elaborate_parts;
 pub use verdict::{first_in, refusal_of, verdict_of};

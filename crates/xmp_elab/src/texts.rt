@@ -1,6 +1,10 @@
 // Texts of programs, judged by their names and mappings.
-use crate::first_refusal;
+ghost use Rattle.std.specs.Prelude.{◌≡◌};
+ghost use Rattle.xmp_elab.specs.Narrow.{is_count};
+
+use crate::elaborate_parts;
 use std::alloc::Global;
+use std::mem::drop;
 use xmp_base::{Fault, Phase, Refusal};
 use xmp_source::tree_of;
 
@@ -38,18 +42,30 @@ fn fault(fault: Fault) -> Breaks {
     }
 }
 
+/// Whether a number of nodes is missing or 1 to 16.
+pub(crate) fn is_count(given: Option<u32>) -> bool
+    ensures { result ≡ is_count given }
+{
+    match given {
+        Some(count) => 1 <= count && count <= 16,
+        None => true,
+    }
+}
+
 /// What a text breaks, for a number of nodes or none, or nothing where it is right.
 pub(crate) fn judged(alloc: Global, text: &[u8], given: Option<u32>) -> Option<Breaks> {
-    if text.len() > 1048576 {
+    if text.len() > 1048576 || !is_count(given) {
         return Some(NOTHING);
     }
     let tree = match tree_of(alloc, text) {
         Ok(tree) => tree,
         Err(cause) => return Some(fault(cause)),
     };
-    match first_refusal(alloc, &tree, given) {
-        Ok(Some(refusal)) => Some(breaks(refusal)),
-        Ok(None) => None,
-        Err(_) => Some(NOTHING),
+    match elaborate_parts(alloc, &tree, given) {
+        Ok(parts) => {
+            drop(parts);
+            None
+        }
+        Err(cause) => Some(fault(cause)),
     }
 }
