@@ -60,6 +60,25 @@ fn place_all(alloc: Global, w: &World) -> Result<Placed, AllocError>
     })
 }
 
+// The same of a program by the world after the walk, or the rule that it is refused for.
+fn place_or_refuse(alloc: Global, w: &World) -> Result<Placed, Fault>
+    requires { IsTrue (is_count w.now.given) }
+    ensures accepted { IfOk result (λ m. verdict_of (broken_in w.now) ≡ None) }
+    ensures grid { IfOk result (λ m. IsGrid (map natural (nodes_of w.now)) m.grid) }
+    ensures templates { IfOk result (λ m. EachMade (λ k line t. IsTemplate w.now m.grid k t) 0 w.now.mappings.templates m.templates) }
+    ensures arrays { IfOk result (λ m. EachMade (IsArray w.now m.templates) 0 w.now.names.arrays m.arrays) }
+    ensures refused { IfErr result (λ e. RefusedBy (verdict_of (broken_in w.now)) e) }
+{
+    match judged(alloc, w) {
+        Ok(None) => match place_all(alloc, w) {
+            Ok(found) => Ok(found),
+            Err(_) => Err(Fault::NoMemory),
+        },
+        Ok(Some(refusal)) => Err(Fault::Refused(refusal)),
+        Err(_) => Err(Fault::NoMemory),
+    }
+}
+
 fn assembled(body: Stmt, w: World, placed: Placed) -> ProgParts
     requires grid { IsGrid (map natural (nodes_of w)) placed.grid }
     requires templates { EachMade (λ k line t. IsTemplate w placed.grid k t) 0 w.mappings.templates placed.templates }
@@ -90,16 +109,6 @@ fn assembled(body: Stmt, w: World, placed: Placed) -> ProgParts
     }
 }
 
-// The parts of a program by its main and the world after the walk, in which no rule of mappings breaks.
-fn made_parts(alloc: Global, body: Stmt, w: World) -> Result<ProgParts, AllocError>
-    requires unbroken { mapping_rules w ≡ [] }
-    requires count { IsTrue (is_count w.given) }
-    ensures { IfOk result (λ p. Made body w p) }
-{
-    let placed = place_all(alloc, &w)?;
-    Ok(assembled(body, w, placed))
-}
-
 /// The parts of the typed program of a tree, for a number of nodes or none, or the rule that it is refused for: the first
 /// rule of names that it breaks, or, where it breaks none, the first rule of mappings.
 pub fn elaborate_parts(alloc: Global, t: &Tree, given: Option<u32>) -> Result<ProgParts, Fault>
@@ -111,12 +120,8 @@ pub fn elaborate_parts(alloc: Global, t: &Tree, given: Option<u32>) -> Result<Pr
     let Ok((body, world)) = walk_program(alloc, t, given) else {
         return Err(Fault::NoMemory);
     };
-    match judged(alloc, &world) {
-        Ok(None) => match made_parts(alloc, body, world) {
-            Ok(parts) => Ok(parts),
-            Err(_) => Err(Fault::NoMemory),
-        },
-        Ok(Some(refusal)) => Err(Fault::Refused(refusal)),
-        Err(_) => Err(Fault::NoMemory),
+    match place_or_refuse(alloc, &world) {
+        Ok(found) => Ok(assembled(body, world, found)),
+        Err(fault) => Err(fault),
     }
 }
