@@ -1,5 +1,6 @@
 -- A text has one tree at most, and is not refused beside it, by the same laws of its tokens.
-use Rattle.std.proofs.Common.{◌≡◌, ◌∙◌, ◌×◌, ◌⊎◌, inl, inr, ℕ, List, [], sym, ap, subst, refl, tt}
+use Rattle.std.proofs.Common.{◌≡◌, ◌∙◌, ◌⊎◌, inl, inr, ℕ, List, [], sym, ap, subst, refl}
+use Rattle.std.specs.Prelude.{Result, Ok, Err, IfErr}
 use Rattle.xmp_base.specs.declared.place.Place.{Place}
 use Rattle.xmp_base.specs.declared.refusal.Refusal.{Refusal}
 use Rattle.xmp_base.specs.declared.refusal.Fault.{Fault}
@@ -70,6 +71,11 @@ tree_or_refused cut one c e s d text x r p (in_syntax us v b) =
     no_break s d us x r (subst (λ ts. IsProgram ts x) same p.program) b
 
 -- ---- faults
+
+-- of a fault another thing is known too
+pub err_map : {A E : Type 0} {P Q : E → Type 0} (r : Result A E) → ((e : E) → P e → Q e) → IfErr r P → IfErr r Q
+err_map (Ok a) f h = tt
+err_map (Err e) f h = f e h
 
 pub text_fault : (text : List ℕ) (e : Fault) → IsRefused text e → IsSourceFault text e
 text_fault text fault.NoMemory b = tt
