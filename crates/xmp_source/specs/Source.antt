@@ -1,7 +1,6 @@
 -- The tree of a text, and what a text without one is refused for: the first of the phases text, macros and syntax in which a rule
 -- breaks, and in it the first place. Source: this project.
 use Rattle.std.specs.Prelude.{ℕ, List, ⊤}
-use Rattle.xmp_base.specs.declared.refusal.Refusal.{Refusal}
 use Rattle.xmp_base.specs.declared.refusal.Fault.{Fault}
 use Rattle.xmp_base.specs.declared.refusal.Fault.TheVariants as fault
 use Rattle.xmp_lex.specs.declared.token.Token.{Token}
