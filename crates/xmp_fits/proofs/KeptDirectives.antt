@@ -1,0 +1,366 @@
+-- Statements and directives with no statement inside go on and keep a world good.
+use Rattle.std.proofs.Common.{◌≡◌, ◌∙◌, refl, sym, ap, ◌++◌, ◌∷◌, [], ℕ, ◌+◌, List, Bool, true, false, Option, Some, None, length, map}
+use Rattle.std.specs.Prelude.{⊤, ℤ, pos, not, ◌&&◌, ◌||◌, ◌==◌, slice_get, drop, if◌then◌else◌}
+use Rattle.std.specs.Option.{unwrap_or}
+use Rattle.std.specs.List.{list_all}
+use Rattle.xmp_base.specs.declared.place.Place.{Place}
+use Rattle.xmp_num.specs.declared.types.Ty.{Ty}
+use Rattle.xmp_num.specs.declared.types.Ty.TheVariants.{Int}
+use Rattle.xmp_num.specs.declared.types.RedOp.{RedOp}
+use Rattle.xmp_map.specs.declared.grid.NodeSet.{NodeSet}
+use Rattle.xmp_prog.specs.declared.expressions.Expr as prog
+use Rattle.xmp_prog.specs.declared.statements.Name as made_name
+use Rattle.xmp_prog.specs.declared.statements.Reduction as made_reduction
+use Rattle.xmp_prog.specs.declared.statements.Number.{Number}
+use Rattle.xmp_prog.specs.declared.statements.Part.{Part}
+use Rattle.xmp_prog.specs.declared.statements.Part.TheVariants as part
+use Rattle.xmp_prog.specs.declared.statements.MoveSide.{MoveSide}
+use Rattle.xmp_prog.specs.declared.statements.MoveSide.TheVariants as side
+use Rattle.xmp_prog.specs.declared.statements.Plain.TheVariants as p
+use Rattle.xmp_prog.specs.declared.statements.Stmt as made
+use Rattle.xmp_prog.specs.declared.statements.Stmt.TheVariants as s
+use Rattle.xmp_prog.specs.Directives.{sections_in}
+use Rattle.xmp_lex.specs.declared.token.Mark.{Mark}
+use Rattle.xmp_tree.specs.declared.parts.Name as named
+use Rattle.xmp_tree.specs.declared.parts.Format.{Format}
+use Rattle.xmp_tree.specs.declared.parts.Next.{Next}
+use Rattle.xmp_tree.specs.declared.parts.Reference.{Reference}
+use Rattle.xmp_tree.specs.declared.parts.Inside.{Inside}
+use Rattle.xmp_tree.specs.declared.parts.CommaList.{CommaList}
+use Rattle.xmp_tree.specs.declared.expression.Expr.{Expr}
+use Rattle.xmp_tree.specs.declared.directive.DirectiveLine.{DirectiveLine}
+use Rattle.xmp_tree.specs.declared.directive.Point.{Point}
+use Rattle.xmp_tree.specs.declared.directive.Point.TheVariants as point
+use Rattle.xmp_tree.specs.declared.directive.Section.{Section}
+use Rattle.xmp_tree.specs.declared.directive.Section.TheVariants as section
+use Rattle.xmp_tree.specs.declared.directive.Sections.{Sections}
+use Rattle.xmp_tree.specs.declared.directive.Reduction.{Reduction}
+use Rattle.xmp_tree.specs.declared.directive.LoopLine.{LoopLine}
+use Rattle.xmp_tree.specs.declared.directive.TaskLine.{TaskLine}
+use Rattle.xmp_tree.specs.declared.statement.Simple.{Simple}
+use Rattle.xmp_tree.specs.declared.statement.Simple.TheVariants as simple
+use Rattle.xmp_tree.specs.declared.statement.ForFirst.{ForFirst}
+use Rattle.xmp_tree.specs.declared.statement.ForFirst.TheVariants as for_first
+use Rattle.xmp_tree.specs.declared.statement.ForHead.{ForHead}
+use Rattle.xmp_tree.specs.declared.statement.Plain.{Plain}
+use Rattle.xmp_tree.specs.declared.statement.Plain.TheVariants as plain
+use Rattle.xmp_walk.specs.declared.names.Meaning.{Meaning}
+use Rattle.xmp_walk.specs.declared.names.Meaning.TheVariants as meaning
+use Rattle.xmp_walk.specs.declared.loops.First.{First}
+use Rattle.xmp_walk.specs.declared.loops.ForParts.{ForParts}
+use Rattle.xmp_walk.specs.declared.loop_lines.LoopParts.{LoopParts}
+use Rattle.xmp_walk.specs.declared.rules.Rule.TheVariants.{N1, N3, N4, N6, N7, M7, M8, M9}
+use Rattle.xmp_walk.specs.declared.typed.Operand.{Operand}
+use Rattle.xmp_walk.specs.declared.world.World.{World}
+use Rattle.xmp_walk.specs.Walk as walk
+use Rattle.xmp_walk.specs.Walk.{first_place, is_known, is_main, a_scalar, an_int_scalar, an_array, a_nodes, a_template}
+use Rattle.xmp_walk.specs.Expressions.{is_nothing}
+use Rattle.xmp_walk.specs.Formats.{fits_format, is_scan_format}
+use Rattle.xmp_walk.specs.Declarations.{listed, inner}
+use Rattle.xmp_walk.specs.Statements as statements
+use Rattle.xmp_walk.specs.Statements.{set, compound_of, one, call_statement, target_of, target_name, is_scalar_target, index_of, first_part}
+use Rattle.xmp_walk.specs.Directives as directives
+use Rattle.xmp_walk.specs.Directives.{slot_or_zero, signed, limited, names_or, slots_of_points, operation_of, Nest, loop_right, is_indexed, made_loop, sizes_in, given_or_one, ranges, is_one, ranges_right, box_of, share, unwritten, first_extent, extents_in, no_side, sections_match}
+use Rattle.xmp_walk.specs.Program as program
+use Rattle.xmp_fits.proofs.Laters.{begins_refl, begins_with, LaterMappings}
+use Rattle.xmp_fits.proofs.KeptRuns.{Goes, goes_refl, goes_then, GoesOn, Kept, Going, ◌>>=◌, pure, each, all, if_there}
+use Rattle.xmp_fits.proofs.KeptSteps.{goes_mapped, judge, judged, asked, region_of, typed, typed_reference, typed_call, typed_all, typed_constant, constant, declare_scalar, meaning_of, name_of, directive_at, not_in_function}
+use Rattle.xmp_fits.proofs.KeptLines.{offset_of, match_template}
+
+-- ---- assignments, calls, `return`, `printf`, `scanf`, `xmp_sync_all`
+
+pub simple_kept : (x : Simple) → Kept (statements.simple_of x)
+simple_kept (simple.Assign r op x) = (do
+  t ← typed_reference r
+  v ← typed x
+  pure (set (compound_of op.what) op.at t v)).kept
+simple_kept (simple.Postfix r op) = (do
+  t ← typed_reference r
+  pure (set (compound_of op.what) op.at t one)).kept
+simple_kept (simple.Prefix op r) = (do
+  t ← typed_reference r
+  pure (set (compound_of op.what) op.at t one)).kept
+simple_kept (simple.Call c) = (do
+  t ← typed_call c
+  pure (call_statement t.made)).kept
+
+abbrev pub simple_of : Simple → Going made.Stmt
+simple_of x = record { run = statements.simple_of x; kept = simple_kept x }
+
+abbrev pub returned : Expr → Going Operand
+returned x = do
+  where_it_is ← region_of
+  t ← typed x
+  _ ← judge (not (is_main where_it_is) || is_known t.value) N4 (first_place x)
+  pure t
+
+abbrev pub return_of : Bool → Place → Expr → Going made.Stmt
+return_of is_last at x = do
+  where_it_is ← region_of
+  _ ← judge (not (is_main where_it_is) || is_last) N7 at
+  t ← returned x
+  pure (s.Plain (p.Return t.made))
+
+pub return_kept : (is_last : Bool) (at : Place) (x : Expr) → Kept (statements.return_of is_last at x)
+return_kept is_last at x = (return_of is_last at x).kept
+
+abbrev pub print_of : Place → Format → List (Next Expr) → Going made.Stmt
+print_of at format arguments = do
+  _ ← not_in_function at
+  ps ← typed_all arguments
+  _ ← judge (fits_format format.text ps.types) N6 format.at
+  pure (s.Plain (p.Print format.text ps.made at))
+
+abbrev pub scan_of : Place → Format → Reference Expr → Going made.Stmt
+scan_of at format r = do
+  _ ← not_in_function at
+  t ← typed_reference r
+  _ ← judge (is_scan_format format.text t.ty) N6 format.at
+  pure (s.Plain (p.Scan (target_of t.made) at))
+
+abbrev pub sync_of : Place → Reference Expr → Going made.Stmt
+sync_of at r = do
+  known ← asked (λ w. w.names.coarray)
+  _ ← judge known N1 at
+  _ ← not_in_function at
+  t ← typed_reference r
+  _ ← judge (is_scalar_target (target_of t.made)) N3 r.name.at
+  pure (s.Plain (p.Sync (target_name (target_of t.made)) at))
+
+-- ---- the head of a `for`
+
+pub first_kept : (x : ForFirst) → Kept (statements.first_of x)
+first_kept (for_first.Assign r at x) = (do
+  t ← typed_reference r
+  v ← typed x
+  pure (first_part [] x t v)).kept
+first_kept (for_first.Declare at n equals x) = (do
+  slot ← declare_scalar n Int
+  t ← typed_reference (index_of n)
+  v ← typed x
+  pure (first_part (s.Plain (p.Declare slot None n.at) ∷ []) x t v)).kept
+
+abbrev pub first_of : ForFirst → Going First
+first_of x = record { run = statements.first_of x; kept = first_kept x }
+
+-- The parts of a `for`, in the scope that it opens.
+abbrev pub head_parts : ForHead → Going ForParts
+head_parts h = do
+  first ← if_there first_of h.first
+  test ← if_there typed h.test
+  next ← if_there simple_of h.next
+  pure (record { first = first; test = test; next = next })
+
+-- ---- names and points
+
+abbrev pub scalar_name : named.Name → Going made_name.Name
+scalar_name n = do
+  scalar ← name_of a_scalar n
+  pure (record { number = slot_or_zero scalar; at = n.at })
+
+abbrev pub index_name : named.Name → Going ℕ
+index_name n = do
+  slot ← name_of an_int_scalar n
+  pure (unwrap_or slot 0)
+
+abbrev pub array_name : named.Name → Going made_name.Name
+array_name n = do
+  number ← name_of an_array n
+  pure (record { number = unwrap_or number 0; at = n.at })
+
+pub point_kept : (x : Point) → Kept (directives.point_of x)
+point_kept (point.Star at) = (pure None).kept
+point_kept (point.Index n offset) = (do
+  slot ← index_name n
+  c ← offset_of offset
+  pure (Some (slot, c))).kept
+
+abbrev pub point_of : Point → Going (Option (ℕ × ℤ))
+point_of x = record { run = directives.point_of x; kept = point_kept x }
+
+abbrev pub name_list : Inside (CommaList named.Name) → Going (List ℕ)
+name_list l = each index_name (listed l.item)
+
+abbrev pub reduction_name : RedOp → named.Name → Going made_reduction.Reduction
+reduction_name op n = do
+  variable ← scalar_name n
+  pure (record { op = op; variable = variable })
+
+pub reductions_kept : (done : List made_reduction.Reduction) (rs : List Reduction) → Kept (directives.reductions_of done rs)
+reductions_kept done [] = (pure done).kept
+reductions_kept done (r ∷ rs) = (do
+  more ← each (reduction_name (operation_of r.list.item.0)) (listed r.list.item.2)
+  record { run = directives.reductions_of (done ++ more) rs; kept = reductions_kept (done ++ more) rs }).kept
+
+abbrev pub reductions_of : List made_reduction.Reduction → List Reduction → Going (List made_reduction.Reduction)
+reductions_of done rs = record { run = directives.reductions_of done rs; kept = reductions_kept done rs }
+
+-- ---- the loop directive
+
+pub use_kept : (t : Option ℕ) (at : Place) (indexed : List Bool) → Kept (directives.use_template t at indexed)
+use_kept None at indexed = record { at = goes_refl }
+use_kept (Some k) at indexed = record {
+  at = λ w.
+      goes_mapped w (record w.mappings { loops = w.mappings.loops ++ record { at = at; template = k; indexed = indexed } ∷ [] }) w.deepest w.broken
+      (record { nodes = begins_refl w.mappings.nodes; templates = begins_refl w.mappings.templates; distributions = begins_refl w.mappings.distributions; aligns = begins_refl w.mappings.aligns; shadows = begins_refl w.mappings.shadows; loops = begins_with w.mappings.loops _ }) (begins_refl w.broken);
+}
+
+abbrev pub use_template : Option ℕ → Place → List Bool → Going ⊤
+use_template t at indexed = record { run = directives.use_template t at indexed; kept = use_kept t at indexed }
+
+abbrev pub loop_line : LoopLine → Going LoopParts
+loop_line line = do
+  _ ← directive_at line.line.word
+  names ← if_there name_list line.names
+  template ← name_of a_template line.template
+  points ← each point_of (inner line.points)
+  _ ← match_template template (length points) line.template.at
+  reductions ← reductions_of [] line.reductions
+  pure (record { template = template; points = points; names = names_or names (slots_of_points points); reductions = reductions })
+
+pub line_kept : (line : LoopLine) → Kept (directives.loop_line line)
+line_kept line = (loop_line line).kept
+
+abbrev pub judged_loop : Place → LoopParts → Nest → Going made.Stmt
+judged_loop word parts nest = do
+  _ ← judge (loop_right parts.names parts.points nest.0) M7 word
+  _ ← use_template parts.template word (map is_indexed parts.points)
+  pure (made_loop (unwrap_or parts.template 0) parts.points nest parts.reductions word)
+
+pub loop_kept : (word : Place) (parts : LoopParts) (nest : Nest) → Kept (directives.judged_loop word parts nest)
+loop_kept word parts nest = (judged_loop word parts nest).kept
+
+-- ---- sets of nodes
+
+pub count_kept : (x : Option (Place × Expr)) → Kept (directives.count_of x)
+count_kept None = (pure (pos 1)).kept
+count_kept (Some x) = (constant x.1).kept
+
+pub set_part_kept : (x : Section) → Kept (directives.set_part x)
+set_part_kept (section.All at) = (pure None).kept
+set_part_kept (section.Numbers first many step) = (do
+  a ← constant first
+  n ← record { run = directives.count_of many; kept = count_kept many }
+  pure (Some (a, n))).kept
+
+pub sizes_kept : (k : Option ℕ) → Kept (directives.nodes_sizes k)
+sizes_kept None = (pure []).kept
+sizes_kept (Some k) = (asked (λ w. sizes_in (given_or_one w) (slice_get w.mappings.nodes k))).kept
+
+abbrev pub set_of : Bool → Place → Sections → Going NodeSet
+set_of one_node word x = do
+  number ← name_of a_nodes x.name
+  sizes ← record { run = directives.nodes_sizes number; kept = sizes_kept number }
+  parts ← each (λ s. record { run = directives.set_part s; kept = set_part_kept s }) (inner x.sections)
+  _ ← judge (is_nothing parts || (length parts == length sizes)) N3 x.name.at
+  _ ← judge (ranges_right sizes (ranges sizes parts) && (not one_node || is_one (ranges sizes parts))) M8 word
+  pure (box_of sizes (ranges sizes parts))
+
+abbrev pub task_line : List NodeSet → TaskLine → Going NodeSet
+task_line before line = do
+  _ ← directive_at line.line.word
+  nodes ← set_of false line.line.word line.set
+  _ ← judge (list_all (λ other. not (share other nodes)) before) M9 line.line.word
+  pure nodes
+
+pub task_line_kept : (before : List NodeSet) (line : TaskLine) → Kept (directives.task_line before line)
+task_line_kept before line = (task_line before line).kept
+
+-- ---- reflect, barrier, bcast
+
+abbrev pub reflect_of : DirectiveLine → CommaList named.Name → Going made.Stmt
+reflect_of line names = do
+  _ ← directive_at line.word
+  arrays ← each array_name (listed names)
+  pure (s.Plain (p.Reflect arrays line.word))
+
+abbrev pub barrier_of : DirectiveLine → Going made.Stmt
+barrier_of line = do
+  _ ← directive_at line.word
+  pure (s.Plain (p.Barrier line.word))
+
+abbrev pub bcast_of : DirectiveLine → CommaList named.Name → Sections → Going made.Stmt
+bcast_of line names from = do
+  _ ← directive_at line.word
+  variables ← each scalar_name (listed names)
+  nodes ← set_of true line.word from
+  pure (s.Plain (p.Cast variables nodes line.word))
+
+-- ---- gmove
+
+abbrev pub number_of : Expr → Going Number
+number_of x = do
+  t ← typed x
+  pure (record { value = t.made; at = first_place x })
+
+pub step_kept : (at : Place) (x : Option (Place × Expr)) → Kept (directives.step_of at x)
+step_kept at None = (pure (unwritten 1 at)).kept
+step_kept at (Some x) = (number_of x.1).kept
+
+pub with_kept : (at : Place) (base : Number) (many step : Option (Place × Expr)) → Kept (directives.part_with at base many step)
+with_kept at base None step = (pure (part.One base)).kept
+with_kept at base (Some x) step = (do
+  many ← number_of x.1
+  by ← record { run = directives.step_of at step; kept = step_kept at step }
+  pure (part.Many base many by)).kept
+
+pub part_kept : (extent : ℕ) (at : Place) (x : Section) → Kept (directives.part_of extent at x)
+part_kept extent at (section.All colon) = (pure (part.Many (unwritten 0 at) (unwritten extent at) (unwritten 1 at))).kept
+part_kept extent at (section.Numbers first many step) = (do
+  base ← number_of first
+  record { run = directives.part_with at base many step; kept = with_kept at base many step }).kept
+
+pub parts_kept : (at : Place) (done : List Part) (extents : List ℕ) (xs : List Section) → Kept (directives.parts_in at done extents xs)
+parts_kept at done extents [] = (pure done).kept
+parts_kept at done extents (x ∷ xs) = (do
+  part ← record { run = directives.part_of (first_extent extents) at x; kept = part_kept (first_extent extents) at x }
+  record { run = directives.parts_in at (done ++ part ∷ []) (drop 1 extents) xs; kept = parts_kept at (done ++ part ∷ []) (drop 1 extents) xs }).kept
+
+pub side_as_kept : (x : Sections) (m : Option Meaning) → Kept (directives.side_as x m)
+side_as_kept x (Some (meaning.Scalar slot ty)) = (do
+  _ ← judge (is_nothing x.sections) N3 x.name.at
+  pure (side.Scalar (record { number = slot; at = x.name.at }))).kept
+side_as_kept x (Some (meaning.Array k)) = (do
+  extents ← asked (λ w. extents_in (slice_get w.names.arrays k))
+  _ ← judge (length x.sections == length extents) N3 x.name.at
+  parts ← record { run = directives.parts_in x.name.at [] extents (inner x.sections); kept = parts_kept x.name.at [] extents (inner x.sections) }
+  pure (side.Array (record { number = k; at = x.name.at }) parts)).kept
+side_as_kept x (Some (meaning.Nodes k)) = (do
+  _ ← judge false N3 x.name.at
+  pure (no_side x.name)).kept
+side_as_kept x (Some (meaning.Template k)) = (do
+  _ ← judge false N3 x.name.at
+  pure (no_side x.name)).kept
+side_as_kept x (Some (meaning.Function k r)) = (do
+  _ ← judge false N3 x.name.at
+  pure (no_side x.name)).kept
+side_as_kept x None = (do
+  _ ← judge false N1 x.name.at
+  pure (no_side x.name)).kept
+
+abbrev pub side_of : Sections → Going MoveSide
+side_of x = do
+  m ← meaning_of x.name
+  record { run = directives.side_as x m; kept = side_as_kept x m }
+
+abbrev pub gmove_of : DirectiveLine → Sections → Sections → Going made.Stmt
+gmove_of line target source = do
+  _ ← directive_at line.word
+  a ← side_of target
+  b ← side_of source
+  _ ← judge (sections_match (sections_in a) (sections_in b)) N3 target.name.at
+  pure (s.Plain (p.Gmove a b line.word))
+
+-- ---- all of them
+
+pub plain_kept : (x : Plain) → Kept (program.plain_of x)
+plain_kept (plain.Empty at) = (pure (s.Block [])).kept
+plain_kept (plain.Simple x at) = simple_kept x
+plain_kept (plain.Return at x end) = return_kept false at x
+plain_kept (plain.Print at x end) = (print_of at x.item.0 x.item.1).kept
+plain_kept (plain.Scan at x end) = (scan_of at x.item.0 x.item.3).kept
+plain_kept (plain.Sync at x end) = (sync_of at x.item.1).kept
+plain_kept (plain.Reflect line names) = (reflect_of line names.item).kept
+plain_kept (plain.Barrier line) = (barrier_of line).kept
+plain_kept (plain.Bcast line names from_at set) = (bcast_of line names.item set).kept
+plain_kept (plain.Gmove line target equals source end) = (gmove_of line target source).kept

@@ -1,0 +1,256 @@
+-- The lines of mapping directives go on and keep a world good.
+use Rattle.std.proofs.Common.{◌≡◌, ◌∙◌, refl, sym, ap, subst, ◌++◌, ◌∷◌, [], ℕ, suc, ◌+◌, ◌<◌, List, Bool, true, false, Option, Some, None, length, length-append, map, arith}
+use Rattle.std.specs.Prelude.{⊤, ℤ, pos, not, ◌&&◌, ◌||◌, ◌==◌, slice_get, is_some, nat_le}
+use Rattle.std.specs.List.{list_all}
+use Rattle.xmp_base.specs.declared.place.Place.{Place}
+use Rattle.xmp_num.specs.declared.types.Ty.{Ty}
+use Rattle.xmp_prog.specs.declared.expressions.Expr as prog
+use Rattle.xmp_prog.specs.declared.statements.Stmt as made
+use Rattle.xmp_prog.specs.declared.statements.Stmt.TheVariants as s
+use Rattle.xmp_prog.specs.declared.statements.Plain.TheVariants as p
+use Rattle.xmp_tree.specs.declared.parts.Name as named
+use Rattle.xmp_tree.specs.declared.parts.Inside.{Inside}
+use Rattle.xmp_tree.specs.declared.parts.Placed.{Placed}
+use Rattle.xmp_tree.specs.declared.expression.Expr.{Expr}
+use Rattle.xmp_tree.specs.declared.declaration.Declarator.{Declarator}
+use Rattle.xmp_tree.specs.declared.declaration.Declarator.TheVariants as declarator
+use Rattle.xmp_tree.specs.declared.declaration.Declaration.{Declaration}
+use Rattle.xmp_tree.specs.declared.directive.DirectiveLine.{DirectiveLine}
+use Rattle.xmp_tree.specs.declared.directive.DistForm.{DistForm}
+use Rattle.xmp_tree.specs.declared.directive.DistForm.TheVariants as dist
+use Rattle.xmp_tree.specs.declared.directive.AlignDimension.{AlignDimension}
+use Rattle.xmp_tree.specs.declared.directive.AlignDimension.TheVariants as dimension
+use Rattle.xmp_tree.specs.declared.directive.Point.{Point}
+use Rattle.xmp_tree.specs.declared.directive.Point.TheVariants as point
+use Rattle.xmp_tree.specs.declared.directive.Mapping.{Mapping}
+use Rattle.xmp_tree.specs.declared.directive.Mapping.TheVariants as mapping
+use Rattle.xmp_lex.specs.declared.token.Mark.{Mark}
+use Rattle.xmp_scopes.specs.Names as scope
+use Rattle.xmp_walk.specs.declared.names.Meaning.{Meaning}
+use Rattle.xmp_walk.specs.declared.names.Meaning.TheVariants.{Array, Nodes, Template}
+use Rattle.xmp_walk.specs.declared.mappings.Mappings.{Mappings}
+use Rattle.xmp_walk.specs.declared.mappings.NodesLine.{NodesLine}
+use Rattle.xmp_walk.specs.declared.mappings.TemplateLine.{TemplateLine}
+use Rattle.xmp_walk.specs.declared.mappings.Form.{Form}
+use Rattle.xmp_walk.specs.declared.mappings.Form.TheVariants as form
+use Rattle.xmp_walk.specs.declared.mappings.AlignPoint.{AlignPoint}
+use Rattle.xmp_walk.specs.declared.mappings.AlignPoint.TheVariants as ap_of
+use Rattle.xmp_walk.specs.declared.rules.Rule.TheVariants.{N1, N2, N3, N8}
+use Rattle.xmp_walk.specs.declared.world.World.{World}
+use Rattle.xmp_walk.specs.Rules.{unless}
+use Rattle.xmp_walk.specs.Walk as walk
+use Rattle.xmp_walk.specs.Walk.{is_reserved, an_array, a_nodes, a_template}
+use Rattle.xmp_walk.specs.Declarations as declarations
+use Rattle.xmp_walk.specs.Declarations.{listed, inner, type_of, extent_of, extent_right}
+use Rattle.xmp_walk.specs.Directives.{signed, limited, dimensions, extents_in}
+use Rattle.xmp_walk.specs.MappingLines as lines
+use Rattle.xmp_walk.specs.MappingLines.{Dummies, has_dummy, line_of}
+use Rattle.xmp_fits.proofs.Laters.{begins_refl, begins_with, LaterMappings, mappings_refl}
+use Rattle.xmp_fits.proofs.GoodWorlds.{Own, Good}
+use Rattle.xmp_fits.proofs.KeptRuns.{Goes, goes_refl, goes_then, GoesOn, Kept, Going, ◌>>=◌, pure, each, all}
+use Rattle.xmp_fits.proofs.KeptLines.{one_longer, offset_of, match_template, match_array}
+use Rattle.xmp_fits.proofs.KeptSteps.{goes_declared, goes_mapped, judge, judged, asked, typed, typed_constant, constant, declare_scalar, meaning_of, name_of, directive_at, stands_outermost, not_in_function}
+
+-- ---- nodes and templates
+
+more_nodes : (m : Mappings) (l : NodesLine) → LaterMappings m (record m { nodes = m.nodes ++ l ∷ [] })
+more_nodes m l = record { nodes = begins_with m.nodes (l ∷ []); templates = begins_refl m.templates; distributions = begins_refl m.distributions; aligns = begins_refl m.aligns; shadows = begins_refl m.shadows; loops = begins_refl m.loops }
+
+more_templates : (m : Mappings) (l : TemplateLine) → LaterMappings m (record m { templates = m.templates ++ l ∷ [] })
+more_templates m l = record { nodes = begins_refl m.nodes; templates = begins_with m.templates (l ∷ []); distributions = begins_refl m.distributions; aligns = begins_refl m.aligns; shadows = begins_refl m.shadows; loops = begins_refl m.loops }
+
+pub nodes_goes : (at : Place) (n : named.Name) (sizes : Option (List ℤ)) → Kept (lines.nodes_line at n sizes)
+nodes_goes at n sizes = record {
+  at = λ w.
+      goes_declared w n.text (Nodes (length w.mappings.nodes)) w.names.arrays w.scalars (record w.mappings { nodes = w.mappings.nodes ++ record { at = at; sizes = sizes } ∷ [] }) w.deepest
+      (w.broken ++ unless (not (scope.is_declared_here n.text w.names.scopes || is_reserved n.text)) N2 n.at)
+      (begins_refl w.names.arrays) (begins_refl w.scalars) (more_nodes w.mappings _) (begins_with w.broken _) (λ own k. one_longer w.mappings.nodes _) (λ k e. absurd (cc e));
+}
+
+abbrev pub nodes_line : Place → named.Name → Option (List ℤ) → Going ⊤
+nodes_line at n sizes = record { run = lines.nodes_line at n sizes; kept = nodes_goes at n sizes }
+
+pub template_goes : (at : Place) (n : named.Name) (sizes : List ℤ) → Kept (lines.template_line at n sizes)
+template_goes at n sizes = record {
+  at = λ w.
+      goes_declared w n.text (Template (length w.mappings.templates)) w.names.arrays w.scalars (record w.mappings { templates = w.mappings.templates ++ record { at = at; sizes = sizes } ∷ [] }) w.deepest
+      (w.broken ++ unless (not (scope.is_declared_here n.text w.names.scopes || is_reserved n.text)) N2 n.at)
+      (begins_refl w.names.arrays) (begins_refl w.scalars) (more_templates w.mappings _) (begins_with w.broken _) (λ own k. one_longer w.mappings.templates _) (λ k e. absurd (cc e));
+}
+
+abbrev pub template_line : Place → named.Name → List ℤ → Going ⊤
+template_line at n sizes = record { run = lines.template_line at n sizes; kept = template_goes at n sizes }
+
+abbrev pub constants : List (Inside Expr) → Going (List ℤ)
+constants xs = each constant (inner xs)
+
+-- ---- distribute
+
+pub width_kept : (x : Option (Inside Expr)) → Kept (lines.width_of x)
+width_kept None = (pure (pos 1)).kept
+width_kept (Some x) = (constant x.item).kept
+
+abbrev pub width_of : Option (Inside Expr) → Going ℤ
+width_of x = record { run = lines.width_of x; kept = width_kept x }
+
+pub form_kept : (f : DistForm) → Kept (lines.form_of f)
+form_kept (dist.Whole at) = (pure form.Whole).kept
+form_kept (dist.Block at) = (pure form.Block).kept
+form_kept (dist.Cyclic at width) = (do
+  w ← width_of width
+  pure (form.Cyclic w)).kept
+form_kept (dist.Gblock at lengths) = (do
+  ns ← each constant (listed lengths.item.item)
+  pure (form.Gblock ns)).kept
+
+abbrev pub form_of : DistForm → Going Form
+form_of f = record { run = lines.form_of f; kept = form_kept f }
+
+pub distribution_kept : (at : Place) (t : Option ℕ) (forms : List Form) → Kept (lines.keep_distribution at t forms)
+distribution_kept at None forms = record { at = goes_refl }
+distribution_kept at (Some k) forms = record {
+  at = λ w.
+      goes_mapped w (record w.mappings { distributions = w.mappings.distributions ++ record { at = at; template = k; forms = forms } ∷ [] }) w.deepest w.broken
+      (record { nodes = begins_refl w.mappings.nodes; templates = begins_refl w.mappings.templates; distributions = begins_with w.mappings.distributions _; aligns = begins_refl w.mappings.aligns; shadows = begins_refl w.mappings.shadows; loops = begins_refl w.mappings.loops }) (begins_refl w.broken);
+}
+
+abbrev pub keep_distribution : Place → Option ℕ → List Form → Going ⊤
+keep_distribution at t forms = record { run = lines.keep_distribution at t forms; kept = distribution_kept at t forms }
+
+abbrev pub distribute_line : Place → named.Name → List (Inside DistForm) → named.Name → Going ⊤
+distribute_line at t forms onto = do
+  template ← name_of a_template t
+  kept ← each form_of (inner forms)
+  _ ← match_template template (length kept) t.at
+  _ ← name_of a_nodes onto
+  keep_distribution at template kept
+
+-- ---- align
+
+pub dummy_kept : (d : ℕ) (known : Dummies) (x : AlignDimension) → Kept (lines.dummy_of d known x)
+dummy_kept d known (dimension.Star at) = (pure known).kept
+dummy_kept d known (dimension.Dummy n) = (do
+  _ ← judge (not (scope.is_declared_here n.text known)) N2 n.at
+  pure (scope.declare n.text d known)).kept
+
+pub dummies_kept : (d : ℕ) (known : Dummies) (xs : List AlignDimension) → Kept (lines.dummies_from d known xs)
+dummies_kept d known [] = record { at = goes_refl }
+dummies_kept d known (x ∷ xs) = record { at = λ w. goes_then w (lines.dummy_of d known x w) (λ more. lines.dummies_from (d + 1) more xs) ((dummy_kept d known x).at w) (λ more. dummies_kept (d + 1) more xs) }
+
+abbrev pub dummies_from : ℕ → Dummies → List AlignDimension → Going Dummies
+dummies_from d known xs = record { run = lines.dummies_from d known xs; kept = dummies_kept d known xs }
+
+pub no_dummy_kept : (n : named.Name) (m : Option Meaning) → Kept (lines.no_dummy n m)
+no_dummy_kept n None = (judge false N1 n.at).kept
+no_dummy_kept n (Some m) = (judge false N3 n.at).kept
+
+abbrev pub no_dummy : named.Name → Option Meaning → Going ⊤
+no_dummy n m = record { run = lines.no_dummy n m; kept = no_dummy_kept n m }
+
+pub in_point_kept : (n : named.Name) (d : Option ℕ) → Kept (lines.dummy_in_point n d)
+in_point_kept n (Some d) = (pure d).kept
+in_point_kept n None = (do
+  m ← meaning_of n
+  _ ← no_dummy n m
+  pure 0).kept
+
+abbrev pub dummy_in_point : named.Name → Option ℕ → Going ℕ
+dummy_in_point n d = record { run = lines.dummy_in_point n d; kept = in_point_kept n d }
+
+pub point_kept : (known : Dummies) (x : Point) → Kept (lines.align_point known x)
+point_kept known (point.Star at) = (pure ap_of.Star).kept
+point_kept known (point.Index n offset) = (do
+  d ← dummy_in_point n (scope.nearest n.text known)
+  c ← offset_of offset
+  pure (ap_of.Dummy d c)).kept
+
+abbrev pub align_point : Dummies → Point → Going AlignPoint
+align_point known x = record { run = lines.align_point known x; kept = point_kept known x }
+
+pub align_kept : (at : Place) (a t : Option ℕ) (dummies : List Bool) (points : List AlignPoint) → Kept (lines.keep_align at a t dummies points)
+align_kept at (Some a) (Some t) dummies points = record {
+  at = λ w.
+      goes_mapped w (record w.mappings { aligns = w.mappings.aligns ++ record { at = at; array = a; template = t; dummies = dummies; points = points } ∷ [] }) w.deepest w.broken
+      (record { nodes = begins_refl w.mappings.nodes; templates = begins_refl w.mappings.templates; distributions = begins_refl w.mappings.distributions; aligns = begins_with w.mappings.aligns _; shadows = begins_refl w.mappings.shadows; loops = begins_refl w.mappings.loops }) (begins_refl w.broken);
+}
+align_kept at (Some a) None dummies points = record { at = goes_refl }
+align_kept at None t dummies points = record { at = goes_refl }
+
+abbrev pub keep_align : Place → Option ℕ → Option ℕ → List Bool → List AlignPoint → Going ⊤
+keep_align at a t dummies points = record { run = lines.keep_align at a t dummies points; kept = align_kept at a t dummies points }
+
+abbrev pub aligned_points : List (Inside AlignDimension) → named.Name → List (Inside Point) → Going (Option ℕ × List AlignPoint)
+aligned_points dimensions t points = do
+  known ← dummies_from 0 [] (inner dimensions)
+  template ← name_of a_template t
+  kept ← each (align_point known) (inner points)
+  pure (template, kept)
+
+abbrev pub align_line : Place → named.Name → List (Inside AlignDimension) → named.Name → List (Inside Point) → Going ⊤
+align_line at a dimensions t points = do
+  array ← name_of an_array a
+  _ ← match_array array (length dimensions) a.at
+  onto ← aligned_points dimensions t points
+  _ ← match_template onto.0 (length onto.1) t.at
+  keep_align at array onto.0 (map has_dummy (inner dimensions)) onto.1
+
+-- ---- shadow
+
+pub second_kept : (low : ℤ) (x : Option (Place × Expr)) → Kept (lines.second_width low x)
+second_kept low None = (pure low).kept
+second_kept low (Some x) = (constant x.1).kept
+
+abbrev pub second_width : ℤ → Option (Place × Expr) → Going ℤ
+second_width low x = record { run = lines.second_width low x; kept = second_kept low x }
+
+abbrev pub widths_of : Expr × Option (Place × Expr) → Going (ℤ × ℤ)
+widths_of x = do
+  low ← constant x.0
+  high ← second_width low x.1
+  pure (low, high)
+
+pub shadow_kept : (at : Place) (a : Option ℕ) (widths : List (ℤ × ℤ)) → Kept (lines.keep_shadow at a widths)
+shadow_kept at None widths = record { at = goes_refl }
+shadow_kept at (Some k) widths = record {
+  at = λ w.
+      goes_mapped w (record w.mappings { shadows = w.mappings.shadows ++ record { at = at; array = k; widths = widths } ∷ [] }) w.deepest w.broken
+      (record { nodes = begins_refl w.mappings.nodes; templates = begins_refl w.mappings.templates; distributions = begins_refl w.mappings.distributions; aligns = begins_refl w.mappings.aligns; shadows = begins_with w.mappings.shadows _; loops = begins_refl w.mappings.loops }) (begins_refl w.broken);
+}
+
+abbrev pub keep_shadow : Place → Option ℕ → List (ℤ × ℤ) → Going ⊤
+keep_shadow at a widths = record { run = lines.keep_shadow at a widths; kept = shadow_kept at a widths }
+
+abbrev pub shadow_line : Place → named.Name → List (Inside (Expr × Option (Place × Expr))) → Going ⊤
+shadow_line at a widths = do
+  array ← name_of an_array a
+  kept ← each widths_of (inner widths)
+  _ ← match_array array (length kept) a.at
+  keep_shadow at array kept
+
+-- ---- all of them
+
+abbrev pub mapping_line : Mapping → Going ⊤
+mapping_line (mapping.Nodes line n sizes) = do
+  values ← constants sizes
+  nodes_line line.word n (Some values)
+mapping_line (mapping.NodesStar line n star) = nodes_line line.word n None
+mapping_line (mapping.Template line n sizes) = do
+  values ← constants sizes
+  template_line line.word n values
+mapping_line (mapping.Distribute line t forms at onto) = distribute_line line.word t forms onto
+mapping_line (mapping.Align line a dims at t points) = align_line line.word a dims t points
+mapping_line (mapping.Shadow line a widths) = shadow_line line.word a widths
+
+abbrev pub mapping_of : Mapping → Going ⊤
+mapping_of x = do
+  _ ← directive_at (line_of x).word
+  _ ← stands_outermost (line_of x).word
+  mapping_line x
+
+pub mapping_kept : (x : Mapping) → Kept (lines.mapping_of x)
+mapping_kept (mapping.Nodes line n sizes) = (mapping_of (mapping.Nodes line n sizes)).kept
+mapping_kept (mapping.NodesStar line n star) = (mapping_of (mapping.NodesStar line n star)).kept
+mapping_kept (mapping.Template line n sizes) = (mapping_of (mapping.Template line n sizes)).kept
+mapping_kept (mapping.Distribute line t forms at onto) = (mapping_of (mapping.Distribute line t forms at onto)).kept
+mapping_kept (mapping.Align line a dims at t points) = (mapping_of (mapping.Align line a dims at t points)).kept
+mapping_kept (mapping.Shadow line a widths) = (mapping_of (mapping.Shadow line a widths)).kept
