@@ -1,6 +1,5 @@
 -- What holds of all statements in a statement, by its form.
-use Rattle.std.proofs.Common.{◌≡◌, ◌∙◌, sym, ap, refl, subst, ◌++◌, ◌∷◌, [], List, map}
-use Rattle.std.specs.Prelude.{⊤}
+use Rattle.std.proofs.Common.{◌≡◌, sym, ap, refl, subst, ◌++◌, ◌∷◌, [], List, map}
 use Rattle.std.specs.List.{flat_map, AllByRecursion}
 use Rattle.xmp_base.specs.declared.place.Place.{Place}
 use Rattle.xmp_map.specs.declared.grid.NodeSet.{NodeSet}
@@ -12,7 +11,7 @@ use Rattle.xmp_prog.specs.declared.statements.Stmt.{Stmt}
 use Rattle.xmp_prog.specs.declared.statements.Stmt.TheVariants as s
 use Rattle.xmp_prog.specs.declared.statements.Stmt.TheOpen.{Stmt-F}
 use Rattle.xmp_prog.specs.declared.statements.Stmt.TheFolds.{fold-Task}
-use Rattle.xmp_prog.specs.declared.statements.Task.{Task, fold-roll-Task, roll-Task}
+use Rattle.xmp_prog.specs.declared.statements.Task.{Task, fold-roll-Task}
 use Rattle.xmp_prog.specs.Statements.{Statement, Walked, WalkedTask, statements_of, walk_step, walk_task, walked, writes_of}
 use Rattle.xmp_prog.proofs.Rolls.{at_block, at_counted, at_if, at_loop, at_plain, at_tasks, at_while}
 use Rattle.xmp_walk.specs.Directives.{made_task}

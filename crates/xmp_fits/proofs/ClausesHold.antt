@@ -1,5 +1,5 @@
 -- The clauses of 'the parts fit' that follow from the tests of single terms and statements.
-use Rattle.std.proofs.Common.{◌≡◌, ◌∙◌, sym, ap, refl, subst, ◌++◌, ◌∷◌, [], ◌+◌, ◌<◌, ◌&&◌, ◌||◌, ℕ, Bool, true, false, List, length, map}
+use Rattle.std.proofs.Common.{◌≡◌, ◌∙◌, sym, ap, refl, ◌++◌, ◌∷◌, [], ◌+◌, ◌&&◌, ◌||◌, ℕ, Bool, true, false, List, length, map}
 use Rattle.std.specs.Prelude.{⊤, nat_lt}
 use Rattle.std.specs.List.{list_all, flat_map, enumerate_from, AllByRecursion}
 use Rattle.xmp_prog.specs.declared.parts.Function.{Function}

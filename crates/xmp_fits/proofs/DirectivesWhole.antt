@@ -24,7 +24,7 @@ use Rattle.xmp_walk.specs.Walk as walk
 use Rattle.xmp_walk.specs.Walk.{Step, Gave}
 use Rattle.xmp_fits.proofs.CoarraysFound.{coarray_known}
 use Rattle.xmp_fits.proofs.DirectiveCases.{return_made}
-use Rattle.xmp_fits.proofs.DirectivesHold.{directive_cases, directive_tests, each_made, holds}
+use Rattle.xmp_fits.proofs.DirectivesHold.{directive_cases, directive_tests, each_made}
 use Rattle.xmp_fits.proofs.DirectivesPass.{DirectiveFits, StmtFits, StmtMade, block_fits, counted_loops_fit, directives_fit, passes_both}
 use Rattle.xmp_fits.proofs.Endings.{Ending, earlier, ends_at}
 use Rattle.xmp_fits.proofs.FitPrinciple.{Facts, Forms}

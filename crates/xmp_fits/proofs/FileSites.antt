@@ -1,10 +1,10 @@
 -- Where the scalars of functions and of the file's scope lie: those of each function behind those of the functions before it, and none of the file's scope among them.
-use Rattle.std.proofs.Common.{◌≡◌, ◌∙◌, sym, ap, refl, subst, ◌⊎◌, inl, inr, ◌++◌, ◌∷◌, [], ℕ, ◌+◌, ◌<◌, ◌≤◌, ◌&&◌, ◌||◌, Bool, true, false, List, Option, Some, None, length, length-append, map, arith, eq-eqb, eqb-true}
-use Rattle.std.specs.Prelude.{⊤, not, ◌==◌, nat_lt, is_some, if◌then◌else◌, drop}
-use Rattle.std.specs.List.{list_any, list_all, flat_map, AllByRecursion}
+use Rattle.std.proofs.Common.{◌≡◌, ◌∙◌, sym, ap, refl, subst, ◌⊎◌, inl, inr, ◌++◌, ◌∷◌, [], ℕ, ◌+◌, ◌<◌, ◌≤◌, ◌&&◌, ◌||◌, Bool, true, false, List, Option, Some, None, length, length-append, arith, eq-eqb, eqb-true}
+use Rattle.std.specs.Prelude.{not, ◌==◌, nat_lt, is_some, if◌then◌else◌}
+use Rattle.std.specs.List.{list_all, flat_map, AllByRecursion}
 use Rattle.std.specs.Option.{option_or}
-use Rattle.std.proofs.lemmas.Bool.{lt-ltb, ltb-true}
-use Rattle.std.proofs.lemmas.Option.{same_Some, none-some}
+use Rattle.std.proofs.lemmas.Bool.{lt-ltb}
+use Rattle.std.proofs.lemmas.Option.{none-some}
 use Rattle.std.proofs.lemmas.List.Folds.{list_any-append}
 use Rattle.xmp_num.specs.declared.types.Ty.{Ty}
 use Rattle.xmp_scopes.specs.Names as scope
@@ -14,13 +14,12 @@ use Rattle.xmp_prog.specs.declared.parts.Function as made_function
 use Rattle.xmp_prog.specs.declared.parts.ProgParts.{ProgParts}
 use Rattle.xmp_prog.specs.Numbers.{is_in}
 use Rattle.xmp_prog.specs.Statements.{slots_of_stmt}
-use Rattle.xmp_prog.specs.Scopes.{declared_in, scalars_fit, in_main, in_function}
+use Rattle.xmp_prog.specs.Scopes.{declared_in, scalars_fit, in_function}
 use Rattle.xmp_tree.specs.declared.parts.Name as named
 use Rattle.xmp_tree.specs.declared.parts.TypeWords.{TypeWords}
-use Rattle.xmp_walk.specs.declared.names.Region.{Region}
 use Rattle.xmp_walk.specs.declared.names.Region.TheVariants as region
 use Rattle.xmp_walk.specs.declared.names.Meaning.{Meaning}
-use Rattle.xmp_walk.specs.declared.names.Meaning.TheVariants.{Scalar, Array, Nodes, Template, Function}
+use Rattle.xmp_walk.specs.declared.names.Meaning.TheVariants.{Scalar}
 use Rattle.xmp_walk.specs.declared.world.World.{World}
 use Rattle.xmp_walk.specs.Expressions.{is_first}
 use Rattle.xmp_walk.specs.Walk as walk
@@ -30,8 +29,8 @@ use Rattle.xmp_fits.proofs.Laters.{Scopes}
 use Rattle.xmp_fits.proofs.KeptRuns.{Ends, Goes}
 use Rattle.xmp_fits.proofs.TermsFit.{Seen}
 use Rattle.xmp_fits.proofs.SameRuns.{may_see, declared_means, seen_declared, Same, IsNoScalar, no_scalar}
-use Rattle.xmp_fits.proofs.ScopedForms.{Rising, rising_ends, rising_from, rising_both, rising_to, declared_block, block_right}
-use Rattle.xmp_fits.proofs.ScopedFits.{Lawful, Allows, longer, ItemsFit}
+use Rattle.xmp_fits.proofs.ScopedForms.{Rising, rising_ends, rising_both, declared_block, block_right}
+use Rattle.xmp_fits.proofs.ScopedFits.{Lawful, longer, ItemsFit}
 use Rattle.xmp_fits.proofs.NamedSlots.{named_slots}
 
 -- ---- numbers in lists

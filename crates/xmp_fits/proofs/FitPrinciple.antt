@@ -1,6 +1,6 @@
 -- One induction over the statements of a tree for all that is to hold of the statements made of them. What holds may speak
 -- of the world before a statement and of the one after it.
-use Rattle.std.proofs.Common.{◌≡◌, ◌∙◌, refl, sym, ap, subst, ◌++◌, ◌∷◌, [], List, ◌&&◌, not, Bool, true, false, Option, Some, None, length, map}
+use Rattle.std.proofs.Common.{◌≡◌, ◌∙◌, refl, sym, ap, ◌++◌, ◌∷◌, [], List, ◌&&◌, not, Bool, true, false, Some, None, length, map}
 use Rattle.std.specs.Prelude.{⊤}
 use Rattle.std.specs.List.{list_all, AllByRecursion}
 use Rattle.xmp_base.specs.declared.place.Place.{Place}
@@ -10,7 +10,6 @@ use Rattle.xmp_prog.specs.declared.statements.Stmt as made
 use Rattle.xmp_prog.specs.declared.statements.Stmt.TheVariants as s
 use Rattle.xmp_prog.specs.declared.statements.Task.{Task}
 use Rattle.xmp_tree.specs.declared.declaration.Declarator.{Declarator}
-use Rattle.xmp_tree.specs.declared.declaration.Declaration.{Declaration}
 use Rattle.xmp_tree.specs.declared.directive.DirectiveLine.{DirectiveLine}
 use Rattle.xmp_tree.specs.declared.directive.LoopLine.{LoopLine}
 use Rattle.xmp_tree.specs.declared.directive.Mapping.{Mapping}
@@ -30,11 +29,11 @@ use Rattle.xmp_walk.specs.declared.typed.Operand.{Operand}
 use Rattle.xmp_walk.specs.declared.world.World.{World}
 use Rattle.xmp_walk.specs.Walk as walk
 use Rattle.xmp_walk.specs.Walk.{Step, Gave, Run, and_then}
-use Rattle.xmp_walk.specs.Declarations.{local_declarator, local_declarators, local_declaration, type_of, listed}
+use Rattle.xmp_walk.specs.Declarations.{local_declarator, local_declarators, type_of, listed}
 use Rattle.xmp_walk.specs.MappingLines.{mapping_of}
 use Rattle.xmp_walk.specs.Statements.{return_of, if_of, while_of, for_of, loop_of}
 use Rattle.xmp_walk.specs.Directives.{loop_line, judged_loop, loop_directive, nest_of, task_line, lone_task, tasks_in, tasks_of, made_task}
-use Rattle.xmp_walk.specs.Program.{plain_of, item_of, items_of, block_of, stmt_of, inside_item, else_step, task_step, last_in, last_item, main_items}
+use Rattle.xmp_walk.specs.Program.{plain_of, item_of, items_of, block_of, stmt_of, inside_item, task_step, last_in, main_items}
 use Rattle.xmp_walk.specs.declared.rules.Rule.TheVariants.{N5}
 use Rattle.xmp_walk.specs.Rules.{unless}
 use Rattle.xmp_walk.specs.Expressions.{is_function}
@@ -45,12 +44,12 @@ use Rattle.xmp_fits.proofs.NumbersLie as lie
 use Rattle.xmp_fits.proofs.Laters.{unbroken_before}
 use Rattle.xmp_fits.proofs.GoodWorlds.{Own, Good}
 use Rattle.xmp_fits.proofs.GoodSteps.{good_opened}
-use Rattle.xmp_fits.proofs.KeptRuns.{Ends, Goes, goes_refl, goes_trans, goes_then, GoesOn, Kept, pure}
+use Rattle.xmp_fits.proofs.KeptRuns.{Ends, Goes, goes_refl, goes_trans, goes_then, GoesOn, Kept}
 use Rattle.xmp_fits.proofs.KeptSteps.{typed, directive_at}
-use Rattle.xmp_fits.proofs.KeptLines.{declarator_kept, declarators_kept, declaration_kept}
+use Rattle.xmp_fits.proofs.KeptLines.{declarator_kept, declarators_kept}
 use Rattle.xmp_fits.proofs.KeptMappings.{mapping_kept}
-use Rattle.xmp_fits.proofs.KeptDirectives.{head_parts, return_kept, line_kept, loop_kept, task_line_kept}
-use Rattle.xmp_fits.proofs.KeptStatements.{opened, closed, stays_opened, goes_scoped, item_kept, items_kept, tasks_in_kept, stmt_kept, for_kept, main_kept}
+use Rattle.xmp_fits.proofs.KeptDirectives.{head_parts, line_kept, loop_kept, task_line_kept}
+use Rattle.xmp_fits.proofs.KeptStatements.{opened, closed, stays_opened, item_kept, items_kept, tasks_in_kept, stmt_kept, for_kept, main_kept}
 use Rattle.xmp_fits.proofs.Seen.{seen_plain, seen_if, seen_while, seen_for, seen_loop, seen_task, seen_tasks, seen_block}
 use Rattle.xmp_fits.proofs.TreeInduction.{ItemIs, Cases, each_stmt, each_item}
 use Rattle.xmp_fits.proofs.Holding.{Unbroken, Holds, unbroken_then, unbroken_next, unbroken_map, unbroken_goes, same_holds}

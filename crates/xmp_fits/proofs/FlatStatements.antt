@@ -1,12 +1,11 @@
 -- A statement with no statement inside: where no rule breaks, all its scalars are seen where it stands, and it declares nothing.
-use Rattle.std.proofs.Common.{◌≡◌, ◌∙◌, sym, ap, refl, subst, ◌⊎◌, inl, inr, ◌++◌, ◌∷◌, [], ℕ, ℤ, Bool, true, false, List, Option, Some, None, length, map}
+use Rattle.std.proofs.Common.{◌≡◌, ◌∙◌, sym, ap, refl, subst, inl, inr, ◌++◌, ◌∷◌, [], ℕ, ℤ, Bool, true, false, List, Option, Some, None, length, map}
 use Rattle.std.specs.Prelude.{⊤, pos, not, ◌||◌, ◌&&◌, ◌==◌, slice_get, drop, is_some}
 use Rattle.std.specs.List.{flat_map, list_all, AllByRecursion}
 use Rattle.std.proofs.lemmas.Grind.{flat_map-append}
-use Rattle.std.proofs.lemmas.Option.{same_Some, none-some}
 use Rattle.xmp_base.specs.declared.place.Place.{Place}
 use Rattle.xmp_num.specs.declared.types.Ty.{Ty}
-use Rattle.xmp_num.specs.declared.types.Ty.TheVariants.{Int, Long}
+use Rattle.xmp_num.specs.declared.types.Ty.TheVariants.{Int}
 use Rattle.xmp_map.specs.declared.grid.NodeSet.{NodeSet}
 use Rattle.xmp_prog.specs.declared.expressions.Expr as prog
 use Rattle.xmp_prog.specs.declared.expressions.Expr.{out-Expr, out-roll-Expr}
@@ -24,7 +23,6 @@ use Rattle.xmp_prog.specs.declared.statements.Target.{Target}
 use Rattle.xmp_prog.specs.declared.statements.Target.TheVariants as target
 use Rattle.xmp_prog.specs.declared.statements.Plain as made_plain
 use Rattle.xmp_prog.specs.declared.statements.Plain.TheVariants as m
-use Rattle.xmp_prog.specs.declared.statements.Stmt.{Stmt}
 use Rattle.xmp_prog.specs.declared.statements.Stmt.TheVariants as s
 use Rattle.xmp_prog.specs.declared.parts.ProgParts.{ProgParts}
 use Rattle.xmp_prog.specs.Terms as term
@@ -48,7 +46,6 @@ use Rattle.xmp_tree.specs.declared.statement.Simple.{Simple}
 use Rattle.xmp_tree.specs.declared.statement.Simple.TheVariants as simple
 use Rattle.xmp_tree.specs.declared.statement.Plain.{Plain}
 use Rattle.xmp_tree.specs.declared.statement.Plain.TheVariants as plain
-use Rattle.xmp_walk.specs.declared.names.Region.{Region}
 use Rattle.xmp_walk.specs.declared.names.Meaning.{Meaning}
 use Rattle.xmp_walk.specs.declared.names.Meaning.TheVariants as meaning
 use Rattle.xmp_walk.specs.declared.names.Environment.{Environment}
@@ -56,10 +53,7 @@ use Rattle.xmp_walk.specs.declared.operators.Operator.{Operator}
 use Rattle.xmp_walk.specs.declared.operators.Operator.TheVariants.{Arithmetic, Compare, Shift, Both, Either}
 use Rattle.xmp_walk.specs.declared.rules.Rule.TheVariants.{N1, N3, N4, N5, N6, N7, M8, M9}
 use Rattle.xmp_walk.specs.declared.typed.Operand.{Operand}
-use Rattle.xmp_walk.specs.declared.typed.Parts.{Parts}
-use Rattle.xmp_walk.specs.declared.world.World.{World}
 use Rattle.xmp_walk.specs.Expressions.{is_function, is_nothing}
-use Rattle.xmp_walk.specs.Typing.{operand, operand_of, number, joint, value_type}
 use Rattle.xmp_walk.specs.Formats.{fits_format, is_scan_format}
 use Rattle.xmp_walk.specs.Declarations.{listed, inner}
 use Rattle.xmp_walk.specs.Walk as walk
@@ -70,7 +64,7 @@ use Rattle.xmp_walk.specs.Program.{plain_of}
 use Rattle.xmp_fits.proofs.TermsFit.{Seen}
 use Rattle.xmp_fits.proofs.StepsFit.{IsPlace}
 use Rattle.xmp_fits.proofs.ScopedForms.{declared_plain, May, may_both, plain_right}
-use Rattle.xmp_fits.proofs.ScopedFits.{Sees, FlatFits, nothing_flat, allow_all, Allows}
+use Rattle.xmp_fits.proofs.ScopedFits.{Sees, FlatFits, nothing_flat, allow_all}
 use Rattle.xmp_fits.proofs.SlotsSeen.{terms_both, const_sees, operand_sees}
 use Rattle.xmp_fits.proofs.Looking.{Looks, looks_then, looks_map, looks_pure, looks_next, looks_end, looks_each, looks_judge, looks_asked, looks_judged, looks_directive, looks_typed, looks_reference, looks_call, looks_all, looks_constant, Means, looks_meaning, looks_name}
 

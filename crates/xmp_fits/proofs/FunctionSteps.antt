@@ -1,6 +1,6 @@
 -- A function is read: its name is declared, its body is read in a scope of its own, and it is kept. The world stays good.
-use Rattle.std.proofs.Common.{◌≡◌, ◌∙◌, refl, sym, ap, subst, ◌⊎◌, inl, inr, ⊎_elim, ◌++◌, ◌∷◌, [], ℕ, zero, suc, ◌+◌, ◌<◌, List, Bool, true, false, Option, Some, None, length, length-append, map, arith}
-use Rattle.std.specs.Prelude.{⊤, slice_get, slice_set, drop, not, ◌||◌, codes}
+use Rattle.std.proofs.Common.{◌≡◌, ◌∙◌, refl, sym, ap, subst, inl, inr, ⊎_elim, ◌++◌, ◌∷◌, [], ℕ, zero, suc, ◌+◌, ◌<◌, List, true, false, Some, length, length-append, map, arith}
+use Rattle.std.specs.Prelude.{slice_get, slice_set, drop, not, ◌||◌, codes}
 use Rattle.std.specs.List.{AllByRecursion}
 use Rattle.std.proofs.lemmas.Option.{none-some, slice_get_within}
 use Rattle.std.proofs.lemmas.List.{map-append}
@@ -19,10 +19,9 @@ use Rattle.xmp_walk.specs.Rules.{unless, deeper}
 use Rattle.xmp_walk.specs.Walk.{is_reserved, is_main}
 use Rattle.xmp_walk.specs.Declarations.{type_of}
 use Rattle.xmp_walk.specs.Program.{parameters_in, with_depth}
-use Rattle.xmp_fits.proofs.Laters.{Begins, begins_refl, begins_with, mappings_refl, Later, later_trans, Scopes, Widened}
+use Rattle.xmp_fits.proofs.Laters.{Begins, begins_refl, begins_with, mappings_refl, Later, Scopes, Widened}
 use Rattle.xmp_fits.proofs.GoodWorlds.{Own, in_file, Finished, Reading, IsTrueIn, TrueScope, NoneInside, Good, being_read}
-use Rattle.xmp_fits.proofs.GoodSteps.{begins_get, begins_length, get_more, get_last, all_map, declared_scopes, no_names}
-use Rattle.xmp_fits.proofs.KeptStatements.{closed}
+use Rattle.xmp_fits.proofs.GoodSteps.{get_more, get_last, all_map, declared_scopes, no_names}
 
 -- ---- lists
 

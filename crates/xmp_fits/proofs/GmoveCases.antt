@@ -1,10 +1,9 @@
 -- The sides of a gmove pass the tests of terms.
-use Rattle.std.proofs.Common.{◌≡◌, ◌∙◌, sym, ap, refl, subst, ◌++◌, ◌∷◌, [], ◌-◌, ◌<◌, ◌≤◌, ◌&&◌, ◌||◌, not, ℕ, zero, suc, ℤ, Bool, true, false, List, Option, Some, None, length, map, drop, arith}
-use Rattle.std.specs.Prelude.{⊤, pos, ◌==◌, nat_le, slice_get}
+use Rattle.std.proofs.Common.{◌≡◌, ◌∙◌, sym, ap, refl, ◌++◌, ◌∷◌, [], ◌-◌, ◌&&◌, ℕ, zero, suc, Bool, true, List, Option, Some, None, length, drop, arith}
+use Rattle.std.specs.Prelude.{pos, ◌==◌, nat_le, slice_get}
 use Rattle.std.specs.List.{list_all, flat_map, AllByRecursion}
 use Rattle.std.proofs.lemmas.Bool.{le-leb, leb-true}
 use Rattle.xmp_base.specs.declared.place.Place.{Place}
-use Rattle.xmp_num.specs.declared.types.Ty.{Ty}
 use Rattle.xmp_num.specs.declared.types.Ty.TheVariants.{Int}
 use Rattle.xmp_dist.specs.Valid.{is_extent}
 use Rattle.std.proofs.lemmas.Option.{same_Some, none-some}
@@ -17,7 +16,6 @@ use Rattle.xmp_prog.specs.declared.statements.MoveSide.{MoveSide}
 use Rattle.xmp_prog.specs.declared.statements.MoveSide.TheVariants as side
 use Rattle.xmp_prog.specs.declared.statements.Plain as made_plain
 use Rattle.xmp_prog.specs.declared.statements.Plain.TheVariants as p
-use Rattle.xmp_prog.specs.declared.statements.Stmt as made
 use Rattle.xmp_prog.specs.declared.statements.Stmt.TheVariants as s
 use Rattle.xmp_prog.specs.declared.parts.Array as made_array
 use Rattle.xmp_prog.specs.declared.parts.ProgParts.{ProgParts}
@@ -35,17 +33,17 @@ use Rattle.xmp_tree.specs.declared.directive.Sections.{Sections}
 use Rattle.xmp_walk.specs.declared.names.Meaning.{Meaning}
 use Rattle.xmp_walk.specs.declared.names.Meaning.TheVariants.{Scalar, Array, Nodes, Template, Function}
 use Rattle.xmp_walk.specs.declared.names.Array as array
-use Rattle.xmp_walk.specs.declared.rules.Rule.TheVariants.{N1, N3, N5}
+use Rattle.xmp_walk.specs.declared.rules.Rule.TheVariants.{N3}
 use Rattle.xmp_walk.specs.declared.rules.Broken.{Broken}
 use Rattle.xmp_walk.specs.declared.world.World.{World}
 use Rattle.xmp_walk.specs.Rules.{unless}
-use Rattle.xmp_walk.specs.Expressions.{is_function, is_nothing, may_name}
+use Rattle.xmp_walk.specs.Expressions.{is_function}
 use Rattle.xmp_walk.specs.Walk as walk
 use Rattle.xmp_walk.specs.Walk.{Step, Gave, Run}
 use Rattle.xmp_walk.specs.Declarations.{inner}
 use Rattle.xmp_walk.specs.Directives as directives
 use Rattle.xmp_walk.specs.Directives.{unwritten, first_extent, extents_in, no_side}
-use Rattle.xmp_elab.proofs.Unbroken.{left_none, right_none, left_true, right_true}
+use Rattle.xmp_elab.proofs.Unbroken.{left_true, right_true}
 use Rattle.xmp_fits.proofs.GoodWorlds.{Own, Good}
 use Rattle.xmp_fits.proofs.GoodSteps.{Stays, onward_stays, true_name}
 use Rattle.xmp_fits.proofs.KeptRuns.{Ends, Goes, goes_refl, goes_trans, GoesOn, Kept}
@@ -53,14 +51,14 @@ use Rattle.xmp_fits.proofs.KeptSteps as kept_steps
 use Rattle.xmp_fits.proofs.KeptDirectives as kept
 use Rattle.xmp_fits.proofs.KeptRuns as kept_runs
 use Rattle.xmp_fits.proofs.Laters.{unbroken_before}
-use Rattle.xmp_fits.proofs.Endings.{opened, ends_at, later_at, directed, goes_directed}
+use Rattle.xmp_fits.proofs.Endings.{opened, later_at, directed, goes_directed}
 use Rattle.xmp_fits.proofs.Holding.{Unbroken, Holds, unbroken_then}
 use Rattle.xmp_fits.specs.NumbersLie.{numbers_lie}
 use Rattle.xmp_fits.specs.NumbersLie.{there_lies, second_lies, section_lies, sections_lie}
 use Rattle.xmp_fits.proofs.NamesFit.{full}
 use Rattle.xmp_fits.proofs.TermsFit.{or_true, all_append}
 use Rattle.xmp_fits.proofs.TermTests.{TermPasses, is_slot, all_map, all_true}
-use Rattle.xmp_fits.proofs.ClausesHold.{all_flat, all_of_test}
+use Rattle.xmp_fits.proofs.ClausesHold.{all_flat}
 use Rattle.xmp_fits.proofs.StmtsPass.{plain_passes}
 use Rattle.xmp_fits.proofs.TermCases.{Reached, Here, back, here_stays, StmtGood, OperandGood, SlotsGood, slots_stay, test_good}
 use Rattle.xmp_fits.proofs.NameSlots.{InNone, none_stays, directive_holds, fact_at, made_holds}

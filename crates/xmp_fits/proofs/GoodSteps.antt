@@ -1,10 +1,9 @@
 -- A step that changes no function keeps a world good.
-use Rattle.std.proofs.Common.{◌≡◌, ◌∙◌, refl, sym, ap, subst, ◌⊎◌, inl, inr, ⊎_elim, ◌++◌, ◌∷◌, [], ℕ, zero, suc, ◌+◌, ◌<◌, ◌≤◌, List, Bool, true, false, length, map, arith, length-append, Option, Some, None}
-use Rattle.std.specs.Prelude.{⊤, slice_get, drop, codes, is_some, if◌then◌else◌}
+use Rattle.std.proofs.Common.{◌≡◌, ◌∙◌, refl, sym, ap, subst, inl, inr, ⊎_elim, ◌++◌, ◌∷◌, [], ℕ, zero, suc, ◌+◌, ◌<◌, List, Bool, true, false, length, arith, length-append, Option, Some, None}
+use Rattle.std.specs.Prelude.{slice_get, drop, is_some, if◌then◌else◌}
 use Rattle.std.specs.List.{AllByRecursion}
 use Rattle.std.specs.Option.{option_or}
 use Rattle.std.proofs.lemmas.Option.{same_Some, none-some}
-use Rattle.xmp_num.specs.declared.types.Ty.{Ty}
 use Rattle.xmp_scopes.specs.Names as scope
 use Rattle.xmp_walk.specs.declared.names.Meaning.{Meaning}
 use Rattle.xmp_walk.specs.declared.names.Meaning.TheVariants.{Scalar, Array, Nodes, Template, Function}
@@ -12,7 +11,7 @@ use Rattle.xmp_walk.specs.declared.world.World.{World}
 use Rattle.xmp_walk.specs.Walk.{is_main}
 use Rattle.xmp_walk.specs.Expressions.{is_function, is_first}
 use Rattle.xmp_fits.proofs.Laters.{Begins, Later, Onward, Scopes, unbroken_before}
-use Rattle.xmp_fits.proofs.GoodWorlds.{Own, in_file, Finished, Reading, IsTrueIn, TrueScope, NoArray, NoneInside, Good, being_read}
+use Rattle.xmp_fits.proofs.GoodWorlds.{Own, in_file, IsTrueIn, TrueScope, NoArray, NoneInside, Good, being_read}
 
 -- ---- lists
 

@@ -1,5 +1,5 @@
 -- A good world: each name in its scopes tells true numbers. And what the parts of the program that is made of it have of a world.
-use Rattle.std.proofs.Common.{◌≡◌, ◌∙◌, refl, sym, ap, subst, ◌⊎◌, inl, inr, ◌++◌, ◌∷◌, [], ℕ, zero, suc, ◌+◌, ◌<◌, List, Bool, true, false, length, map, arith, Option, Some, None}
+use Rattle.std.proofs.Common.{◌≡◌, ◌⊎◌, ◌∷◌, [], ℕ, ◌+◌, ◌<◌, List, Bool, true, false, length, Some}
 use Rattle.std.specs.Prelude.{⊤, slice_get, codes}
 use Rattle.std.specs.List.{AllByRecursion}
 use Rattle.xmp_num.specs.declared.types.Ty.{Ty}
@@ -18,7 +18,7 @@ use Rattle.xmp_walk.specs.declared.names.Signature.{Signature}
 use Rattle.xmp_walk.specs.declared.world.World.{World}
 use Rattle.xmp_walk.specs.Expressions.{is_function}
 use Rattle.xmp_walk.specs.Walk.{is_main}
-use Rattle.xmp_fits.proofs.Laters.{Begins, Later, Onward, Scopes}
+use Rattle.xmp_fits.proofs.Laters.{Begins, Scopes}
 
 -- ---- names
 

@@ -1,7 +1,7 @@
 -- Declarations and the heads of loops pass the tests of terms.
-use Rattle.std.proofs.Common.{◌≡◌, ◌∙◌, sym, ap, refl, subst, ◌++◌, ◌∷◌, [], ◌-◌, ◌&&◌, ◌||◌, ℕ, Bool, true, false, List, Option, Some, None, length, map}
-use Rattle.std.specs.Prelude.{⊤, slice_get, is_some}
-use Rattle.std.specs.List.{list_all, AllByRecursion}
+use Rattle.std.proofs.Common.{◌≡◌, ◌∙◌, sym, ap, refl, ◌++◌, ◌∷◌, [], ◌-◌, ◌&&◌, ℕ, true, Option, Some, None, length}
+use Rattle.std.specs.Prelude.{slice_get, is_some}
+use Rattle.std.specs.List.{AllByRecursion}
 use Rattle.std.proofs.lemmas.Bool.{lt-ltb}
 use Rattle.std.proofs.lemmas.Option.{slice_get_within}
 use Rattle.xmp_base.specs.declared.place.Place.{Place}
@@ -10,7 +10,6 @@ use Rattle.xmp_num.specs.declared.types.Ty.TheVariants.{Int}
 use Rattle.xmp_prog.specs.declared.expressions.Expr as prog
 use Rattle.xmp_prog.specs.declared.statements.Plain as made_plain
 use Rattle.xmp_prog.specs.declared.statements.Plain.TheVariants as p
-use Rattle.xmp_prog.specs.declared.statements.Stmt as made
 use Rattle.xmp_prog.specs.declared.statements.Stmt.TheVariants as s
 use Rattle.xmp_prog.specs.declared.parts.ProgParts.{ProgParts}
 use Rattle.xmp_prog.specs.Terms.{terms_of_option}
@@ -35,23 +34,23 @@ use Rattle.xmp_walk.specs.Statements.{set, first_of, index_of, first_part}
 use Rattle.xmp_elab.proofs.Unbroken.{left_none, right_none, left_true, right_true}
 use Rattle.xmp_fits.proofs.GoodWorlds.{Own, Good}
 use Rattle.xmp_fits.proofs.GoodSteps.{Stays, onward_stays, begins_get, get_last}
-use Rattle.xmp_fits.proofs.KeptRuns.{Ends, Goes, goes_refl, goes_trans, GoesOn, Kept}
+use Rattle.xmp_fits.proofs.KeptRuns.{Ends, Goes}
 use Rattle.xmp_fits.proofs.KeptSteps as kept_steps
 use Rattle.xmp_fits.proofs.KeptLines as kept_lines
 use Rattle.xmp_fits.proofs.KeptDirectives as kept
 use Rattle.xmp_fits.proofs.Laters.{unbroken_before}
 use Rattle.xmp_fits.proofs.Endings.{opened, ends_at, later_at}
-use Rattle.xmp_fits.proofs.Holding.{Unbroken, Holds}
-use Rattle.xmp_fits.specs.NumbersLie.{numbers_lie, subscripts_lie, reference_lies}
+use Rattle.xmp_fits.proofs.Holding.{Holds}
+use Rattle.xmp_fits.specs.NumbersLie.{numbers_lie, reference_lies}
 use Rattle.xmp_fits.proofs.TreeNumbers.{expr_right}
 use Rattle.xmp_fits.specs.NumbersLie.{there_lies, second_lies, declarator_lies, first_lies}
 use Rattle.xmp_fits.proofs.StepsFit.{reference_right, reference_place}
 use Rattle.xmp_fits.proofs.PlainFits.{set_fits}
 use Rattle.xmp_fits.proofs.TellsTrue.{tells}
 use Rattle.xmp_fits.proofs.TermsFit.{or_true}
-use Rattle.xmp_fits.proofs.TermTests.{TermPasses, is_slot}
+use Rattle.xmp_fits.proofs.TermTests.{TermPasses}
 use Rattle.xmp_fits.proofs.StmtsPass.{plain_passes}
-use Rattle.xmp_fits.proofs.TermCases.{Reached, Here, back, StmtGood, OperandGood, SlotsGood, slots_stay, stmt_stays, stmt_good, operand_good, test_good}
+use Rattle.xmp_fits.proofs.TermCases.{Reached, Here, back, StmtGood, OperandGood, SlotsGood, slots_stay, stmt_good, operand_good, test_good}
 use Rattle.xmp_fits.proofs.NameSlots.{carried, fact_at, made_holds}
 
 -- ---- declarations

@@ -1,5 +1,5 @@
 -- What holds at the end of a run from a good world where no rule breaks; and how it is put together.
-use Rattle.std.proofs.Common.{◌≡◌, ◌∙◌, refl, sym, ap, subst, ◌++◌, ◌∷◌, [], List, Bool, true, false, Option, Some, None}
+use Rattle.std.proofs.Common.{◌≡◌, refl, sym, subst, ◌++◌, ◌∷◌, [], List, Bool, true, Option, Some, None}
 use Rattle.std.specs.Prelude.{⊤}
 use Rattle.std.specs.List.{AllByRecursion}
 use Rattle.xmp_base.specs.declared.place.Place.{Place}
@@ -8,7 +8,7 @@ use Rattle.xmp_walk.specs.declared.world.World.{World}
 use Rattle.xmp_walk.specs.Rules.{unless}
 use Rattle.xmp_walk.specs.Walk as walk
 use Rattle.xmp_walk.specs.Walk.{Step, Gave, Run, and_then}
-use Rattle.xmp_elab.proofs.Unbroken.{left_none, right_none, holds}
+use Rattle.xmp_elab.proofs.Unbroken.{right_none, holds}
 use Rattle.xmp_fits.proofs.Laters.{unbroken_before}
 use Rattle.xmp_fits.proofs.GoodWorlds.{Own, Good}
 use Rattle.xmp_fits.proofs.KeptRuns.{Ends, Goes, goes_refl, GoesOn, Kept, Going, each_after}

@@ -1,14 +1,12 @@
 -- Statements and directives with no statement inside go on and keep a world good.
-use Rattle.std.proofs.Common.{◌≡◌, ◌∙◌, refl, sym, ap, ◌++◌, ◌∷◌, [], ℕ, ◌+◌, List, Bool, true, false, Option, Some, None, length, map}
-use Rattle.std.specs.Prelude.{⊤, ℤ, pos, not, ◌&&◌, ◌||◌, ◌==◌, slice_get, drop, if◌then◌else◌}
+use Rattle.std.proofs.Common.{◌++◌, ◌∷◌, [], ℕ, List, Bool, true, false, Option, Some, None, length, map}
+use Rattle.std.specs.Prelude.{⊤, ℤ, pos, not, ◌&&◌, ◌||◌, ◌==◌, slice_get, drop}
 use Rattle.std.specs.Option.{unwrap_or}
 use Rattle.std.specs.List.{list_all}
 use Rattle.xmp_base.specs.declared.place.Place.{Place}
-use Rattle.xmp_num.specs.declared.types.Ty.{Ty}
 use Rattle.xmp_num.specs.declared.types.Ty.TheVariants.{Int}
 use Rattle.xmp_num.specs.declared.types.RedOp.{RedOp}
 use Rattle.xmp_map.specs.declared.grid.NodeSet.{NodeSet}
-use Rattle.xmp_prog.specs.declared.expressions.Expr as prog
 use Rattle.xmp_prog.specs.declared.statements.Name as made_name
 use Rattle.xmp_prog.specs.declared.statements.Reduction as made_reduction
 use Rattle.xmp_prog.specs.declared.statements.Number.{Number}
@@ -20,7 +18,6 @@ use Rattle.xmp_prog.specs.declared.statements.Plain.TheVariants as p
 use Rattle.xmp_prog.specs.declared.statements.Stmt as made
 use Rattle.xmp_prog.specs.declared.statements.Stmt.TheVariants as s
 use Rattle.xmp_prog.specs.Directives.{sections_in}
-use Rattle.xmp_lex.specs.declared.token.Mark.{Mark}
 use Rattle.xmp_tree.specs.declared.parts.Name as named
 use Rattle.xmp_tree.specs.declared.parts.Format.{Format}
 use Rattle.xmp_tree.specs.declared.parts.Next.{Next}
@@ -51,8 +48,6 @@ use Rattle.xmp_walk.specs.declared.loops.ForParts.{ForParts}
 use Rattle.xmp_walk.specs.declared.loop_lines.LoopParts.{LoopParts}
 use Rattle.xmp_walk.specs.declared.rules.Rule.TheVariants.{N1, N3, N4, N6, N7, M7, M8, M9}
 use Rattle.xmp_walk.specs.declared.typed.Operand.{Operand}
-use Rattle.xmp_walk.specs.declared.world.World.{World}
-use Rattle.xmp_walk.specs.Walk as walk
 use Rattle.xmp_walk.specs.Walk.{first_place, is_known, is_main, a_scalar, an_int_scalar, an_array, a_nodes, a_template}
 use Rattle.xmp_walk.specs.Expressions.{is_nothing}
 use Rattle.xmp_walk.specs.Formats.{fits_format, is_scan_format}
@@ -62,9 +57,9 @@ use Rattle.xmp_walk.specs.Statements.{set, compound_of, one, call_statement, tar
 use Rattle.xmp_walk.specs.Directives as directives
 use Rattle.xmp_walk.specs.Directives.{slot_or_zero, signed, limited, names_or, slots_of_points, operation_of, Nest, loop_right, is_indexed, made_loop, sizes_in, given_or_one, ranges, is_one, ranges_right, box_of, share, unwritten, first_extent, extents_in, no_side, sections_match}
 use Rattle.xmp_walk.specs.Program as program
-use Rattle.xmp_fits.proofs.Laters.{begins_refl, begins_with, LaterMappings}
-use Rattle.xmp_fits.proofs.KeptRuns.{Goes, goes_refl, goes_then, GoesOn, Kept, Going, ◌>>=◌, pure, each, all, if_there}
-use Rattle.xmp_fits.proofs.KeptSteps.{goes_mapped, judge, judged, asked, region_of, typed, typed_reference, typed_call, typed_all, typed_constant, constant, declare_scalar, meaning_of, name_of, directive_at, not_in_function}
+use Rattle.xmp_fits.proofs.Laters.{begins_refl, begins_with}
+use Rattle.xmp_fits.proofs.KeptRuns.{goes_refl, Kept, Going, ◌>>=◌, pure, each, if_there}
+use Rattle.xmp_fits.proofs.KeptSteps.{goes_mapped, judge, asked, region_of, typed, typed_reference, typed_call, typed_all, constant, declare_scalar, meaning_of, name_of, directive_at, not_in_function}
 use Rattle.xmp_fits.proofs.KeptLines.{offset_of, match_template}
 
 -- ---- assignments, calls, `return`, `printf`, `scanf`, `xmp_sync_all`

@@ -1,5 +1,5 @@
 -- Declarations and mapping directives go on and keep a world good.
-use Rattle.std.proofs.Common.{◌≡◌, ◌∙◌, refl, sym, ap, subst, ◌++◌, ◌∷◌, [], ℕ, suc, ◌+◌, ◌<◌, List, Bool, true, false, Option, Some, None, length, length-append, map, arith}
+use Rattle.std.proofs.Common.{◌≡◌, ◌++◌, ◌∷◌, [], ℕ, ◌+◌, ◌<◌, List, Bool, true, Option, Some, None, length, length-append, map, arith}
 use Rattle.std.specs.Prelude.{⊤, nat_lt, ℤ, pos, not, ◌&&◌, ◌||◌, ◌==◌, slice_get, is_some, nat_le}
 use Rattle.std.specs.List.{list_all}
 use Rattle.xmp_base.specs.declared.place.Place.{Place}
@@ -9,35 +9,19 @@ use Rattle.xmp_prog.specs.declared.statements.Stmt as made
 use Rattle.xmp_prog.specs.declared.statements.Stmt.TheVariants as s
 use Rattle.xmp_prog.specs.declared.statements.Plain.TheVariants as p
 use Rattle.xmp_tree.specs.declared.parts.Name as named
-use Rattle.xmp_tree.specs.declared.parts.Inside.{Inside}
 use Rattle.xmp_tree.specs.declared.parts.Placed.{Placed}
 use Rattle.xmp_tree.specs.declared.expression.Expr.{Expr}
 use Rattle.xmp_tree.specs.declared.declaration.Declarator.{Declarator}
 use Rattle.xmp_tree.specs.declared.declaration.Declarator.TheVariants as declarator
 use Rattle.xmp_tree.specs.declared.declaration.Declaration.{Declaration}
-use Rattle.xmp_tree.specs.declared.directive.DirectiveLine.{DirectiveLine}
-use Rattle.xmp_tree.specs.declared.directive.DistForm.{DistForm}
-use Rattle.xmp_tree.specs.declared.directive.DistForm.TheVariants as dist
-use Rattle.xmp_tree.specs.declared.directive.AlignDimension.{AlignDimension}
-use Rattle.xmp_tree.specs.declared.directive.AlignDimension.TheVariants as dimension
-use Rattle.xmp_tree.specs.declared.directive.Point.{Point}
-use Rattle.xmp_tree.specs.declared.directive.Point.TheVariants as point
-use Rattle.xmp_tree.specs.declared.directive.Mapping.{Mapping}
-use Rattle.xmp_tree.specs.declared.directive.Mapping.TheVariants as mapping
 use Rattle.xmp_lex.specs.declared.token.Mark.{Mark}
 use Rattle.xmp_scopes.specs.Names as scope
 use Rattle.xmp_walk.specs.declared.names.Region.{Region}
 use Rattle.xmp_walk.specs.declared.names.Region.TheVariants as region
-use Rattle.xmp_walk.specs.declared.names.Meaning.{Meaning}
-use Rattle.xmp_walk.specs.declared.names.Meaning.TheVariants.{Array, Nodes, Template}
-use Rattle.xmp_walk.specs.declared.mappings.Form.{Form}
-use Rattle.xmp_walk.specs.declared.mappings.Form.TheVariants as form
-use Rattle.xmp_walk.specs.declared.mappings.AlignPoint.{AlignPoint}
-use Rattle.xmp_walk.specs.declared.mappings.AlignPoint.TheVariants as ap_of
-use Rattle.xmp_walk.specs.declared.rules.Rule.TheVariants.{N1, N2, N3, N5, N8}
+use Rattle.xmp_walk.specs.declared.names.Meaning.TheVariants.{Array}
+use Rattle.xmp_walk.specs.declared.rules.Rule.TheVariants.{N2, N3, N5, N8}
 use Rattle.xmp_walk.specs.declared.rules.Broken.{Broken}
 use Rattle.xmp_walk.specs.declared.typed.Operand.{Operand}
-use Rattle.xmp_walk.specs.declared.world.World.{World}
 use Rattle.xmp_walk.specs.Rules.{unless}
 use Rattle.xmp_walk.specs.Walk as walk
 use Rattle.xmp_walk.specs.Expressions.{is_function}
@@ -49,10 +33,9 @@ use Rattle.xmp_walk.specs.Directives.{signed, limited, dimensions, extents_in}
 use Rattle.xmp_walk.specs.MappingLines as lines
 use Rattle.xmp_walk.specs.MappingLines.{Dummies, has_dummy, line_of}
 use Rattle.xmp_elab.proofs.Unbroken.{right_none}
-use Rattle.xmp_fits.proofs.Laters.{Scopes, Begins, begins_refl, begins_with, begins_trans, LaterMappings, mappings_refl}
-use Rattle.xmp_fits.proofs.GoodWorlds.{Own, Good}
-use Rattle.xmp_fits.proofs.KeptRuns.{Goes, goes_refl, goes_then, GoesOn, Kept, Going, ◌>>=◌, pure, each, all}
-use Rattle.xmp_fits.proofs.KeptSteps.{goes_declared, goes_mapped, judge, judged, asked, typed, typed_constant, constant, declare_scalar, meaning_of, name_of, directive_at, stands_outermost, not_in_function}
+use Rattle.xmp_fits.proofs.Laters.{Scopes, Begins, begins_refl, begins_with, begins_trans, mappings_refl}
+use Rattle.xmp_fits.proofs.KeptRuns.{goes_refl, goes_then, Kept, Going, ◌>>=◌, pure, each}
+use Rattle.xmp_fits.proofs.KeptSteps.{goes_declared, judged, typed, typed_constant, constant, declare_scalar}
 
 -- ---- declarations
 

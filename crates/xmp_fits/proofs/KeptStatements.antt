@@ -1,7 +1,6 @@
 -- Statements go on and keep a world good.
-use Rattle.std.proofs.Common.{◌≡◌, ◌∙◌, refl, sym, ap, subst, ◌++◌, ◌∷◌, [], ℕ, List, Bool, true, false, Option, Some, None, length, map}
-use Rattle.std.specs.Prelude.{⊤, drop}
-use Rattle.std.specs.Option.{option_map}
+use Rattle.std.proofs.Common.{◌≡◌, refl, sym, subst, ◌++◌, ◌∷◌, [], List, true, Some, None, length, map}
+use Rattle.std.specs.Prelude.{drop}
 use Rattle.std.specs.List.{AllByRecursion}
 use Rattle.xmp_base.specs.declared.place.Place.{Place}
 use Rattle.xmp_map.specs.declared.grid.NodeSet.{NodeSet}
@@ -13,7 +12,6 @@ use Rattle.xmp_tree.specs.declared.directive.LoopLine.{LoopLine}
 use Rattle.xmp_tree.specs.declared.directive.TaskLine.{TaskLine}
 use Rattle.xmp_tree.specs.declared.expression.Expr.{Expr}
 use Rattle.xmp_tree.specs.declared.statement.ForHead.{ForHead}
-use Rattle.xmp_tree.specs.declared.statement.Plain.{Plain}
 use Rattle.xmp_tree.specs.declared.statement.Plain.TheVariants as plain
 use Rattle.xmp_tree.specs.declared.statement.BlockItem.{BlockItem}
 use Rattle.xmp_tree.specs.declared.statement.BlockItem.TheVariants as b
@@ -23,15 +21,13 @@ use Rattle.xmp_walk.specs.declared.loops.ForParts.{ForParts}
 use Rattle.xmp_walk.specs.declared.world.World.{World}
 use Rattle.xmp_walk.specs.Walk as walk
 use Rattle.xmp_walk.specs.Walk.{Step, Gave, Run, and_then}
-use Rattle.xmp_walk.specs.Statements.{else_of, if_of, while_of, for_parts, for_of, loop_of}
+use Rattle.xmp_walk.specs.Statements.{if_of, while_of, for_of, loop_of}
 use Rattle.xmp_walk.specs.Directives.{loop_line, judged_loop, loop_directive, nest_of, task_line, lone_task, tasks_in, tasks_of, made_task}
-use Rattle.xmp_walk.specs.Program as program
-use Rattle.xmp_walk.specs.Program.{item_of, items_of, block_of, stmt_of, inside_item, else_step, task_step, last_in, last_item, main_items}
-use Rattle.xmp_fits.proofs.Laters.{begins_refl, names_refl, mappings_refl, Later, Scopes, Widened, widened_refl, Onward}
-use Rattle.xmp_fits.proofs.GoodWorlds.{Own, Good}
-use Rattle.xmp_fits.proofs.GoodSteps.{Stays, onward_stays, good_opened, good_closed}
+use Rattle.xmp_walk.specs.Program.{item_of, items_of, block_of, stmt_of, inside_item, task_step, last_in, main_items}
+use Rattle.xmp_fits.proofs.Laters.{begins_refl, mappings_refl, Later, Scopes, Widened, widened_refl}
+use Rattle.xmp_fits.proofs.GoodSteps.{Stays, good_opened, good_closed}
 use Rattle.xmp_walk.specs.MappingLines.{mapping_of}
-use Rattle.xmp_fits.proofs.KeptRuns.{Ends, ends_then, Goes, goes_refl, goes_trans, goes_then, GoesOn, Kept, Going, ◌>>=◌, pure}
+use Rattle.xmp_fits.proofs.KeptRuns.{ends_then, Goes, goes_refl, goes_trans, goes_then, GoesOn, Kept, Going, ◌>>=◌, pure}
 use Rattle.xmp_fits.proofs.KeptSteps.{typed, directive_at}
 use Rattle.xmp_fits.proofs.KeptLines.{declaration_kept}
 use Rattle.xmp_fits.proofs.KeptMappings.{mapping_kept}

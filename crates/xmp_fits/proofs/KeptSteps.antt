@@ -1,6 +1,6 @@
 -- The single steps of the walk go on and keep a world good.
-use Rattle.std.proofs.Common.{◌≡◌, ◌∙◌, refl, sym, ap, ◌++◌, ◌∷◌, [], ℕ, ◌+◌, ◌<◌, List, Bool, true, false, Option, Some, None, length, length-append, map, arith}
-use Rattle.std.specs.Prelude.{⊤, ℤ, not, ◌||◌, drop, slice_get, is_some}
+use Rattle.std.proofs.Common.{◌≡◌, refl, ◌++◌, ◌∷◌, [], ℕ, List, Bool, true, false, Option, Some, None, length, map}
+use Rattle.std.specs.Prelude.{⊤, ℤ, not, ◌||◌, is_some}
 use Rattle.xmp_base.specs.declared.place.Place.{Place}
 use Rattle.xmp_num.specs.declared.types.Ty.{Ty}
 use Rattle.xmp_tree.specs.declared.parts.Name as named
@@ -25,9 +25,9 @@ use Rattle.xmp_walk.specs.Rules.{unless, greater}
 use Rattle.xmp_walk.specs.Expressions.{expr_of, reference_of, call, arguments_of, each_next, next_of, no_parts, is_function, may_name}
 use Rattle.xmp_walk.specs.Walk as walk
 use Rattle.xmp_walk.specs.Walk.{first_of_two, is_outermost, is_reserved}
-use Rattle.xmp_fits.proofs.Laters.{Begins, begins_refl, begins_with, LaterMappings, mappings_refl, Later, Scopes, Widened, widened_refl, Onward}
-use Rattle.xmp_fits.proofs.GoodWorlds.{Own, Good, IsTrueIn}
-use Rattle.xmp_fits.proofs.GoodSteps.{Stays, onward_stays, good_same, good_declared, get_last}
+use Rattle.xmp_fits.proofs.Laters.{Begins, begins_refl, begins_with, LaterMappings, mappings_refl, Scopes, Widened, widened_refl, Onward}
+use Rattle.xmp_fits.proofs.GoodWorlds.{Own, IsTrueIn}
+use Rattle.xmp_fits.proofs.GoodSteps.{onward_stays, good_same, good_declared, get_last}
 use Rattle.xmp_fits.proofs.KeptRuns.{Goes, goes_refl, Kept, Going, ◌>>=◌, pure}
 
 -- ---- worlds that have more

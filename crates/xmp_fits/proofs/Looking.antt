@@ -1,10 +1,8 @@
 -- Runs of the walk that declare nothing, and what holds at their ends of the names as they are, where no rule breaks.
-use Rattle.std.proofs.Common.{◌≡◌, ◌∙◌, sym, ap, refl, subst, ◌++◌, ◌∷◌, [], ℕ, ℤ, Bool, true, false, List, Option, Some, None, length, map}
+use Rattle.std.proofs.Common.{◌≡◌, ◌∙◌, sym, ap, refl, subst, ◌++◌, ◌∷◌, [], Bool, true, false, List, Option, Some, None, map}
 use Rattle.std.specs.Prelude.{⊤, not, is_some}
 use Rattle.std.specs.List.{AllByRecursion}
 use Rattle.xmp_base.specs.declared.place.Place.{Place}
-use Rattle.xmp_num.specs.declared.types.Ty.{Ty}
-use Rattle.xmp_num.specs.declared.types.Ty.TheVariants.{Int, Long}
 use Rattle.xmp_prog.specs.declared.parts.ProgParts.{ProgParts}
 use Rattle.xmp_tree.specs.declared.parts.Name as named
 use Rattle.xmp_tree.specs.declared.parts.Call.{Call}
@@ -13,12 +11,9 @@ use Rattle.xmp_tree.specs.declared.parts.Reference.{Reference}
 use Rattle.xmp_tree.specs.declared.expression.Expr.{Expr}
 use Rattle.xmp_scopes.specs.Names as scope
 use Rattle.xmp_walk.specs.declared.names.Meaning.{Meaning}
-use Rattle.xmp_walk.specs.declared.names.Meaning.TheVariants.{Scalar, Array, Nodes, Template, Function}
 use Rattle.xmp_walk.specs.declared.names.Environment.{Environment}
 use Rattle.xmp_walk.specs.declared.rules.Rule.{Rule}
 use Rattle.xmp_walk.specs.declared.rules.Rule.TheVariants.{N1, N3, N4, N5}
-use Rattle.xmp_walk.specs.declared.typed.Operand.{Operand}
-use Rattle.xmp_walk.specs.declared.typed.Parts.{Parts}
 use Rattle.xmp_walk.specs.declared.world.World.{World}
 use Rattle.xmp_walk.specs.Rules.{unless}
 use Rattle.xmp_walk.specs.Expressions.{may_name, is_function, expr_of, reference_of, call, arguments_of, each_next, next_of, no_parts}
@@ -27,7 +22,6 @@ use Rattle.xmp_walk.specs.Walk.{Step, Gave, Run, and_then, a_scalar, an_int_scal
 use Rattle.xmp_elab.proofs.Unbroken.{left_none, right_none, holds}
 use Rattle.xmp_fits.proofs.KeptRuns.{Ends, ends_then, ends_map}
 use Rattle.xmp_fits.proofs.Holding.{IfThere}
-use Rattle.xmp_fits.proofs.TermsFit.{Seen}
 use Rattle.xmp_fits.proofs.StepsFit.{IsPlace, reference_place}
 use Rattle.xmp_fits.proofs.ScopedFits.{Sees}
 use Rattle.xmp_fits.proofs.SlotsSeen.{expr_sees, reference_sees, call_is_seen, rest_sees}

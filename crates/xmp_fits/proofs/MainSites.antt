@@ -1,11 +1,8 @@
 -- Main behind the functions, and the scalars of a whole program.
-use Rattle.std.proofs.Common.{◌≡◌, ◌∙◌, sym, ap, refl, subst, ◌⊎◌, inl, inr, ⊎_elim, ◌++◌, ◌∷◌, [], ℕ, ◌+◌, ◌<◌, ◌≤◌, ◌||◌, ◌&&◌, Bool, true, false, List, Option, Some, None, length, length-append, map, arith}
-use Rattle.std.specs.Prelude.{⊤, not, ◌==◌, nat_lt, is_some, drop}
+use Rattle.std.proofs.Common.{◌≡◌, ◌∙◌, sym, ap, refl, subst, inr, ⊎_elim, ◌++◌, ◌∷◌, [], ℕ, ◌<◌, ◌≤◌, ◌||◌, Bool, true, false, List, Option, length, arith}
+use Rattle.std.specs.Prelude.{⊤, not}
 use Rattle.std.specs.List.{list_any, list_all, flat_map, AllByRecursion}
-use Rattle.std.proofs.lemmas.Bool.{lt-ltb, ltb-true}
 use Rattle.xmp_base.specs.declared.place.Place.{Place}
-use Rattle.xmp_num.specs.declared.types.Ty.{Ty}
-use Rattle.xmp_scopes.specs.Names as scope
 use Rattle.xmp_prog.specs.declared.statements.Stmt as made
 use Rattle.xmp_prog.specs.declared.statements.Stmt.TheVariants as s
 use Rattle.xmp_prog.specs.declared.parts.Function as made_function
@@ -13,54 +10,41 @@ use Rattle.xmp_prog.specs.declared.parts.ProgParts.{ProgParts}
 use Rattle.xmp_prog.specs.declared.parts.Start.{Start}
 use Rattle.xmp_prog.specs.Numbers.{is_in}
 use Rattle.xmp_prog.specs.Statements.{slots_of_stmt}
-use Rattle.xmp_prog.specs.Scopes.{declared_in, scalars_fit, in_main, in_function}
+use Rattle.xmp_prog.specs.Scopes.{declared_in, scalars_fit, in_main}
 use Rattle.xmp_tree.specs.declared.parts.Name as named
 use Rattle.xmp_tree.specs.declared.parts.TypeWords.{TypeWords}
-use Rattle.xmp_tree.specs.declared.declaration.Declarator.{Declarator}
-use Rattle.xmp_tree.specs.declared.declaration.Declarator.TheVariants as declarator
 use Rattle.xmp_tree.specs.declared.expression.Expr.{Expr}
 use Rattle.xmp_tree.specs.declared.program.Function.{Function}
 use Rattle.xmp_tree.specs.declared.program.TopItem.{TopItem}
 use Rattle.xmp_tree.specs.declared.program.TopItem.TheVariants as top
 use Rattle.xmp_tree.specs.declared.program.Tree.{Tree}
 use Rattle.xmp_walk.specs.declared.names.Region.TheVariants as region
-use Rattle.xmp_walk.specs.declared.names.Region.{Region}
-use Rattle.xmp_walk.specs.declared.names.Meaning.{Meaning}
 use Rattle.xmp_walk.specs.declared.names.Meaning.TheVariants as meaning
-use Rattle.xmp_walk.specs.declared.rules.Rule.TheVariants.{N2, N7}
-use Rattle.xmp_walk.specs.declared.typed.Operand.{Operand}
+use Rattle.xmp_walk.specs.declared.rules.Rule.TheVariants.{N7}
 use Rattle.xmp_walk.specs.declared.world.World.{World}
 use Rattle.xmp_walk.specs.Rules.{unless}
 use Rattle.xmp_walk.specs.Walk as walk
 use Rattle.xmp_walk.specs.Walk.{Step, Gave, Run, and_then, each}
-use Rattle.xmp_walk.specs.Declarations.{listed, inner, type_of, start_of, file_declarator, file_declaration}
+use Rattle.xmp_walk.specs.Declarations.{type_of}
 use Rattle.xmp_walk.specs.Statements.{return_of}
-use Rattle.xmp_walk.specs.Program.{items_of, inside_item, parameters_in, parameter_of, function_of, main_items, is_main_head, main_of, top_of, last_top, tops_of, coarray_top, start_world, with_count, program_of}
-use Rattle.xmp_elab.proofs.Unbroken.{left_none, right_none, left_true, right_true, holds}
-use Rattle.xmp_fits.proofs.Laters.{Scopes, Later, unbroken_before}
+use Rattle.xmp_walk.specs.Program.{items_of, parameters_in, parameter_of, main_items, is_main_head, main_of, top_of, last_top, tops_of, coarray_top, start_world, with_count, program_of}
+use Rattle.xmp_elab.proofs.Unbroken.{right_none, left_true, right_true, holds}
+use Rattle.xmp_fits.proofs.Laters.{Later, unbroken_before}
 use Rattle.xmp_fits.proofs.GoodWorlds.{Own, Good}
-use Rattle.xmp_fits.proofs.KeptRuns as kept_runs
-use Rattle.xmp_fits.proofs.KeptRuns.{Ends, ends_then, ends_map, ends_both, Goes, goes_trans, GoesOn}
-use Rattle.xmp_fits.proofs.KeptSteps.{goes_noted, declare_scalar, typed_constant}
-use Rattle.xmp_fits.proofs.KeptLines.{array_kept}
-use Rattle.xmp_fits.proofs.KeptMappings.{mapping_kept}
-use Rattle.xmp_fits.proofs.KeptStatements.{body_kept, main_body_kept}
-use Rattle.xmp_fits.proofs.Holding.{Unbroken, Holds}
-use Rattle.xmp_fits.proofs.FitPrinciple.{Facts, Forms, body_holds, main_holds}
-use Rattle.xmp_fits.proofs.FunctionSteps.{OneScope, FileGood, own_of, headed, later_headed, good_headed, left, later_left, kept_function, later_function}
+use Rattle.xmp_fits.proofs.KeptRuns.{Ends, ends_then, ends_map, ends_both, Goes}
+use Rattle.xmp_fits.proofs.KeptSteps.{goes_noted}
+use Rattle.xmp_fits.proofs.KeptStatements.{main_body_kept}
+use Rattle.xmp_fits.proofs.Holding.{Unbroken}
+use Rattle.xmp_fits.proofs.FitPrinciple.{main_holds}
+use Rattle.xmp_fits.proofs.FunctionSteps.{FileGood, own_of, headed, later_headed, good_headed, left}
 use Rattle.xmp_fits.specs.NumbersLie.{top_lies, items_lie, tree_lies}
-use Rattle.xmp_fits.proofs.ProgramWalk.{Starts, Read, Reads}
+use Rattle.xmp_fits.proofs.ProgramWalk.{Reads}
 use Rattle.xmp_fits.proofs.ProgramFits as program_fits
-use Rattle.xmp_fits.proofs.TermsFit.{Seen}
-use Rattle.xmp_fits.proofs.SameRuns.{may_see, seen_declared, Same}
-use Rattle.xmp_fits.proofs.SameSteps as same_steps
-use Rattle.xmp_fits.proofs.SameLines.{array_quiet}
-use Rattle.xmp_fits.proofs.SameMappings.{mapping_quiet}
-use Rattle.xmp_fits.proofs.ScopedForms.{Rising, rising_ends, declared_block, block_right, Right}
-use Rattle.xmp_fits.proofs.ScopedFits.{Lawful, Allows, longer, dropped, same_names, Fits, ItemsFit, items_more}
+use Rattle.xmp_fits.proofs.ScopedForms.{Rising, rising_ends, declared_block, block_right}
+use Rattle.xmp_fits.proofs.ScopedFits.{Lawful, Fits, ItemsFit, items_more}
 use Rattle.xmp_fits.proofs.ScopedSteps.{facts, forms, last_return}
 use Rattle.xmp_fits.proofs.NamedSlots.{named_slots}
-use Rattle.xmp_fits.proofs.FileSites.{in_first, in_right, in_cons, rising_in, between, is_between, Parameters, parameters_end, hidden, means_before, seen_file, FunctionSited, function_sited, Sited, sited_to, sited_slot, sited_more, FileSites, below_more, sites_same}
+use Rattle.xmp_fits.proofs.FileSites.{in_first, in_right, rising_in, between, is_between, Parameters, parameters_end, means_before, seen_file, Sited, FileSites}
 use Rattle.xmp_fits.proofs.ProgramSites.{Any, any_starts, own_facts, File, Sites, parameters_go, top_sites}
 use Rattle.std.proofs.lemmas.Option.{none-some}
 

@@ -1,7 +1,6 @@
 -- The scalars that a directive names are the program's; and directives stand in no function other than main.
-use Rattle.std.proofs.Common.{◌≡◌, ◌∙◌, sym, ap, refl, subst, ◌++◌, ◌∷◌, [], ◌&&◌, not, ℕ, ℤ, Bool, true, false, List, Option, Some, None, length, map}
-use Rattle.std.specs.Prelude.{⊤, slice_get, is_some}
-use Rattle.std.specs.List.{flat_map, AllByRecursion}
+use Rattle.std.proofs.Common.{◌≡◌, ◌∙◌, ap, refl, ◌++◌, ◌∷◌, [], not, ℕ, ℤ, Bool, true, false, List, Option, Some, None, length}
+use Rattle.std.specs.List.{AllByRecursion}
 use Rattle.std.specs.Option.{unwrap_or}
 use Rattle.std.proofs.lemmas.Bool.{lt-ltb}
 use Rattle.std.proofs.lemmas.Option.{slice_get_within}
@@ -10,10 +9,8 @@ use Rattle.xmp_num.specs.declared.types.Ty.{Ty}
 use Rattle.xmp_num.specs.declared.types.Ty.TheVariants.{Int, Long}
 use Rattle.xmp_num.specs.declared.types.RedOp.{RedOp}
 use Rattle.xmp_scopes.specs.Names.{nearest}
-use Rattle.xmp_prog.specs.declared.statements.Name as made_name
 use Rattle.xmp_prog.specs.declared.statements.Reduction as made_reduction
 use Rattle.xmp_prog.specs.declared.parts.ProgParts.{ProgParts}
-use Rattle.xmp_prog.specs.Statements.{slots_of_point}
 use Rattle.xmp_tree.specs.declared.parts.Name as named
 use Rattle.xmp_tree.specs.declared.directive.Point.{Point}
 use Rattle.xmp_tree.specs.declared.directive.Point.TheVariants as point
@@ -22,7 +19,7 @@ use Rattle.xmp_tree.specs.declared.directive.LoopLine.{LoopLine}
 use Rattle.xmp_walk.specs.declared.names.Meaning.{Meaning}
 use Rattle.xmp_walk.specs.declared.names.Meaning.TheVariants.{Scalar, Array, Nodes, Template, Function}
 use Rattle.xmp_walk.specs.declared.loop_lines.LoopParts.{LoopParts}
-use Rattle.xmp_walk.specs.declared.rules.Rule.TheVariants.{N1, N3, N5}
+use Rattle.xmp_walk.specs.declared.rules.Rule.TheVariants.{N5}
 use Rattle.xmp_walk.specs.declared.world.World.{World}
 use Rattle.xmp_walk.specs.Rules.{unless}
 use Rattle.xmp_walk.specs.Expressions.{is_function, may_name}
@@ -33,7 +30,7 @@ use Rattle.xmp_walk.specs.Directives as directives
 use Rattle.xmp_walk.specs.Directives.{slot_or_zero, limited, made_of_point, operation_of}
 use Rattle.xmp_elab.proofs.Unbroken.{right_none, holds}
 use Rattle.xmp_fits.proofs.GoodWorlds.{Own, Good}
-use Rattle.xmp_fits.proofs.GoodSteps.{Stays, onward_stays, begins_get, true_name}
+use Rattle.xmp_fits.proofs.GoodSteps.{onward_stays, begins_get, true_name}
 use Rattle.xmp_fits.proofs.KeptRuns.{Ends, Goes, goes_refl, goes_trans, GoesOn, Kept, Going}
 use Rattle.xmp_fits.proofs.KeptRuns as kept_runs
 use Rattle.xmp_fits.proofs.Laters.{unbroken_before}

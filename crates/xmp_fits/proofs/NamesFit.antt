@@ -7,14 +7,13 @@ use Rattle.std.proofs.lemmas.Option.{same_Some, none-some}
 use Rattle.xmp_base.specs.declared.place.Place.{Place}
 use Rattle.xmp_num.specs.declared.types.Ty.{Ty}
 use Rattle.xmp_num.specs.declared.types.Ty.TheVariants.{Int}
-use Rattle.xmp_scopes.specs.Names.{Name, is_same, nearest, depth_of}
+use Rattle.xmp_scopes.specs.Names.{is_same, nearest, depth_of}
 use Rattle.xmp_prog.specs.declared.expressions.Expr.{Expr}
 use Rattle.xmp_prog.specs.declared.expressions.Expr.TheVariants as e
 use Rattle.xmp_prog.specs.declared.expressions.Access.{Access, roll-Access}
 use Rattle.xmp_prog.specs.declared.expressions.Expr.TheOpen.{Access-F}
 use Rattle.xmp_prog.specs.declared.parts.Function as made_function
 use Rattle.xmp_prog.specs.declared.parts.ProgParts.{ProgParts}
-use Rattle.xmp_prog.specs.Tests.{is_image}
 use Rattle.xmp_prog.specs.Fits.{has_coarrays}
 use Rattle.xmp_tree.specs.declared.parts.Name as named
 use Rattle.xmp_walk.specs.declared.names.Meaning.{Meaning}
@@ -27,12 +26,12 @@ use Rattle.xmp_walk.specs.declared.rules.Rule.{Rule}
 use Rattle.xmp_walk.specs.declared.rules.Rule.TheVariants.{N1, N3, N5, N10}
 use Rattle.xmp_walk.specs.declared.typed.Typed.{Typed}
 use Rattle.xmp_walk.specs.declared.typed.Parts.{Parts}
-use Rattle.xmp_walk.specs.Rules.{unless, noted, joined}
+use Rattle.xmp_walk.specs.Rules.{unless, noted}
 use Rattle.xmp_walk.specs.Typing.{operand_of}
-use Rattle.xmp_walk.specs.Expressions.{add, is_function, is_first, is_own, may_name, unknown, of_type, is_nothing, cell_of, cell, read_as, image_notes, read, intrinsic, call_intrinsic, called, call_of, call_as, may_call, judged_call, call}
+use Rattle.xmp_walk.specs.Expressions.{add, is_function, is_first, may_name, unknown, of_type, is_nothing, cell_of, read_as, image_notes, read, intrinsic, call_intrinsic, called, call_of, call_as, may_call, judged_call, call}
 use Rattle.xmp_elab.proofs.Unbroken.{left_none, right_none, left_true, right_true, holds}
 use Rattle.xmp_fits.proofs.GoodWorlds.{ArrayOf}
-use Rattle.xmp_fits.proofs.TermsFit.{NoneInside, Seen, ExprFits, EachFits, each_append}
+use Rattle.xmp_fits.proofs.TermsFit.{NoneInside, ExprFits, EachFits, each_append}
 use Rattle.xmp_fits.proofs.TermForms.{fits_scalar, fits_cell, fits_element, fits_image, fits_call, fits_node, fits_nodes}
 use Rattle.xmp_fits.proofs.OperandsFit.{Fits, Right}
 

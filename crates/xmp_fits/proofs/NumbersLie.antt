@@ -1,45 +1,22 @@
 -- The numbers of a tree lie in their types: a test of each part of it.
-use Rattle.std.proofs.Common.{◌≡◌, ◌∙◌, refl, sym, ap, List, [], ◌∷◌, map, Bool, true, ◌&&◌, Option, Some, None}
+use Rattle.std.proofs.Common.{◌≡◌, ◌∙◌, refl, sym, ap, List, [], ◌∷◌, map, Bool, true, ◌&&◌, Some, None}
 use Rattle.std.specs.List.{list_all}
-use Rattle.std.specs.Option.{option_map}
 use Rattle.xmp_base.specs.declared.place.Place.{Place}
 use Rattle.xmp_tree.specs.declared.parts.Inside.{Inside}
-use Rattle.xmp_tree.specs.declared.parts.CommaList.{CommaList}
-use Rattle.xmp_tree.specs.declared.parts.Next.{Next}
 use Rattle.xmp_tree.specs.declared.expression.Expr.{Expr}
-use Rattle.xmp_tree.specs.declared.declaration.Declarator.{Declarator}
-use Rattle.xmp_tree.specs.declared.declaration.Declarator.TheVariants as declarator
 use Rattle.xmp_tree.specs.declared.declaration.Declaration.{Declaration}
 use Rattle.xmp_tree.specs.declared.directive.DirectiveLine.{DirectiveLine}
-use Rattle.xmp_tree.specs.declared.directive.DistForm.{DistForm}
-use Rattle.xmp_tree.specs.declared.directive.DistForm.TheVariants as form
-use Rattle.xmp_tree.specs.declared.directive.Point.{Point}
-use Rattle.xmp_tree.specs.declared.directive.Point.TheVariants as point
-use Rattle.xmp_tree.specs.declared.directive.Section.{Section}
-use Rattle.xmp_tree.specs.declared.directive.Section.TheVariants as section
-use Rattle.xmp_tree.specs.declared.directive.Sections.{Sections}
 use Rattle.xmp_tree.specs.declared.directive.Mapping.{Mapping}
-use Rattle.xmp_tree.specs.declared.directive.Mapping.TheVariants as mapping
 use Rattle.xmp_tree.specs.declared.directive.LoopLine.{LoopLine}
 use Rattle.xmp_tree.specs.declared.directive.TaskLine.{TaskLine}
-use Rattle.xmp_tree.specs.declared.statement.Simple.{Simple}
-use Rattle.xmp_tree.specs.declared.statement.Simple.TheVariants as simple
-use Rattle.xmp_tree.specs.declared.statement.ForFirst.{ForFirst}
-use Rattle.xmp_tree.specs.declared.statement.ForFirst.TheVariants as for_first
 use Rattle.xmp_tree.specs.declared.statement.ForHead.{ForHead}
 use Rattle.xmp_tree.specs.declared.statement.Plain.{Plain}
-use Rattle.xmp_tree.specs.declared.statement.Plain.TheVariants as plain
 use Rattle.xmp_tree.specs.declared.statement.BlockItem.{BlockItem}
 use Rattle.xmp_tree.specs.declared.statement.BlockItem.TheVariants as b
-use Rattle.xmp_tree.specs.declared.statement.Stmt.{Stmt, fold-Stmt, fold-roll-Stmt}
+use Rattle.xmp_tree.specs.declared.statement.Stmt.{Stmt, fold-roll-Stmt}
 use Rattle.xmp_tree.specs.declared.statement.Stmt.TheOpen.{Stmt-F}
 use Rattle.xmp_tree.specs.declared.statement.Stmt.TheVariants as s
-use Rattle.xmp_tree.specs.declared.program.Function.{Function}
-use Rattle.xmp_tree.specs.declared.program.TopItem.{TopItem}
-use Rattle.xmp_tree.specs.declared.program.TopItem.TheVariants as top
-use Rattle.xmp_tree.specs.declared.program.Tree.{Tree}
-use Rattle.xmp_walk.specs.Declarations.{listed}
-use Rattle.xmp_fits.specs.NumbersLie.{arguments_lie, declaration_lies, head_lies, item_step, items_lie, lies_step, loop_line_lies, mapping_lies, numbers_lie, plain_lies, reference_lies, rest_lies, stmt_lies, subscripts_lie, task_line_lies, task_step, tasks_lie}
+use Rattle.xmp_fits.specs.NumbersLie.{declaration_lies, head_lies, item_step, items_lie, lies_step, loop_line_lies, mapping_lies, numbers_lie, plain_lies, stmt_lies, task_line_lies, task_step, tasks_lie}
 
 -- ---- parts
 

@@ -1,7 +1,6 @@
 -- The induction over statements for what speaks only of the world after a statement, and stays true in later ones: such are the
 -- tests of single statements. What a `for` makes is told by the forms that it is made of.
-use Rattle.std.proofs.Common.{◌≡◌, ◌∙◌, refl, sym, ap, subst, ◌++◌, ◌∷◌, [], List, Bool, true, false, Option, Some, None, length, map}
-use Rattle.std.specs.Prelude.{⊤}
+use Rattle.std.proofs.Common.{◌≡◌, ◌∙◌, refl, ap, ◌++◌, ◌∷◌, [], List, Bool, true, false, Option, Some, None, length}
 use Rattle.std.specs.List.{AllByRecursion}
 use Rattle.std.proofs.lemmas.Option.{none-some}
 use Rattle.xmp_base.specs.declared.place.Place.{Place}
@@ -31,7 +30,7 @@ use Rattle.xmp_walk.specs.Walk as walk
 use Rattle.xmp_walk.specs.Walk.{Step, Gave}
 use Rattle.xmp_walk.specs.MappingLines.{mapping_of}
 use Rattle.xmp_walk.specs.Declarations.{local_declarator}
-use Rattle.xmp_walk.specs.Statements.{simple_of, first_of, set, one, right_side, in_block, counted_loop, counted_with, begun, condition, last_of, uncounted, loop_in, loop_of, shape_of}
+use Rattle.xmp_walk.specs.Statements.{simple_of, first_of, set, one, right_side, in_block, counted_with, begun, condition, last_of, uncounted, loop_in, loop_of, shape_of}
 use Rattle.xmp_walk.specs.Directives.{loop_line, judged_loop, nest_of, task_line, made_task}
 use Rattle.xmp_walk.specs.Program.{plain_of}
 use Rattle.xmp_walk.specs.Expressions.{is_function}

@@ -1,6 +1,6 @@
 -- What is made of an operation fits where its operands do.
-use Rattle.std.proofs.Common.{◌≡◌, ◌∙◌, sym, ap, refl, subst, ◌++◌, ◌∷◌, [], ◌&&◌, ◌||◌, ℕ, ℤ, pos, negsuc, Bool, true, false, List, Option, Some, None}
-use Rattle.std.specs.Prelude.{⊤, if◌then◌else◌}
+use Rattle.std.proofs.Common.{◌≡◌, ◌∙◌, sym, ap, refl, subst, ◌++◌, ◌∷◌, [], ◌||◌, ℤ, pos, negsuc, Bool, true, false, List, Some}
+use Rattle.std.specs.Prelude.{⊤}
 use Rattle.std.specs.List.{AllByRecursion}
 use Rattle.xmp_base.specs.declared.place.Place.{Place}
 use Rattle.xmp_num.specs.declared.types.Ty.{Ty}
@@ -26,7 +26,7 @@ use Rattle.xmp_walk.specs.declared.typed.Value.TheVariants.{Named, Trapping, Kno
 use Rattle.xmp_walk.specs.declared.typed.Typed.{Typed}
 use Rattle.xmp_walk.specs.declared.typed.Operand.{Operand}
 use Rattle.xmp_walk.specs.Rules.{joined}
-use Rattle.xmp_walk.specs.Typing.{operator_of, joint, value_type, stands, binary_value, both_value, either_value, converted, chosen_value, is_of, convert, as_type, operand, typed, number, arithmetic, compare, shift, operator, operand_of, binary, unary, cast, chosen, choose}
+use Rattle.xmp_walk.specs.Typing.{operator_of, joint, value_type, binary_value, both_value, either_value, converted, chosen_value, convert, as_type, operand, typed, number, arithmetic, compare, shift, operator, operand_of, binary, unary, cast, chosen, choose}
 use Rattle.xmp_walk.specs.Expressions.{chain}
 use Rattle.xmp_elab.proofs.Unbroken.{left_none, right_none}
 use Rattle.xmp_fits.proofs.ValuesLie.{Lies, wrap_lies, binary_lies, widened, converted_lies, both_lies, either_lies, chosen_lies}

@@ -1,5 +1,5 @@
 -- The parts that are made at the end of a walk extend each world of it.
-use Rattle.std.proofs.Common.{◌≡◌, ◌∙◌, refl, sym, ap, subst, ◌++◌, [], ℕ, List, Bool, true, false, Option, Some, None}
+use Rattle.std.proofs.Common.{◌≡◌, ◌∙◌, refl, sym, ap, [], ℕ, List, Bool, true, false, Option, Some, None}
 use Rattle.std.specs.Prelude.{slice_get}
 use Rattle.std.proofs.lemmas.List.{append-nil}
 use Rattle.xmp_map.specs.declared.template.Template.{Template}
@@ -12,11 +12,11 @@ use Rattle.xmp_prog.specs.Fits.{has_coarrays}
 use Rattle.xmp_walk.specs.declared.names.Array.{Array}
 use Rattle.xmp_walk.specs.declared.mappings.Align.{Align}
 use Rattle.xmp_walk.specs.declared.world.World.{World}
-use Rattle.xmp_elab.specs.Parts.{IsArray, IsHome, IsAligned, IsSpread, Made, kind_of}
+use Rattle.xmp_elab.specs.Parts.{IsArray, IsHome, IsAligned, Made, kind_of}
 use Rattle.xmp_walk.specs.MappingRules.{align_of}
 use Rattle.xmp_elab.proofs.MadeLists.{made_here}
 use Rattle.xmp_fits.proofs.Laters.{Begins, begins_trans, Later}
-use Rattle.xmp_fits.proofs.GoodWorlds.{SameArray, ArrayOf, Extends}
+use Rattle.xmp_fits.proofs.GoodWorlds.{ArrayOf, Extends}
 use Rattle.xmp_fits.proofs.GoodSteps.{begins_get}
 
 -- What extends a world extends those before it.

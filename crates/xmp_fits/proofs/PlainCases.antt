@@ -1,18 +1,14 @@
 -- Statements and directives with no statement inside pass the tests of terms.
-use Rattle.std.proofs.Common.{◌≡◌, ◌∙◌, sym, ap, refl, subst, ◌++◌, ◌∷◌, [], ◌-◌, ◌&&◌, ◌||◌, not, ℕ, ℤ, Bool, true, false, List, Option, Some, None, length, map}
-use Rattle.std.specs.Prelude.{⊤}
+use Rattle.std.proofs.Common.{◌≡◌, ◌∙◌, sym, refl, ◌∷◌, [], ◌-◌, Bool, true, false, List, length}
 use Rattle.std.specs.List.{list_all, AllByRecursion}
 use Rattle.xmp_base.specs.declared.place.Place.{Place}
 use Rattle.xmp_map.specs.declared.grid.NodeSet.{NodeSet}
 use Rattle.xmp_prog.specs.declared.statements.Name as made_name
-use Rattle.xmp_prog.specs.declared.statements.MoveSide.{MoveSide}
 use Rattle.xmp_prog.specs.declared.statements.Plain as made_plain
 use Rattle.xmp_prog.specs.declared.statements.Plain.TheVariants as p
-use Rattle.xmp_prog.specs.declared.statements.Stmt as made
 use Rattle.xmp_prog.specs.declared.statements.Stmt.TheVariants as s
-use Rattle.xmp_prog.specs.declared.statements.Stmt.TheOpen.{Stmt-F}
 use Rattle.xmp_prog.specs.declared.parts.ProgParts.{ProgParts}
-use Rattle.xmp_prog.specs.Statements.{slots_of_names, slots_of_side, terms_of_side}
+use Rattle.xmp_prog.specs.Statements.{slots_of_names}
 use Rattle.xmp_prog.specs.Fits.{has_coarrays}
 use Rattle.xmp_tree.specs.declared.parts.Name as named
 use Rattle.xmp_tree.specs.declared.parts.CommaList.{CommaList}
@@ -30,22 +26,21 @@ use Rattle.xmp_walk.specs.Statements as statements
 use Rattle.xmp_walk.specs.Directives as directives
 use Rattle.xmp_walk.specs.Program.{plain_of}
 use Rattle.xmp_fits.proofs.GoodWorlds.{Own, Good}
-use Rattle.xmp_fits.proofs.GoodSteps.{Stays, onward_stays}
+use Rattle.xmp_fits.proofs.GoodSteps.{onward_stays}
 use Rattle.xmp_fits.proofs.KeptRuns.{Ends, Goes, goes_refl, goes_trans, GoesOn, Kept, Going}
 use Rattle.xmp_fits.proofs.KeptRuns as kept_runs
-use Rattle.xmp_fits.proofs.KeptSteps as kept_steps
 use Rattle.xmp_fits.proofs.KeptDirectives as kept
 use Rattle.xmp_fits.proofs.Laters.{unbroken_before}
-use Rattle.xmp_fits.proofs.Endings.{opened, ends_at, later_at, directed, goes_directed}
-use Rattle.xmp_fits.proofs.Holding.{Unbroken, Holds, holds_then, each_holds}
-use Rattle.xmp_fits.specs.NumbersLie.{plain_lies, simple_lies}
+use Rattle.xmp_fits.proofs.Endings.{opened, later_at, directed, goes_directed}
+use Rattle.xmp_fits.proofs.Holding.{Holds, each_holds}
+use Rattle.xmp_fits.specs.NumbersLie.{plain_lies}
 use Rattle.xmp_fits.specs.NumbersLie.{numbers_lie}
 use Rattle.xmp_fits.proofs.RunsFit.{simple_fits, return_fits, print_fits, scan_fits, sync_fits}
-use Rattle.xmp_fits.proofs.TermsFit.{or_true, all_append}
-use Rattle.xmp_fits.proofs.TermTests.{TermPasses, StatementPasses, is_slot, all_true}
+use Rattle.xmp_fits.proofs.TermsFit.{or_true}
+use Rattle.xmp_fits.proofs.TermTests.{is_slot, all_true}
 use Rattle.xmp_fits.proofs.StmtsPass.{plain_passes, block_passes}
-use Rattle.xmp_fits.proofs.TermCases.{Reached, Here, StmtGood, SlotsGood, slots_stay, made_good}
-use Rattle.xmp_fits.proofs.NameSlots.{InNone, none_stays, directive_holds, scalar_name_holds, carried, fact_at}
+use Rattle.xmp_fits.proofs.TermCases.{Reached, StmtGood, SlotsGood, slots_stay, made_good}
+use Rattle.xmp_fits.proofs.NameSlots.{InNone, none_stays, directive_holds, scalar_name_holds, fact_at}
 
 -- A directive that stands in no function.
 no_function : (v : World) → InNone v → is_function v.names.region ≡ true → false ≡ true

@@ -1,12 +1,10 @@
 -- A statement with no statement inside fits where no rule breaks in it.
-use Rattle.std.proofs.Common.{◌≡◌, ◌∙◌, sym, ap, refl, subst, ◌++◌, ◌∷◌, [], ◌&&◌, ◌||◌, not, ◌⊎◌, inl, inr, ℕ, Bool, true, false, List, Option, Some, None, length, map}
+use Rattle.std.proofs.Common.{◌≡◌, ◌∙◌, sym, ap, refl, subst, ◌∷◌, [], ◌||◌, inl, inr, ℕ, true, List, Option, Some, None}
 use Rattle.std.specs.Prelude.{⊤, pos}
-use Rattle.std.specs.List.{list_all, flat_map, AllByRecursion}
+use Rattle.std.specs.List.{AllByRecursion}
 use Rattle.xmp_base.specs.declared.place.Place.{Place}
 use Rattle.xmp_num.specs.declared.types.Ty.{Ty}
 use Rattle.xmp_num.specs.declared.types.Ty.TheVariants.{Int}
-use Rattle.xmp_num.specs.declared.types.BinOp.{BinOp}
-use Rattle.xmp_num.specs.declared.types.BinOp.TheVariants as op
 use Rattle.xmp_lex.specs.declared.token.Mark.{Mark}
 use Rattle.xmp_lex.specs.declared.token.Mark.TheVariants as m
 use Rattle.xmp_prog.specs.declared.expressions.Expr as prog
@@ -16,7 +14,6 @@ use Rattle.xmp_prog.specs.declared.expressions.Expr.TheOpen.{Expr-F}
 use Rattle.xmp_prog.specs.declared.expressions.Access.{Access}
 use Rattle.xmp_prog.specs.declared.statements.Compound.{Compound}
 use Rattle.xmp_prog.specs.declared.statements.Target.{Target}
-use Rattle.xmp_prog.specs.declared.statements.Target.TheVariants as target
 use Rattle.xmp_prog.specs.declared.statements.Plain.{Plain}
 use Rattle.xmp_prog.specs.declared.statements.Plain.TheVariants as plain
 use Rattle.xmp_prog.specs.declared.statements.Stmt.{Stmt}
@@ -24,18 +21,18 @@ use Rattle.xmp_prog.specs.declared.statements.Stmt.TheVariants as s
 use Rattle.xmp_prog.specs.declared.statements.Stmt.TheOpen.{Stmt-F}
 use Rattle.xmp_prog.specs.declared.parts.ProgParts.{ProgParts}
 use Rattle.xmp_prog.specs.Numbers.{same_type}
-use Rattle.xmp_prog.specs.Terms.{Term, Of, Typed, typed, type_of, terms_of, terms_of_access, typed_step, access_step}
+use Rattle.xmp_prog.specs.Terms.{Of, Typed, terms_of, terms_of_access, typed_step, access_step}
 use Rattle.xmp_prog.specs.Statements.{Statement, Walked, WalkedTask, walk_step, walk_task, statements_of, terms_in, slots_beside, terms_of_target, slots_of_target}
-use Rattle.xmp_prog.specs.Tests.{assignment_fits, compound_fits, is_no_sync, stands_in_function, right_fits, is_shift}
+use Rattle.xmp_prog.specs.Tests.{assignment_fits, compound_fits, is_no_sync, stands_in_function, is_shift}
 use Rattle.xmp_prog.specs.Fits.{has_coarrays, PrintFits}
 use Rattle.xmp_prog.proofs.Rolls as rolls
 use Rattle.xmp_walk.specs.declared.names.Environment.{Environment}
 use Rattle.xmp_walk.specs.declared.operators.Operator.{Operator}
 use Rattle.xmp_walk.specs.declared.operators.Operator.TheVariants.{Arithmetic, Compare, Shift, Both, Either}
 use Rattle.xmp_walk.specs.declared.typed.Operand.{Operand}
-use Rattle.xmp_walk.specs.Typing.{operand, operand_of, number, joint, value_type}
+use Rattle.xmp_walk.specs.Typing.{operand, joint, value_type}
 use Rattle.xmp_walk.specs.Expressions.{is_function}
-use Rattle.xmp_walk.specs.Statements.{target_in, target_of, compound_of, set, one, call_in, call_statement, is_scalar_target, target_name}
+use Rattle.xmp_walk.specs.Statements.{target_in, target_of, compound_of, set, one}
 use Rattle.xmp_fits.proofs.TermsFit.{Seen, TermFits, ExprFits, all_append, or_true}
 use Rattle.xmp_fits.proofs.TermForms.{accessed}
 use Rattle.xmp_fits.proofs.OperandsFit.{Fits, operand_fits, of_same, number_right}

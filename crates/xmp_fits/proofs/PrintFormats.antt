@@ -1,15 +1,15 @@
 -- A format that is read byte by byte is built of pieces.
-use Rattle.std.proofs.Common.{◌≡◌, ◌∙◌, sym, ap, refl, subst, ◌++◌, ◌∷◌, [], ◌+◌, ◌-◌, ◌*◌, ◌/◌, ◌%◌, ◌<◌, ◌≤◌, ◌&&◌, ◌||◌, not, ℕ, zero, suc, Bool, true, false, List, Option, Some, None, length, map, arith, append_assoc, eqb-true}
-use Rattle.std.specs.Prelude.{⊤, ◌==◌, nat_eq, nat_lt, nat_le, if◌then◌else◌}
+use Rattle.std.proofs.Common.{◌≡◌, ◌∙◌, sym, ap, refl, subst, ◌++◌, ◌∷◌, [], ◌+◌, ◌-◌, ◌*◌, ◌/◌, ◌%◌, ◌<◌, ◌≤◌, ◌&&◌, not, ℕ, Bool, true, false, List, Option, Some, None, map, arith, append_assoc, eqb-true}
+use Rattle.std.specs.Prelude.{⊤, ◌==◌, nat_eq, nat_lt, if◌then◌else◌}
 use Rattle.std.specs.List.{list_all, flat_map}
 use Rattle.std.specs.Fmt.{decimal}
-use Rattle.std.proofs.lemmas.Bool.{ltb-true, ltb-false, eqb-false, le-leb}
+use Rattle.std.proofs.lemmas.Bool.{ltb-true, ltb-false, le-leb}
 use Rattle.std.proofs.lemmas.Fmt.{decimal_step, decimal_digit}
 use Rattle.std.proofs.lemmas.List.{append-nil}
 use Rattle.std.proofs.lemmas.Option.{same_Some, none-some}
 use Rattle.xmp_num.specs.declared.types.Ty.{Ty}
 use Rattle.xmp_num.specs.declared.types.Ty.TheVariants.{Int, Long}
-use Rattle.xmp_prog.specs.Formats.{Piece, Byte, Percent, Number, width_spelling, letters, spelling, is_piece, type_asked, IsFormat}
+use Rattle.xmp_prog.specs.Formats.{Piece, Byte, Percent, Number, width_spelling, spelling, is_piece, type_asked, IsFormat}
 use Rattle.xmp_walk.specs.declared.formats.Mode.{Mode}
 use Rattle.xmp_walk.specs.declared.formats.Mode.TheVariants as m
 use Rattle.xmp_walk.specs.Formats.{is_digit, letter, wider, after_byte, ended, conversion, conversions, agrees, all_agree, fits_types, fits_format}

@@ -1,11 +1,9 @@
 -- The functions of a program, main, and the whole of it.
-use Rattle.std.proofs.Common.{◌≡◌, ◌∙◌, refl, sym, ap, subst, ◌++◌, ◌∷◌, [], ℕ, zero, suc, ◌+◌, ◌<◌, ◌≤◌, ◌⊎◌, inl, inr, ⊎_elim, List, Bool, true, false, Option, Some, None, length, length-append, map, arith}
-use Rattle.std.specs.Prelude.{⊤, drop, slice_get, codes, is_some, ◌&&◌}
+use Rattle.std.proofs.Common.{◌≡◌, ◌∙◌, refl, sym, ap, subst, ◌++◌, ◌∷◌, [], ℕ, ◌+◌, ◌⊎◌, inl, inr, ⊎_elim, List, Bool, true, Option, Some, length, map, arith}
+use Rattle.std.specs.Prelude.{⊤, drop, slice_get}
 use Rattle.std.specs.List.{AllByRecursion, list_all, list_any}
-use Rattle.std.proofs.lemmas.Option.{none-some, same_Some, slice_get_within}
+use Rattle.std.proofs.lemmas.Option.{none-some}
 use Rattle.xmp_base.specs.declared.place.Place.{Place}
-use Rattle.xmp_num.specs.declared.types.Ty.{Ty}
-use Rattle.xmp_num.specs.declared.types.Ty.TheVariants.{Int}
 use Rattle.xmp_scopes.specs.Names as scope
 use Rattle.xmp_prog.specs.declared.statements.Stmt as made
 use Rattle.xmp_prog.specs.declared.statements.Stmt.TheVariants as s
@@ -14,41 +12,36 @@ use Rattle.xmp_prog.specs.declared.parts.Start.{Start}
 use Rattle.xmp_tree.specs.declared.parts.Name as named
 use Rattle.xmp_tree.specs.declared.parts.TypeWords.{TypeWords}
 use Rattle.xmp_tree.specs.declared.expression.Expr.{Expr}
-use Rattle.xmp_tree.specs.declared.declaration.Declarator.{Declarator}
-use Rattle.xmp_tree.specs.declared.declaration.Declarator.TheVariants as declarator
 use Rattle.xmp_tree.specs.declared.program.Function.{Function}
 use Rattle.xmp_tree.specs.declared.program.TopItem.{TopItem}
 use Rattle.xmp_tree.specs.declared.program.TopItem.TheVariants as top
 use Rattle.xmp_tree.specs.declared.program.Tree.{Tree}
-use Rattle.xmp_walk.specs.declared.names.Region.{Region}
 use Rattle.xmp_walk.specs.declared.names.Region.TheVariants as region
 use Rattle.xmp_walk.specs.declared.names.Meaning.TheVariants as meaning
-use Rattle.xmp_walk.specs.declared.typed.Operand.{Operand}
 use Rattle.xmp_walk.specs.declared.rules.Rule.TheVariants.{N7}
 use Rattle.xmp_walk.specs.declared.world.World.{World}
 use Rattle.xmp_walk.specs.Rules.{unless}
 use Rattle.xmp_walk.specs.Walk as walk
 use Rattle.xmp_walk.specs.Walk.{Step, Gave, Run, and_then, each}
-use Rattle.xmp_walk.specs.Declarations.{type_of, inner, listed, start_of, file_declarator, file_declaration}
+use Rattle.xmp_walk.specs.Declarations.{type_of, listed}
 use Rattle.xmp_walk.specs.Program.{parameters_in, parameter_of, items_of, inside_item, main_items, function_of, is_main_head, main_of, top_of, last_top, tops_of, start_world, coarray_top, program_of, with_count}
 use Rattle.xmp_elab.proofs.Unbroken.{right_none, holds, right_true, left_true}
 use Rattle.xmp_fits.specs.NumbersLie.{numbers_lie}
-use Rattle.xmp_fits.specs.NumbersLie.{there_lies, second_lies, declarator_lies, items_lie, top_lies, tree_lies}
-use Rattle.xmp_fits.proofs.Laters.{Begins, begins_refl, begins_with, names_refl, mappings_refl, Later, later_refl, later_trans, unbroken_before, Scopes, Widened}
+use Rattle.xmp_fits.specs.NumbersLie.{items_lie, top_lies, tree_lies}
+use Rattle.xmp_fits.proofs.Laters.{begins_refl, names_refl, mappings_refl, Later, later_refl, later_trans, unbroken_before, Scopes, Widened}
 use Rattle.xmp_fits.proofs.GoodWorlds.{Own, Good, being_read}
-use Rattle.xmp_fits.proofs.GoodSteps.{Stays, onward_stays, good_same, get_last, begins_length}
+use Rattle.xmp_fits.proofs.GoodSteps.{get_last}
 use Rattle.xmp_fits.proofs.KeptRuns.{Ends, ends_then, ends_map, ends_both, Goes, goes_trans, GoesOn, Kept, Going}
 use Rattle.xmp_fits.proofs.KeptRuns as kept_runs
-use Rattle.xmp_fits.proofs.KeptSteps.{widened_declared, typed_constant, declare_scalar, goes_noted}
-use Rattle.xmp_fits.proofs.KeptLines.{array_kept}
+use Rattle.xmp_fits.proofs.KeptSteps.{widened_declared, declare_scalar, goes_noted}
 use Rattle.xmp_fits.proofs.KeptMappings.{mapping_kept}
 use Rattle.xmp_fits.proofs.KeptStatements.{body_kept, main_body_kept}
 use Rattle.xmp_walk.specs.Statements.{return_of}
-use Rattle.xmp_fits.proofs.Holding.{Unbroken, Holds}
+use Rattle.xmp_fits.proofs.Holding.{Unbroken}
 use Rattle.xmp_fits.proofs.FitPrinciple.{Facts, Forms, body_holds, main_holds}
 use Rattle.xmp_fits.proofs.GoodSteps.{no_names}
 use Rattle.xmp_fits.proofs.FunctionSteps.{FileGood, OneScope, one_widened, own_of, headed, later_headed, good_headed, left, later_left, kept_function, later_function, file_good_after}
-use Rattle.xmp_fits.proofs.ProgramWalk.{ends_is, each_many, Body, FunctionOf, MainOf, Starts, body_later, function_later, Read, Reads, last_of_list, starts_stay, reads_kept, declarators_read}
+use Rattle.xmp_fits.proofs.ProgramWalk.{ends_is, each_many, FunctionOf, MainOf, Starts, body_later, function_later, Read, Reads, last_of_list, starts_stay, reads_kept, declarators_read}
 
 -- What is known at the end of a program: its main is a function, or nothing is.
 pub record Ended (f : Own → Facts) (W : Own → World → World → List made.Stmt → Type 0) (P : World → Start → Type 0) (w : World) (whole : made.Stmt) : Type 0 where

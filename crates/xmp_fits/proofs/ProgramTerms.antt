@@ -1,16 +1,15 @@
 -- All terms and statements of a program that is made of a tree pass their tests.
-use Rattle.std.proofs.Common.{◌≡◌, ◌∙◌, sym, ap, refl, subst, ◌⊎◌, inl, inr, ◌++◌, ◌∷◌, [], ◌+◌, ◌-◌, ◌<◌, ◌&&◌, ◌||◌, ℕ, zero, suc, Bool, true, false, List, Option, Some, None, length, map, arith}
-use Rattle.std.specs.Prelude.{⊤, slice_get, nat_lt}
+use Rattle.std.proofs.Common.{◌≡◌, ◌∙◌, sym, ap, refl, subst, ◌⊎◌, inl, inr, ◌++◌, ◌∷◌, [], ◌+◌, ◌-◌, ◌<◌, ◌||◌, ℕ, suc, Bool, true, false, List, Option, Some, length, arith}
+use Rattle.std.specs.Prelude.{slice_get, nat_lt}
 use Rattle.std.specs.List.{list_all, flat_map, enumerate_from, AllByRecursion}
 use Rattle.std.proofs.lemmas.Bool.{lt-ltb}
-use Rattle.xmp_num.specs.declared.types.Ty.{Ty}
 use Rattle.xmp_map.specs.Spread.{sizes_fit}
 use Rattle.xmp_prog.specs.declared.parts.Function as made_function
 use Rattle.xmp_prog.specs.declared.parts.Start.{Start}
 use Rattle.xmp_prog.specs.declared.parts.ProgParts.{ProgParts}
 use Rattle.xmp_prog.specs.declared.statements.Stmt as made
 use Rattle.xmp_prog.specs.declared.statements.Stmt.TheVariants as s
-use Rattle.xmp_prog.specs.Terms.{Term, terms_of}
+use Rattle.xmp_prog.specs.Terms.{Term}
 use Rattle.xmp_prog.specs.Statements.{Statement, statements_of, terms_in, terms_of_stmt}
 use Rattle.xmp_prog.specs.Tests.{image_fits, is_no_element, asks_no_node, calls_below, is_constant, assignment_fits, is_no_sync, stands_in_function}
 use Rattle.xmp_prog.specs.Fits.{has_coarrays, PrintFits, statements_of_program, slots_of_function, slots_of_main, all_terms, all_statements, ExpressionsFit}
@@ -19,8 +18,6 @@ use Rattle.xmp_tree.specs.declared.parts.TypeWords.{TypeWords}
 use Rattle.xmp_tree.specs.declared.expression.Expr.{Expr}
 use Rattle.xmp_tree.specs.declared.program.Tree.{Tree}
 use Rattle.xmp_base.specs.declared.place.Place.{Place}
-use Rattle.xmp_walk.specs.declared.names.Region.TheVariants as region
-use Rattle.xmp_walk.specs.declared.typed.Operand.{Operand}
 use Rattle.xmp_walk.specs.declared.world.World.{World}
 use Rattle.xmp_walk.specs.Expressions.{is_function}
 use Rattle.xmp_walk.specs.Walk as walk
@@ -29,10 +26,10 @@ use Rattle.xmp_walk.specs.Declarations.{type_of}
 use Rattle.xmp_walk.specs.Statements.{return_of}
 use Rattle.xmp_elab.specs.Parts.{Made}
 use Rattle.xmp_walk.specs.Program.{parameter_of, program_of}
-use Rattle.xmp_fits.proofs.Laters.{Later, later_refl, later_trans, unbroken_before}
-use Rattle.xmp_fits.proofs.GoodWorlds.{Own, Good, Extends, being_read}
-use Rattle.xmp_fits.proofs.GoodSteps.{Stays, onward_stays, begins_length}
-use Rattle.xmp_fits.proofs.KeptRuns.{Ends, Goes, goes_refl, goes_trans, GoesOn, Kept, Going}
+use Rattle.xmp_fits.proofs.Laters.{Later, unbroken_before}
+use Rattle.xmp_fits.proofs.GoodWorlds.{Own, Good, being_read}
+use Rattle.xmp_fits.proofs.GoodSteps.{onward_stays, begins_length}
+use Rattle.xmp_fits.proofs.KeptRuns.{Goes, GoesOn}
 use Rattle.xmp_fits.proofs.KeptSteps as kept_steps
 use Rattle.xmp_fits.proofs.KeptDirectives as kept
 use Rattle.xmp_fits.proofs.Holding.{Unbroken, Holds, each_holds}
@@ -40,18 +37,18 @@ use Rattle.xmp_fits.proofs.Endings.{ends_at}
 use Rattle.xmp_fits.proofs.FitPrinciple.{Facts, Forms}
 use Rattle.xmp_fits.proofs.OneWorld.{facts_of, forms_of}
 use Rattle.xmp_fits.proofs.PartsExtend.{extends_before, made_extends}
-use Rattle.xmp_fits.proofs.ProgramWalk.{Body, FunctionOf, MainOf, Starts}
+use Rattle.xmp_fits.proofs.ProgramWalk.{FunctionOf, MainOf, Starts}
 use Rattle.xmp_fits.proofs.ProgramFits.{Ended, program_fits}
 use Rattle.xmp_fits.specs.NumbersLie.{numbers_lie}
 use Rattle.xmp_fits.specs.NumbersLie.{tree_lies}
-use Rattle.xmp_fits.proofs.TermsFit.{TermFits, all_append}
+use Rattle.xmp_fits.proofs.TermsFit.{all_append}
 use Rattle.xmp_fits.proofs.TellsTrue.{tells}
 use Rattle.xmp_fits.proofs.RunsFit.{constant_start}
 use Rattle.xmp_fits.proofs.TermTests.{TermPasses, StatementPasses, is_slot, all_map, all_true, terms_pass}
 use Rattle.xmp_fits.proofs.ClausesHold.{EachFrom, StmtPasses, FunctionPasses, StartPasses, ProgramPasses}
 use Rattle.xmp_fits.proofs.ClausesHold as clauses
 use Rattle.xmp_fits.proofs.StmtsPass.{block_passes}
-use Rattle.xmp_fits.proofs.TermCases.{Reached, Here, back, none_inside, StmtGood, SlotsGood, slots_stay, stmt_stays}
+use Rattle.xmp_fits.proofs.TermCases.{Reached, none_inside, StmtGood, SlotsGood, slots_stay, stmt_stays}
 use Rattle.xmp_fits.proofs.NameSlots.{fact_at}
 use Rattle.xmp_fits.proofs.PlainCases.{return_good}
 use Rattle.xmp_fits.proofs.HeadCases.{declared_slot, slot_good}

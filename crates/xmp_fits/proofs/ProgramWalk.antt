@@ -1,12 +1,11 @@
 -- The walk over a whole program: what holds of the statements of each function and of main, and of the initialisers at file scope.
-use Rattle.std.proofs.Common.{◌≡◌, ◌∙◌, refl, sym, ap, subst, ◌++◌, ◌∷◌, [], ℕ, zero, suc, ◌+◌, ◌<◌, ◌≤◌, ◌⊎◌, inl, inr, ⊎_elim, List, Bool, true, false, Option, Some, None, length, length-append, map, arith}
-use Rattle.std.specs.Prelude.{⊤, slice_get, codes, is_some, ◌&&◌}
-use Rattle.std.specs.List.{AllByRecursion, list_all, list_any}
-use Rattle.std.proofs.lemmas.Option.{none-some, same_Some, slice_get_within}
+use Rattle.std.proofs.Common.{◌≡◌, ◌∙◌, refl, sym, ap, subst, ◌++◌, ◌∷◌, [], ℕ, zero, suc, ◌+◌, ◌<◌, ◌⊎◌, inl, inr, ⊎_elim, List, true, Option, Some, None, length, length-append, arith}
+use Rattle.std.specs.Prelude.{⊤, slice_get, is_some}
+use Rattle.std.specs.List.{AllByRecursion, list_all}
+use Rattle.std.proofs.lemmas.Option.{none-some, same_Some}
 use Rattle.xmp_base.specs.declared.place.Place.{Place}
 use Rattle.xmp_num.specs.declared.types.Ty.{Ty}
 use Rattle.xmp_num.specs.declared.types.Ty.TheVariants.{Int}
-use Rattle.xmp_scopes.specs.Names as scope
 use Rattle.xmp_prog.specs.declared.statements.Stmt as made
 use Rattle.xmp_prog.specs.declared.statements.Stmt.TheVariants as s
 use Rattle.xmp_prog.specs.declared.parts.Function as made_function
@@ -16,35 +15,26 @@ use Rattle.xmp_tree.specs.declared.parts.TypeWords.{TypeWords}
 use Rattle.xmp_tree.specs.declared.expression.Expr.{Expr}
 use Rattle.xmp_tree.specs.declared.declaration.Declarator.{Declarator}
 use Rattle.xmp_tree.specs.declared.declaration.Declarator.TheVariants as declarator
-use Rattle.xmp_tree.specs.declared.program.Function.{Function}
-use Rattle.xmp_tree.specs.declared.program.TopItem.{TopItem}
-use Rattle.xmp_tree.specs.declared.program.TopItem.TheVariants as top
-use Rattle.xmp_tree.specs.declared.program.Tree.{Tree}
 use Rattle.xmp_walk.specs.declared.names.Region.{Region}
 use Rattle.xmp_walk.specs.declared.names.Region.TheVariants as region
 use Rattle.xmp_walk.specs.declared.typed.Operand.{Operand}
-use Rattle.xmp_walk.specs.declared.rules.Rule.TheVariants.{N7}
 use Rattle.xmp_walk.specs.declared.world.World.{World}
-use Rattle.xmp_walk.specs.Rules.{unless}
 use Rattle.xmp_walk.specs.Walk as walk
 use Rattle.xmp_walk.specs.Walk.{Step, Gave, Run, and_then, each}
-use Rattle.xmp_walk.specs.Declarations.{type_of, inner, listed, start_of, file_declarator, file_declaration}
-use Rattle.xmp_walk.specs.Program.{parameters_in, parameter_of, items_of, inside_item, main_items, function_of, is_main_head, main_of, top_of, last_top, tops_of, start_world, coarray_top, program_of, with_count}
-use Rattle.xmp_elab.proofs.Unbroken.{right_none, holds, right_true, left_true}
+use Rattle.xmp_walk.specs.Declarations.{inner, start_of, file_declarator}
+use Rattle.xmp_walk.specs.Program.{parameter_of}
+use Rattle.xmp_elab.proofs.Unbroken.{right_true, left_true}
 use Rattle.xmp_fits.specs.NumbersLie.{numbers_lie}
-use Rattle.xmp_fits.specs.NumbersLie.{there_lies, second_lies, declarator_lies, items_lie, top_lies, tree_lies}
-use Rattle.xmp_fits.proofs.Laters.{Begins, begins_refl, begins_with, names_refl, mappings_refl, Later, later_refl, later_trans, unbroken_before, Scopes}
-use Rattle.xmp_fits.proofs.GoodWorlds.{Own, Good, being_read}
-use Rattle.xmp_fits.proofs.GoodSteps.{Stays, onward_stays, good_same, get_last, begins_length}
-use Rattle.xmp_fits.proofs.KeptRuns.{Ends, ends_then, ends_map, ends_both, Goes, goes_trans, GoesOn, Kept, Going}
-use Rattle.xmp_fits.proofs.KeptRuns as kept_runs
-use Rattle.xmp_fits.proofs.KeptSteps.{typed_constant, declare_scalar, goes_noted}
+use Rattle.xmp_fits.specs.NumbersLie.{there_lies, second_lies, declarator_lies}
+use Rattle.xmp_fits.proofs.Laters.{begins_refl, begins_with, names_refl, mappings_refl, Later, later_refl, later_trans, unbroken_before}
+use Rattle.xmp_fits.proofs.GoodWorlds.{Own, Good}
+use Rattle.xmp_fits.proofs.GoodSteps.{good_same}
+use Rattle.xmp_fits.proofs.KeptRuns.{Ends, ends_then, ends_map, ends_both, Goes, GoesOn, Kept}
+use Rattle.xmp_fits.proofs.KeptSteps.{typed_constant, declare_scalar}
 use Rattle.xmp_fits.proofs.KeptLines.{array_kept}
-use Rattle.xmp_fits.proofs.KeptMappings.{mapping_kept}
-use Rattle.xmp_fits.proofs.KeptStatements.{body_kept, main_body_kept}
 use Rattle.xmp_fits.proofs.Holding.{Unbroken}
-use Rattle.xmp_fits.proofs.FitPrinciple.{Facts, Forms, body_holds, main_holds}
-use Rattle.xmp_fits.proofs.FunctionSteps.{FileGood, one_widened, own_of, headed, later_headed, good_headed, left, later_left, kept_function, later_function, file_good_after}
+use Rattle.xmp_fits.proofs.FitPrinciple.{Facts, Forms}
+use Rattle.xmp_fits.proofs.FunctionSteps.{FileGood, one_widened}
 
 -- ---- steps
 

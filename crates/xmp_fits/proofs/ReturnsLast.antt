@@ -1,5 +1,5 @@
 -- In a main that breaks no rule no statement is a `return` but the last one of its body.
-use Rattle.std.proofs.Common.{◌≡◌, ◌∙◌, sym, ap, refl, subst, ◌⊎◌, inl, inr, ⊎_elim, ◌++◌, ◌∷◌, [], ℕ, zero, suc, ◌+◌, ◌≤◌, ◌||◌, not, List, Bool, true, false, Option, Some, None, map, length, arith}
+use Rattle.std.proofs.Common.{◌≡◌, ◌∙◌, sym, ap, refl, ◌⊎◌, inl, inr, ⊎_elim, ◌++◌, ◌∷◌, [], ℕ, ◌+◌, ◌||◌, not, List, true, false, Option, Some, None, map, length, arith}
 use Rattle.std.specs.Prelude.{⊤, nat_le, is_some}
 use Rattle.std.proofs.Common.{cond}
 use Rattle.std.specs.List.{AllByRecursion, count_by, last_or, flat_map}
@@ -9,7 +9,6 @@ use Rattle.std.proofs.Math.Nat.{zero-add}
 use Rattle.std.proofs.lemmas.Bool.{le-leb}
 use Rattle.xmp_base.specs.declared.place.Place.{Place}
 use Rattle.xmp_num.specs.declared.types.Ty.{Ty}
-use Rattle.xmp_map.specs.declared.grid.NodeSet.{NodeSet}
 use Rattle.xmp_prog.specs.declared.expressions.Expr as prog
 use Rattle.xmp_prog.specs.declared.expressions.Expr.TheOpen.{Expr-F}
 use Rattle.xmp_prog.specs.declared.expressions.Access.{Access}
@@ -18,14 +17,13 @@ use Rattle.xmp_prog.specs.declared.statements.Stmt.{Stmt, out-Stmt, out-roll-Stm
 use Rattle.xmp_prog.specs.declared.statements.Stmt.TheVariants as s
 use Rattle.xmp_prog.specs.declared.statements.Stmt.TheOpen.{Stmt-F}
 use Rattle.xmp_prog.specs.declared.statements.Task.{Task}
-use Rattle.xmp_prog.specs.Statements.{Statement, Walked, WalkedTask, statements_of, walk_step, walk_task, walked, writes_of}
+use Rattle.xmp_prog.specs.Statements.{Statement, Walked, WalkedTask, statements_of, walk_step, walk_task, walked}
 use Rattle.xmp_prog.specs.Tests.{is_return, returns_in, returns_of, last_returns, returns_last}
 use Rattle.xmp_prog.proofs.Rolls.{at_block, at_plain}
 use Rattle.xmp_tree.specs.declared.expression.Expr.{Expr}
 use Rattle.xmp_tree.specs.declared.declaration.Declarator.{Declarator}
 use Rattle.xmp_tree.specs.declared.declaration.Declarator.TheVariants as declarator
 use Rattle.xmp_tree.specs.declared.directive.LoopLine.{LoopLine}
-use Rattle.xmp_tree.specs.declared.directive.TaskLine.{TaskLine}
 use Rattle.xmp_tree.specs.declared.statement.ForFirst.{ForFirst}
 use Rattle.xmp_tree.specs.declared.statement.ForFirst.TheVariants as for_first
 use Rattle.xmp_tree.specs.declared.statement.Plain.{Plain}
@@ -46,7 +44,7 @@ use Rattle.xmp_walk.specs.Expressions.{expr_of}
 use Rattle.xmp_walk.specs.Walk as walk
 use Rattle.xmp_walk.specs.Walk.{Step, Gave, Run, and_then, is_main, is_known, first_place}
 use Rattle.xmp_walk.specs.Declarations.{local_declarator, declare_array, listed, inner}
-use Rattle.xmp_walk.specs.Statements.{simple_of, first_of, set, compound_of, call_in, call_statement, return_of}
+use Rattle.xmp_walk.specs.Statements.{simple_of, first_of, set, compound_of, call_in, return_of}
 use Rattle.xmp_walk.specs.Directives.{judged_loop, nest_of, task_line, loop_line, made_task, array_name, scalar_name, set_of, side_of, sections_match}
 use Rattle.xmp_prog.specs.Directives.{sections_in}
 use Rattle.xmp_walk.specs.Program.{plain_of, program_of}
@@ -58,10 +56,9 @@ use Rattle.xmp_fits.proofs.Nests.{out_block}
 use Rattle.xmp_fits.proofs.NestsPass.{nest_passes}
 use Rattle.xmp_fits.proofs.AllInside.{AllIn, AllInTask, each_stmt, in_plain, in_block, in_if, in_while, in_counted, in_loop, in_task, in_tasks}
 use Rattle.xmp_fits.proofs.GoodWorlds.{Own, Good}
-use Rattle.xmp_fits.proofs.GoodSteps.{Stays}
 use Rattle.xmp_fits.proofs.KeptRuns.{Ends, ends_map, Goes}
 use Rattle.xmp_fits.proofs.Holding.{Unbroken, Holds}
-use Rattle.xmp_fits.proofs.FitPrinciple.{Facts, Forms}
+use Rattle.xmp_fits.proofs.FitPrinciple.{Forms}
 use Rattle.xmp_fits.proofs.ProgramWalk.{MainOf, Starts}
 use Rattle.xmp_fits.proofs.ProgramFits.{Ended, program_fits}
 use Rattle.xmp_fits.proofs.OneWorld.{Tests, Cases, FirstFits, facts_of, forms_of}

@@ -1,7 +1,6 @@
 -- What the walk makes of a statement with no statement inside fits, where no rule breaks in it.
-use Rattle.std.proofs.Common.{◌≡◌, ◌∙◌, sym, ap, refl, subst, ◌++◌, ◌∷◌, [], ◌&&◌, ◌||◌, not, inl, inr, ℕ, Bool, true, false, List, Option, Some, None, length, map}
-use Rattle.std.specs.Prelude.{⊤}
-use Rattle.std.specs.List.{list_all, flat_map, AllByRecursion}
+use Rattle.std.proofs.Common.{◌≡◌, ◌∙◌, sym, ap, refl, subst, ◌++◌, [], ◌||◌, not, ℕ, Bool, true, false, List, map}
+use Rattle.std.specs.List.{AllByRecursion}
 use Rattle.xmp_base.specs.declared.place.Place.{Place}
 use Rattle.xmp_num.specs.declared.types.Ty.{Ty}
 use Rattle.xmp_prog.specs.declared.expressions.Expr as prog
@@ -12,10 +11,8 @@ use Rattle.xmp_prog.specs.declared.expressions.Access.{Access}
 use Rattle.xmp_prog.specs.declared.statements.Target.{Target}
 use Rattle.xmp_prog.specs.declared.statements.Target.TheVariants as target
 use Rattle.xmp_prog.specs.declared.statements.Plain.TheVariants as plain
-use Rattle.xmp_prog.specs.declared.statements.Stmt as made
-use Rattle.xmp_prog.specs.declared.statements.Stmt.TheVariants as s
 use Rattle.xmp_prog.specs.declared.parts.ProgParts.{ProgParts}
-use Rattle.xmp_prog.specs.Terms.{Of, type_of, terms_of, terms_of_list}
+use Rattle.xmp_prog.specs.Terms.{type_of, terms_of}
 use Rattle.xmp_prog.specs.Tests.{is_constant}
 use Rattle.xmp_prog.specs.Fits.{has_coarrays}
 use Rattle.xmp_prog.proofs.Rolls as rolls
@@ -37,19 +34,19 @@ use Rattle.xmp_walk.specs.Rules.{unless}
 use Rattle.xmp_walk.specs.Typing.{operand_of}
 use Rattle.xmp_walk.specs.Expressions.{is_function, no_parts, each_next, next_of, expr_of, reference_of, call, arguments_of}
 use Rattle.xmp_walk.specs.Walk.{is_known, is_main, first_place, typed_constant}
-use Rattle.xmp_walk.specs.Statements.{target_of, compound_of, set, one, call_in, call_statement, is_scalar_target, target_name, simple_of, return_of, print_of, scan_of, sync_of}
+use Rattle.xmp_walk.specs.Statements.{target_of, compound_of, one, call_in, call_statement, is_scalar_target, target_name, simple_of, return_of, print_of, scan_of, sync_of}
 use Rattle.xmp_walk.specs.Formats.{fits_format, is_scan_format}
 use Rattle.xmp_fits.proofs.PrintFormats.{is_format}
 use Rattle.xmp_elab.proofs.Unbroken.{left_none, right_none, left_true, right_true, holds}
-use Rattle.xmp_fits.proofs.TermsFit.{Seen, TermFits, ExprFits, each_types, each_terms, or_true}
+use Rattle.xmp_fits.proofs.TermsFit.{Seen, TermFits, each_types, each_terms, or_true}
 use Rattle.xmp_fits.proofs.TermForms.{call_terms}
 use Rattle.xmp_fits.proofs.OperandsFit.{Fits, IsConst}
 use Rattle.xmp_fits.proofs.NamesFit.{Tells}
-use Rattle.xmp_fits.specs.NumbersLie.{numbers_lie, reference_lies, rest_lies, arguments_lie}
+use Rattle.xmp_fits.specs.NumbersLie.{numbers_lie, reference_lies, rest_lies}
 use Rattle.xmp_fits.proofs.TreeNumbers.{expr_right}
 use Rattle.xmp_fits.specs.NumbersLie.{simple_lies}
-use Rattle.xmp_fits.proofs.StepsFit.{Gives, IsPlace, reference_right, reference_place, call_is_right, rest_right, constant_fits}
-use Rattle.xmp_fits.proofs.PlainFits.{StatementFits, AllFit, PlainFits, TargetFits, one_fits, nothing_fits, target_fits, set_fits, compound_is, one_operand}
+use Rattle.xmp_fits.proofs.StepsFit.{Gives, reference_right, reference_place, call_is_right, rest_right, constant_fits}
+use Rattle.xmp_fits.proofs.PlainFits.{AllFit, PlainFits, TargetFits, one_fits, nothing_fits, target_fits, set_fits, compound_is, one_operand}
 
 -- ---- constants
 

@@ -1,21 +1,10 @@
 -- Mapping directives: the names mean the same scalars after them.
-use Rattle.std.proofs.Common.{◌≡◌, ◌∙◌, refl, sym, ap, subst, ◌++◌, ◌∷◌, [], ℕ, suc, ◌+◌, ◌<◌, List, Bool, true, false, Option, Some, None, length, length-append, map, arith}
-use Rattle.std.specs.Prelude.{⊤, ℤ, pos, not, ◌&&◌, ◌||◌, ◌==◌, slice_get, is_some, nat_le}
-use Rattle.std.specs.List.{list_all}
+use Rattle.std.proofs.Common.{◌++◌, ◌∷◌, [], ℕ, ◌+◌, List, Bool, false, Option, Some, None, length, map}
+use Rattle.std.specs.Prelude.{⊤, ℤ, pos, not, ◌||◌}
 use Rattle.xmp_base.specs.declared.place.Place.{Place}
-use Rattle.xmp_num.specs.declared.types.Ty.{Ty}
-use Rattle.xmp_prog.specs.declared.expressions.Expr as prog
-use Rattle.xmp_prog.specs.declared.statements.Stmt as made
-use Rattle.xmp_prog.specs.declared.statements.Stmt.TheVariants as s
-use Rattle.xmp_prog.specs.declared.statements.Plain.TheVariants as p
 use Rattle.xmp_tree.specs.declared.parts.Name as named
 use Rattle.xmp_tree.specs.declared.parts.Inside.{Inside}
-use Rattle.xmp_tree.specs.declared.parts.Placed.{Placed}
 use Rattle.xmp_tree.specs.declared.expression.Expr.{Expr}
-use Rattle.xmp_tree.specs.declared.declaration.Declarator.{Declarator}
-use Rattle.xmp_tree.specs.declared.declaration.Declarator.TheVariants as declarator
-use Rattle.xmp_tree.specs.declared.declaration.Declaration.{Declaration}
-use Rattle.xmp_tree.specs.declared.directive.DirectiveLine.{DirectiveLine}
 use Rattle.xmp_tree.specs.declared.directive.DistForm.{DistForm}
 use Rattle.xmp_tree.specs.declared.directive.DistForm.TheVariants as dist
 use Rattle.xmp_tree.specs.declared.directive.AlignDimension.{AlignDimension}
@@ -24,31 +13,24 @@ use Rattle.xmp_tree.specs.declared.directive.Point.{Point}
 use Rattle.xmp_tree.specs.declared.directive.Point.TheVariants as point
 use Rattle.xmp_tree.specs.declared.directive.Mapping.{Mapping}
 use Rattle.xmp_tree.specs.declared.directive.Mapping.TheVariants as mapping
-use Rattle.xmp_lex.specs.declared.token.Mark.{Mark}
 use Rattle.xmp_scopes.specs.Names as scope
 use Rattle.xmp_walk.specs.declared.names.Meaning.{Meaning}
-use Rattle.xmp_walk.specs.declared.names.Meaning.TheVariants.{Array, Nodes, Template}
-use Rattle.xmp_walk.specs.declared.mappings.Mappings.{Mappings}
-use Rattle.xmp_walk.specs.declared.mappings.NodesLine.{NodesLine}
-use Rattle.xmp_walk.specs.declared.mappings.TemplateLine.{TemplateLine}
+use Rattle.xmp_walk.specs.declared.names.Meaning.TheVariants.{Nodes, Template}
 use Rattle.xmp_walk.specs.declared.mappings.Form.{Form}
 use Rattle.xmp_walk.specs.declared.mappings.Form.TheVariants as form
 use Rattle.xmp_walk.specs.declared.mappings.AlignPoint.{AlignPoint}
 use Rattle.xmp_walk.specs.declared.mappings.AlignPoint.TheVariants as ap_of
-use Rattle.xmp_walk.specs.declared.rules.Rule.TheVariants.{N1, N2, N3, N8}
-use Rattle.xmp_walk.specs.declared.world.World.{World}
+use Rattle.xmp_walk.specs.declared.rules.Rule.TheVariants.{N1, N2, N3}
 use Rattle.xmp_walk.specs.Rules.{unless}
-use Rattle.xmp_walk.specs.Walk as walk
 use Rattle.xmp_walk.specs.Walk.{is_reserved, an_array, a_nodes, a_template}
-use Rattle.xmp_walk.specs.Declarations as declarations
-use Rattle.xmp_walk.specs.Declarations.{listed, inner, type_of, extent_of, extent_right}
-use Rattle.xmp_walk.specs.Directives.{signed, limited, dimensions, extents_in}
+use Rattle.xmp_walk.specs.Declarations.{listed, inner}
+use Rattle.xmp_walk.specs.Directives.{dimensions}
 use Rattle.xmp_walk.specs.MappingLines as lines
 use Rattle.xmp_walk.specs.MappingLines.{Dummies, has_dummy, line_of}
-use Rattle.xmp_fits.proofs.Laters.{begins_refl, begins_with, LaterMappings, mappings_refl}
-use Rattle.xmp_fits.proofs.SameRuns.{Same, same_refl, same_then, StaysSame, Quiet, Still, ◌>>=◌, pure, each, all}
+use Rattle.xmp_fits.proofs.Laters.{begins_refl, begins_with}
+use Rattle.xmp_fits.proofs.SameRuns.{same_refl, same_then, Quiet, Still, ◌>>=◌, pure, each}
 use Rattle.xmp_fits.proofs.SameLines.{offset_of, match_template, match_array}
-use Rattle.xmp_fits.proofs.SameSteps.{same_declared, same_mapped, judge, judged, asked, typed, typed_constant, constant, meaning_of, name_of, directive_at, stands_outermost, not_in_function}
+use Rattle.xmp_fits.proofs.SameSteps.{same_declared, same_mapped, judge, constant, meaning_of, name_of, directive_at, stands_outermost}
 
 -- ---- nodes and templates
 

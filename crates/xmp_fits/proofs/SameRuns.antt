@@ -1,5 +1,5 @@
 -- Runs of the walk after which the names mean the same scalars as before; and how such runs are put together.
-use Rattle.std.proofs.Common.{◌≡◌, ◌∙◌, refl, sym, ap, subst, ◌⊎◌, inl, inr, ◌++◌, ◌∷◌, [], ℕ, Bool, true, false, List, Option, Some, None, length}
+use Rattle.std.proofs.Common.{◌≡◌, ◌∙◌, sym, ap, subst, ◌⊎◌, inl, inr, ◌++◌, ◌∷◌, [], ℕ, Bool, true, false, List, Option, Some, None, length}
 use Rattle.std.specs.Prelude.{⊤, not, ◌||◌, is_some, if◌then◌else◌}
 use Rattle.std.specs.Option.{option_or}
 use Rattle.std.proofs.lemmas.Option.{same_Some, none-some}
@@ -7,7 +7,7 @@ use Rattle.xmp_num.specs.declared.types.Ty.{Ty}
 use Rattle.xmp_scopes.specs.Names as scope
 use Rattle.xmp_walk.specs.declared.names.Region.{Region}
 use Rattle.xmp_walk.specs.declared.names.Meaning.{Meaning}
-use Rattle.xmp_walk.specs.declared.names.Meaning.TheVariants.{Scalar, Array, Nodes, Template, Function}
+use Rattle.xmp_walk.specs.declared.names.Meaning.TheVariants.{Scalar}
 use Rattle.xmp_walk.specs.declared.names.Environment.{Environment}
 use Rattle.xmp_walk.specs.declared.world.World.{World}
 use Rattle.xmp_walk.specs.Expressions.{is_function, is_first}

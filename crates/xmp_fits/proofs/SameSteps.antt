@@ -1,6 +1,6 @@
 -- The single steps of the walk but the declaration of a scalar: the names mean the same scalars after them.
-use Rattle.std.proofs.Common.{◌≡◌, ◌∙◌, refl, sym, ap, ◌⊎◌, inl, inr, ◌++◌, ◌∷◌, [], ℕ, ◌+◌, ◌<◌, List, Bool, true, false, Option, Some, None, length, length-append, map, arith}
-use Rattle.std.specs.Prelude.{⊤, ℤ, not, ◌||◌, drop, slice_get, is_some}
+use Rattle.std.proofs.Common.{◌≡◌, refl, ◌⊎◌, inl, inr, ◌++◌, ℕ, List, Bool, false, Option, Some, None, map}
+use Rattle.std.specs.Prelude.{⊤, ℤ, not, is_some}
 use Rattle.xmp_base.specs.declared.place.Place.{Place}
 use Rattle.xmp_num.specs.declared.types.Ty.{Ty}
 use Rattle.xmp_tree.specs.declared.parts.Name as named
@@ -15,7 +15,7 @@ use Rattle.xmp_walk.specs.declared.names.Meaning.{Meaning}
 use Rattle.xmp_walk.specs.declared.names.Meaning.TheVariants as meaning
 use Rattle.xmp_walk.specs.declared.mappings.Mappings.{Mappings}
 use Rattle.xmp_walk.specs.declared.rules.Rule.{Rule}
-use Rattle.xmp_walk.specs.declared.rules.Rule.TheVariants.{N1, N2, N3, N4, N5, N8}
+use Rattle.xmp_walk.specs.declared.rules.Rule.TheVariants.{N1, N3, N4, N5, N8}
 use Rattle.xmp_walk.specs.declared.rules.Broken.{Broken}
 use Rattle.xmp_walk.specs.declared.rules.Notes.{Notes}
 use Rattle.xmp_walk.specs.declared.typed.Operand.{Operand}
@@ -25,7 +25,7 @@ use Rattle.xmp_walk.specs.Rules.{unless, greater}
 use Rattle.xmp_walk.specs.Expressions.{expr_of, reference_of, call, arguments_of, each_next, next_of, no_parts, is_function, may_name}
 use Rattle.xmp_walk.specs.Walk as walk
 use Rattle.xmp_walk.specs.Walk.{first_of_two, is_outermost, is_reserved}
-use Rattle.xmp_fits.proofs.Laters.{Begins, begins_refl, begins_with, LaterMappings, mappings_refl}
+use Rattle.xmp_fits.proofs.Laters.{Begins, begins_with, LaterMappings}
 use Rattle.xmp_fits.proofs.KeptSteps.{grown, with_first}
 use Rattle.xmp_fits.proofs.TermsFit.{Seen}
 use Rattle.xmp_fits.proofs.SameRuns.{seen_declared, Same, same_refl, IsNoScalar, no_scalar, Quiet, Still, ◌>>=◌, pure}

@@ -1,7 +1,7 @@
 -- The clauses of the parts about scalars: each is declared once, stands only where it is known, and is of one function or of main.
-use Rattle.std.proofs.Common.{◌≡◌, ◌∙◌, sym, ap, refl, subst, ◌⊎◌, inl, inr, ⊎_elim, ◌++◌, ◌∷◌, [], ℕ, ◌+◌, ◌<◌, ◌≤◌, ◌&&◌, ◌||◌, not, Bool, true, false, List, Option, length, map, arith}
+use Rattle.std.proofs.Common.{◌≡◌, ◌∙◌, sym, ap, refl, subst, ◌⊎◌, inl, inr, ⊎_elim, ◌++◌, ◌∷◌, [], ℕ, ◌+◌, ◌<◌, ◌≤◌, ◌||◌, not, Bool, true, false, List, Option, length, map, arith}
 use Rattle.std.specs.Prelude.{◌==◌, nat_lt, IsTrue}
-use Rattle.std.specs.List.{list_any, list_all, flat_map, AllByRecursion}
+use Rattle.std.specs.List.{list_all, flat_map, AllByRecursion}
 use Rattle.std.proofs.lemmas.Bool.{ltb-true}
 use Rattle.std.proofs.lemmas.List.Folds.{list_any-append}
 use Rattle.xmp_prog.specs.declared.statements.Stmt.{Stmt}
@@ -20,8 +20,8 @@ use Rattle.xmp_walk.specs.Program.{program_of}
 use Rattle.xmp_elab.proofs.Unbroken.{left_true, right_true, both_true}
 use Rattle.xmp_fits.proofs.KeptRuns.{Ends}
 use Rattle.xmp_fits.specs.NumbersLie.{tree_lies}
-use Rattle.xmp_fits.proofs.ScopedForms.{Rising, rising_ends, rising_from, rising_both, rising_to}
-use Rattle.xmp_fits.proofs.FileSites.{in_left, in_right, in_first, in_cons, rising_in, between, FunctionSited, Sited, sited_ends, Outside}
+use Rattle.xmp_fits.proofs.ScopedForms.{Rising, rising_ends, rising_from, rising_both}
+use Rattle.xmp_fits.proofs.FileSites.{in_right, in_first, in_cons, rising_in, between, FunctionSited, Sited, sited_ends, Outside}
 use Rattle.xmp_fits.proofs.MainSites.{Whole, Finished, program_sites}
 
 -- ---- lists of numbers

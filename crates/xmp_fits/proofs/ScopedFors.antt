@@ -1,6 +1,6 @@
 -- What a `for` is made into, and the nest of a loop directive: which scalars may stand there, and which they declare.
-use Rattle.std.proofs.Common.{◌≡◌, ◌∙◌, refl, sym, ap, subst, ◌++◌, ◌∷◌, [], ℕ, zero, suc, ◌+◌, ◌<◌, ◌≤◌, List, Bool, true, false, length, map, arith, Option, Some, None}
-use Rattle.std.specs.Prelude.{⊤, pos}
+use Rattle.std.proofs.Common.{◌≡◌, ◌∙◌, refl, sym, ap, subst, ◌++◌, ◌∷◌, [], ℕ, zero, suc, ◌≤◌, List, Bool, true, length, arith, Option, Some, None}
+use Rattle.std.specs.Prelude.{pos}
 use Rattle.std.specs.List.{flat_map, AllByRecursion}
 use Rattle.std.proofs.lemmas.List.{append-nil}
 use Rattle.std.proofs.lemmas.Grind.{flat_map-append}
@@ -19,7 +19,7 @@ use Rattle.xmp_prog.specs.declared.statements.Stmt.TheViews.{roll-Stmt}
 use Rattle.xmp_prog.specs.declared.statements.Stmt.TheOpen.{Stmt-F}
 use Rattle.xmp_prog.specs.declared.statements.Task.{Task}
 use Rattle.xmp_prog.specs.declared.parts.ProgParts.{ProgParts}
-use Rattle.xmp_prog.specs.Terms.{Term, Of, Typed, typed, typed_step, access_step, type_of, terms_of, slots_of_term, slots_of_terms}
+use Rattle.xmp_prog.specs.Terms.{Term, Typed, typed_step, access_step, terms_of, slots_of_term, slots_of_terms}
 use Rattle.xmp_prog.specs.Statements.{terms_of_head, indices_of}
 use Rattle.xmp_prog.specs.Scopes.{declared_in, scoped}
 use Rattle.xmp_prog.proofs.Rolls as rolls
@@ -36,11 +36,11 @@ use Rattle.xmp_elab.proofs.Unbroken.{left_true, both_true}
 use Rattle.xmp_fits.proofs.KeptRuns.{Goes}
 use Rattle.xmp_fits.proofs.KeptStatements.{opened, closed}
 use Rattle.xmp_fits.proofs.Holding.{IfThere}
-use Rattle.xmp_fits.proofs.ForsPass.{head_made, Counts, counts}
+use Rattle.xmp_fits.proofs.ForsPass.{head_made, counts}
 use Rattle.xmp_fits.proofs.TermsFit.{Seen}
-use Rattle.xmp_fits.proofs.SameRuns.{Same, same_refl, same_trans}
-use Rattle.xmp_fits.proofs.ScopedForms.{Rising, rising_ends, rising_from, rising_both, rising_to, declared_block, declared_counted, May, may_both, may_left, Right, InOrder, known_after, order_both, block_right, right_block, counted_right, right_counted}
-use Rattle.xmp_fits.proofs.ScopedFits.{Lawful, lawful_within, Allows, longer, opened_seen, closed_same, Fits, ItemsFit, Sees, FlatFits, allow_all, allows_same, allows_more, flat_fits, none_fit, items_same, items_more, block_fits, while_fits}
+use Rattle.xmp_fits.proofs.SameRuns.{same_refl}
+use Rattle.xmp_fits.proofs.ScopedForms.{Rising, rising_ends, rising_from, rising_both, declared_block, declared_counted, May, may_both, Right, InOrder, known_after, order_both, block_right, right_block, counted_right, right_counted}
+use Rattle.xmp_fits.proofs.ScopedFits.{Lawful, lawful_within, Allows, opened_seen, closed_same, Fits, ItemsFit, Sees, FlatFits, allow_all, allows_more, flat_fits, items_more, while_fits}
 
 -- ---- the slots of an expression
 

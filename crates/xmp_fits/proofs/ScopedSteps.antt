@@ -1,16 +1,14 @@
 -- The scalars of all statements, by the induction over the statements of a tree.
-use Rattle.std.proofs.Common.{◌≡◌, ◌∙◌, sym, ap, refl, subst, ◌++◌, ◌∷◌, [], ℕ, ℤ, ◌+◌, ◌≤◌, Bool, true, false, List, Option, Some, None, length, length-append, map, arith}
+use Rattle.std.proofs.Common.{◌≡◌, ◌∙◌, sym, ap, refl, subst, ◌++◌, ◌∷◌, [], ℕ, ℤ, ◌+◌, ◌≤◌, Bool, true, List, Option, Some, None, length, length-append, map, arith}
 use Rattle.std.specs.Prelude.{⊤, pos, ◌||◌, not, ◌==◌, is_some, slice_get}
 use Rattle.std.specs.List.{flat_map, AllByRecursion}
 use Rattle.std.specs.Option.{unwrap_or}
 use Rattle.std.proofs.lemmas.List.{append-nil}
-use Rattle.std.proofs.lemmas.Grind.{flat_map-append}
 use Rattle.xmp_base.specs.declared.place.Place.{Place}
 use Rattle.xmp_num.specs.declared.types.RedOp.{RedOp}
 use Rattle.xmp_num.specs.declared.types.Ty.{Ty}
 use Rattle.xmp_num.specs.declared.types.Ty.TheVariants.{Int, Long}
 use Rattle.xmp_map.specs.declared.grid.NodeSet.{NodeSet}
-use Rattle.xmp_prog.specs.declared.expressions.Expr as prog
 use Rattle.xmp_prog.specs.declared.statements.Reduction as made_reduction
 use Rattle.xmp_prog.specs.declared.statements.LoopDirective.{LoopDirective}
 use Rattle.xmp_prog.specs.declared.statements.Stmt as made
@@ -21,7 +19,6 @@ use Rattle.xmp_prog.specs.Terms.{slots_of_terms}
 use Rattle.xmp_prog.specs.Statements.{terms_of_head, slots_of_point, indices_of}
 use Rattle.xmp_prog.specs.Scopes.{declared_in}
 use Rattle.xmp_tree.specs.declared.parts.Name as named
-use Rattle.xmp_tree.specs.declared.parts.Inside.{Inside}
 use Rattle.xmp_tree.specs.declared.parts.Placed.{Placed}
 use Rattle.xmp_lex.specs.declared.token.Mark.{Mark}
 use Rattle.xmp_tree.specs.declared.declaration.Declarator.{Declarator}
@@ -33,7 +30,6 @@ use Rattle.xmp_tree.specs.declared.directive.Reduction.{Reduction}
 use Rattle.xmp_tree.specs.declared.expression.Expr.{Expr}
 use Rattle.xmp_tree.specs.declared.statement.ForFirst.{ForFirst}
 use Rattle.xmp_tree.specs.declared.statement.ForFirst.TheVariants as for_first
-use Rattle.xmp_tree.specs.declared.statement.ForHead.{ForHead}
 use Rattle.xmp_tree.specs.declared.statement.Simple.{Simple}
 use Rattle.xmp_scopes.specs.Names as scope
 use Rattle.xmp_walk.specs.declared.names.Environment.{Environment}
@@ -44,7 +40,6 @@ use Rattle.xmp_walk.specs.declared.loops.ForParts.{ForParts}
 use Rattle.xmp_walk.specs.declared.loop_lines.LoopParts.{LoopParts}
 use Rattle.xmp_walk.specs.declared.rules.Rule.TheVariants.{N2, N3, M7}
 use Rattle.xmp_walk.specs.declared.typed.Typed.{Typed}
-use Rattle.xmp_walk.specs.declared.typed.Operand.{Operand}
 use Rattle.xmp_walk.specs.declared.world.World.{World}
 use Rattle.xmp_walk.specs.Rules.{unless, greater}
 use Rattle.xmp_walk.specs.Typing.{operand_of}
@@ -52,15 +47,13 @@ use Rattle.xmp_walk.specs.Expressions.{expr_of, reference_of}
 use Rattle.xmp_walk.specs.Walk as walk
 use Rattle.xmp_walk.specs.Walk.{Step, Gave, Run, and_then, an_int_scalar, a_template}
 use Rattle.xmp_walk.specs.Declarations.{listed, inner, local_declarator, declare_array}
-use Rattle.xmp_walk.specs.Statements.{set, simple_of, return_of, first_of, first_part, index_of}
+use Rattle.xmp_walk.specs.Statements.{simple_of, return_of, first_of, first_part, index_of}
 use Rattle.xmp_walk.specs.Directives.{signed, limited, scalar_name, task_line, offset_of, index_name, point_of, made_of_point, slot_of_point, slots_of_points, names_or, name_list, operation_of, reduction_name, reductions_of, dimensions, match_template, Nest, nest_of, loop_right, is_indexed, use_template, made_loop, loop_line, judged_loop}
 use Rattle.xmp_walk.specs.MappingLines.{mapping_of}
 use Rattle.xmp_walk.specs.Program.{plain_of}
 use Rattle.xmp_elab.proofs.Unbroken.{left_none, right_none}
-use Rattle.xmp_fits.proofs.GoodWorlds.{Own, Good}
-use Rattle.xmp_fits.proofs.KeptRuns.{Ends, ends_then, ends_map, ends_both, Goes, goes_trans}
-use Rattle.xmp_fits.proofs.KeptStatements.{opened}
-use Rattle.xmp_fits.proofs.KeptDirectives.{head_parts}
+use Rattle.xmp_fits.proofs.GoodWorlds.{Own}
+use Rattle.xmp_fits.proofs.KeptRuns.{ends_then, ends_map, ends_both, Goes, goes_trans}
 use Rattle.xmp_fits.proofs.KeptMappings.{mapping_kept}
 use Rattle.xmp_fits.proofs.KeptLines.{array_kept}
 use Rattle.xmp_fits.proofs.Holding.{Unbroken, Holds, IfThere}
@@ -72,8 +65,8 @@ use Rattle.xmp_fits.proofs.SameLines.{array_quiet}
 use Rattle.xmp_fits.proofs.SameMappings.{mapping_quiet}
 use Rattle.xmp_fits.proofs.ScopedForms as forms_of
 use Rattle.xmp_fits.proofs.ScopedForms.{Rising, rising_from, rising_to, declared_loop, May, may_both}
-use Rattle.xmp_fits.proofs.ScopedFits.{Lawful, lawful_within, Allows, longer, same_names, Fits, ItemsFit, Sees, FlatFits, TasksFit, allow_all, allows_same, flat_fits, nothing_flat, none_fit, items_same, items_more, items_declared, block_fits, if_fits, while_fits, no_task_fits, one_task_fits, tasks_fit}
-use Rattle.xmp_fits.proofs.ScopedFors.{FirstFits, declared_of, HeadFits, for_fits, NestFits, nest_fits}
+use Rattle.xmp_fits.proofs.ScopedFits.{lawful_within, longer, same_names, Fits, ItemsFit, Sees, FlatFits, TasksFit, allow_all, allows_same, flat_fits, nothing_flat, none_fit, items_same, items_more, items_declared, block_fits, if_fits, while_fits, no_task_fits, one_task_fits, tasks_fit}
+use Rattle.xmp_fits.proofs.ScopedFors.{FirstFits, declared_of, HeadFits, for_fits, nest_fits}
 use Rattle.xmp_fits.proofs.SlotsSeen.{expr_sees, reference_sees}
 use Rattle.xmp_fits.proofs.Looking.{Found, Looks, looks_then, looks_map, looks_pure, looks_next, looks_end, looks_each, looks_there, looks_judge, looks_judged, looks_directive, looks_typed, looks_constant, Means, looks_name}
 use Rattle.xmp_fits.proofs.FlatStatements.{set_flat, simple_looks, return_looks, scalar_name_looks, task_line_looks, plain_looks}

@@ -1,7 +1,5 @@
 -- The scalars and the functions of the parts fit.
-use Rattle.std.proofs.Common.{◌≡◌, [], ℕ, Bool, true, Option}
-use Rattle.std.specs.List.{list_all}
-use Rattle.xmp_map.specs.Spread.{sizes_fit}
+use Rattle.std.proofs.Common.{◌≡◌, [], ℕ, true, Option}
 use Rattle.xmp_prog.specs.declared.statements.Stmt.{Stmt}
 use Rattle.xmp_prog.specs.declared.parts.ProgParts.{ProgParts}
 use Rattle.xmp_prog.specs.Fits.{ScalarsFit, FunctionsFit}

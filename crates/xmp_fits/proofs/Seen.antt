@@ -15,7 +15,7 @@ use Rattle.xmp_tree.specs.declared.statement.Plain.{Plain}
 use Rattle.xmp_tree.specs.declared.statement.ForHead.{ForHead}
 use Rattle.xmp_tree.specs.declared.statement.BlockItem.{BlockItem}
 use Rattle.xmp_tree.specs.declared.statement.BlockItem.TheVariants as b
-use Rattle.xmp_tree.specs.declared.statement.Stmt.{Stmt, fold-Stmt, fold-roll-Stmt}
+use Rattle.xmp_tree.specs.declared.statement.Stmt.{Stmt, fold-roll-Stmt}
 use Rattle.xmp_tree.specs.declared.statement.Stmt.TheOpen.{Stmt-F}
 use Rattle.xmp_tree.specs.declared.statement.Stmt.TheVariants as s
 use Rattle.xmp_walk.specs.Walk.{Run}

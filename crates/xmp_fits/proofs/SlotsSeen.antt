@@ -15,7 +15,6 @@ use Rattle.xmp_lex.specs.declared.token.Mark.{Mark}
 use Rattle.xmp_lex.specs.declared.token.Mark.TheVariants as m
 use Rattle.xmp_prog.specs.declared.expressions.Expr as prog
 use Rattle.xmp_prog.specs.declared.expressions.Expr.TheVariants as e
-use Rattle.xmp_prog.specs.declared.expressions.Expr.TheOpen.{Access-F}
 use Rattle.xmp_prog.specs.declared.expressions.Expr.TheFolds.{fold-Access, fold-roll-Access}
 use Rattle.xmp_prog.specs.declared.expressions.Access.{Access, roll-Access}
 use Rattle.xmp_prog.specs.declared.parts.ProgParts.{ProgParts}
@@ -30,7 +29,7 @@ use Rattle.xmp_tree.specs.declared.parts.Next.{Next}
 use Rattle.xmp_tree.specs.declared.parts.Link.{Link}
 use Rattle.xmp_tree.specs.declared.parts.Reference.{Reference}
 use Rattle.xmp_tree.specs.declared.parts.Call.{Call}
-use Rattle.xmp_tree.specs.declared.expression.Expr.{Expr, fold-Expr}
+use Rattle.xmp_tree.specs.declared.expression.Expr.{Expr}
 use Rattle.xmp_tree.specs.declared.expression.Expr.TheFolds.{fold-roll-Expr, ind-Expr, map-Expr}
 use Rattle.xmp_tree.specs.declared.expression.Expr.TheViews.{roll-Expr}
 use Rattle.xmp_tree.specs.declared.expression.Expr.TheOpen.{Expr-F}
@@ -51,8 +50,8 @@ use Rattle.xmp_walk.specs.declared.typed.Operand.{Operand}
 use Rattle.xmp_walk.specs.declared.operators.Operator.{Operator}
 use Rattle.xmp_walk.specs.declared.operators.Operator.TheVariants.{Arithmetic, Compare, Shift, Both, Either}
 use Rattle.xmp_walk.specs.Rules.{unless, noted, joined}
-use Rattle.xmp_walk.specs.Typing.{stands, is_of, convert, as_type, operand, typed, number, arithmetic, compare, shift, operator, operator_of, operand_of, value_type, joint, binary, unary, cast, chosen, choose}
-use Rattle.xmp_walk.specs.Expressions.{no_parts, add, may_name, is_nothing, cell_of, read_as, image_notes, read, intrinsic, call_intrinsic, call_of, call_as, may_call, judged_call, call, chain, each_subscript, each_next, all_of, expr_step, expr_of, right_of, inside_of, next_of, list_of, reference_of, arguments_of}
+use Rattle.xmp_walk.specs.Typing.{stands, is_of, convert, operand, number, operator, operator_of, operand_of, binary, unary, cast, choose}
+use Rattle.xmp_walk.specs.Expressions.{no_parts, add, may_name, is_nothing, cell_of, read_as, image_notes, read, intrinsic, call_intrinsic, call_of, call_as, may_call, judged_call, call, chain, each_subscript, each_next, expr_step, expr_of, right_of, inside_of, next_of, reference_of, arguments_of}
 use Rattle.xmp_elab.proofs.Unbroken.{left_none, right_none, holds}
 use Rattle.xmp_fits.proofs.TermsFit.{Seen}
 use Rattle.xmp_fits.proofs.ScopedFits.{Sees}

@@ -1,7 +1,6 @@
 -- What a step of the walk makes of an expression, of a variable or an element, of a call and of arguments fits, where no rule breaks.
-use Rattle.std.proofs.Common.{◌≡◌, ◌∙◌, sym, ap, refl, subst, ◌++◌, ◌∷◌, [], ◌&&◌, ◌⊎◌, inl, inr, ℕ, Bool, true, false, List, Option, Some, None, length, map}
-use Rattle.std.specs.Prelude.{⊤, ◌==◌, slice_get, is_none}
-use Rattle.std.specs.List.{list_all, AllByRecursion}
+use Rattle.std.proofs.Common.{◌≡◌, refl, ◌++◌, ◌∷◌, [], ◌⊎◌, inl, inr, ℕ, true, List, Option, Some, None, map}
+use Rattle.std.specs.Prelude.{slice_get}
 use Rattle.std.specs.Option.{option_map}
 use Rattle.xmp_base.specs.declared.place.Place.{Place}
 use Rattle.xmp_scopes.specs.Names.{nearest}
@@ -9,7 +8,6 @@ use Rattle.xmp_prog.specs.declared.expressions.Expr as prog
 use Rattle.xmp_prog.specs.declared.expressions.Expr.TheVariants as e
 use Rattle.xmp_prog.specs.declared.expressions.Access.{Access, roll-Access}
 use Rattle.xmp_prog.specs.declared.parts.ProgParts.{ProgParts}
-use Rattle.xmp_tree.specs.declared.parts.Name as named
 use Rattle.xmp_tree.specs.declared.parts.Inside.{Inside}
 use Rattle.xmp_tree.specs.declared.parts.Image.{Image}
 use Rattle.xmp_tree.specs.declared.parts.CommaList.{CommaList}
@@ -23,15 +21,13 @@ use Rattle.xmp_walk.specs.declared.names.Array as array
 use Rattle.xmp_walk.specs.declared.names.Environment.{Environment}
 use Rattle.xmp_walk.specs.declared.rules.Notes.{Notes}
 use Rattle.xmp_walk.specs.declared.rules.Rule.{Rule}
-use Rattle.xmp_walk.specs.declared.rules.Rule.TheVariants.{N1, N3, N4, N5}
+use Rattle.xmp_walk.specs.declared.rules.Rule.TheVariants.{N1, N3, N4}
 use Rattle.xmp_walk.specs.declared.typed.Typed.{Typed}
 use Rattle.xmp_walk.specs.declared.typed.Parts.{Parts}
-use Rattle.xmp_walk.specs.declared.typed.Operand.{Operand}
 use Rattle.xmp_walk.specs.declared.world.World.{World}
 use Rattle.xmp_walk.specs.Rules.{unless}
-use Rattle.xmp_walk.specs.Typing.{operand_of}
-use Rattle.xmp_walk.specs.Expressions.{no_parts, add, each_subscript, each_next, all_of, read_as, cell_of, unknown, image_notes, may_name, read, call, expr_of, inside_of, next_of, list_of, reference_of, arguments_of}
-use Rattle.xmp_walk.specs.Walk.{Gave, Run, typed, typed_reference, typed_call, typed_all, typed_constant, is_known, first_place}
+use Rattle.xmp_walk.specs.Expressions.{no_parts, add, each_subscript, each_next, read_as, cell_of, unknown, call, expr_of, inside_of, next_of, reference_of, arguments_of}
+use Rattle.xmp_walk.specs.Walk.{Run, typed, typed_reference, typed_call, typed_all, typed_constant, is_known, first_place}
 use Rattle.xmp_elab.proofs.Unbroken.{left_none, right_none, left_true, right_true, holds}
 use Rattle.xmp_fits.proofs.KeptRuns.{Ends}
 use Rattle.xmp_fits.proofs.TermsFit.{EachFits}

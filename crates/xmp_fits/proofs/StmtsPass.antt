@@ -1,7 +1,6 @@
 -- A statement of each form passes where its parts do.
-use Rattle.std.proofs.Common.{◌≡◌, ◌∙◌, sym, ap, refl, subst, ◌++◌, ◌∷◌, [], ◌&&◌, ◌||◌, ℕ, zero, suc, Bool, true, false, List, Option, Some, None, map}
-use Rattle.std.specs.Prelude.{⊤}
-use Rattle.std.specs.List.{list_all, flat_map, AllByRecursion}
+use Rattle.std.proofs.Common.{◌≡◌, sym, refl, subst, ◌++◌, ◌∷◌, [], ℕ, zero, suc, Bool, true, false, List, Option, Some, None, map}
+use Rattle.std.specs.List.{flat_map, AllByRecursion}
 use Rattle.xmp_base.specs.declared.place.Place.{Place}
 use Rattle.xmp_map.specs.declared.grid.NodeSet.{NodeSet}
 use Rattle.xmp_prog.specs.declared.expressions.Expr.{Expr}
@@ -12,18 +11,18 @@ use Rattle.xmp_prog.specs.declared.statements.Stmt.{Stmt}
 use Rattle.xmp_prog.specs.declared.statements.Stmt.TheVariants as s
 use Rattle.xmp_prog.specs.declared.statements.Stmt.TheOpen.{Stmt-F}
 use Rattle.xmp_prog.specs.declared.statements.Stmt.TheFolds.{fold-Task}
-use Rattle.xmp_prog.specs.declared.statements.Task.{Task, fold-roll-Task, roll-Task}
+use Rattle.xmp_prog.specs.declared.statements.Task.{Task, fold-roll-Task}
 use Rattle.xmp_prog.specs.declared.parts.ProgParts.{ProgParts}
 use Rattle.xmp_prog.specs.Terms.{Term, terms_of}
 use Rattle.xmp_prog.specs.Statements.{Statement, Walked, WalkedTask, indices_of, slots_of_point, terms_of_head, slots_beside, statements_of, walk_step, walk_task, walked, writes_of}
 use Rattle.xmp_prog.specs.Fits.{has_coarrays}
 use Rattle.xmp_prog.proofs.Rolls.{at_block, at_counted, at_if, at_loop, at_plain, at_tasks, at_while}
-use Rattle.xmp_walk.specs.Directives.{Nest, head_of, nest_in, nest_of, made_task}
+use Rattle.xmp_walk.specs.Directives.{head_of, nest_in, nest_of, made_task}
 use Rattle.xmp_elab.proofs.Unbroken.{both_true, left_true}
 use Rattle.xmp_fits.proofs.TermsFit.{all_append, or_true}
 use Rattle.xmp_fits.proofs.TermTests.{TermPasses, StatementPasses, is_slot, all_map, all_true}
-use Rattle.xmp_fits.proofs.ClausesHold.{StmtPasses, all_flat, all_of_test}
-use Rattle.xmp_fits.proofs.NestsPass.{Headed, headed, nest_passes}
+use Rattle.xmp_fits.proofs.ClausesHold.{StmtPasses, all_flat}
+use Rattle.xmp_fits.proofs.NestsPass.{Headed, headed}
 
 module _ (p : ProgParts) (quiet inside : Bool) (number : ℕ) where
   abbrev Passes : Statement → Type 0

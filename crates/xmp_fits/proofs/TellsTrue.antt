@@ -1,22 +1,22 @@
 -- What is known in a good world is true of the program that extends it.
-use Rattle.std.proofs.Common.{◌≡◌, ◌∙◌, sym, ap, refl, subst, ◌⊎◌, inl, inr, ◌+◌, ◌<◌, ◌&&◌, ◌||◌, not, ℕ, Bool, true, false, Option, Some, None, length, arith}
+use Rattle.std.proofs.Common.{◌≡◌, ◌∙◌, sym, ap, refl, ◌⊎◌, inl, inr, ◌+◌, ◌&&◌, ◌||◌, not, ℕ, Bool, true, false, Some, length, arith}
 use Rattle.std.specs.Prelude.{slice_get, nat_lt, codes}
 use Rattle.std.specs.Cmp.Lexicographic.{same_text}
 use Rattle.std.proofs.lemmas.Bool.{ltb-true}
 use Rattle.std.proofs.lemmas.Option.{same_Some}
 use Rattle.xmp_num.specs.declared.types.Ty.{Ty}
-use Rattle.xmp_scopes.specs.Names.{is_same, nearest}
+use Rattle.xmp_scopes.specs.Names.{is_same}
 use Rattle.xmp_prog.specs.declared.parts.ProgParts.{ProgParts}
 use Rattle.xmp_tree.specs.declared.parts.Name as named
 use Rattle.xmp_walk.specs.declared.names.Region.{Region}
 use Rattle.xmp_walk.specs.declared.names.Region.TheVariants as region
-use Rattle.xmp_walk.specs.declared.names.Meaning.TheVariants.{Scalar, Array, Function}
+use Rattle.xmp_walk.specs.declared.names.Meaning.TheVariants.{Scalar, Function}
 use Rattle.xmp_walk.specs.declared.names.Signature.{Signature}
 use Rattle.xmp_walk.specs.declared.world.World.{World}
-use Rattle.xmp_walk.specs.Expressions.{is_function, is_own, may_name, may_call}
+use Rattle.xmp_walk.specs.Expressions.{is_function, may_call}
 use Rattle.xmp_walk.specs.Walk.{is_main}
-use Rattle.xmp_elab.proofs.Unbroken.{left_true, right_true}
-use Rattle.xmp_fits.proofs.GoodWorlds.{Own, Good, Finished, Reading, in_file, Extends}
+use Rattle.xmp_elab.proofs.Unbroken.{left_true}
+use Rattle.xmp_fits.proofs.GoodWorlds.{Own, Good, Finished, Reading, Extends}
 use Rattle.xmp_fits.proofs.GoodSteps.{begins_get, true_name}
 use Rattle.xmp_fits.proofs.NamesFit.{Tells, FunctionOf}
 

@@ -1,7 +1,7 @@
 -- The steps of the walk make expressions and statements that pass the tests of terms.
-use Rattle.std.proofs.Common.{◌≡◌, ◌∙◌, sym, ap, refl, subst, ◌++◌, ◌∷◌, [], ◌-◌, ◌&&◌, ◌||◌, not, ℕ, Bool, true, false, List, Option, Some, None, length, map}
-use Rattle.std.specs.Prelude.{⊤, is_some, if◌then◌else◌}
-use Rattle.std.specs.List.{list_all, flat_map, AllByRecursion}
+use Rattle.std.proofs.Common.{◌≡◌, ◌∙◌, sym, refl, subst, ◌∷◌, [], ◌-◌, ℕ, Bool, true, List, Option, Some, None, length}
+use Rattle.std.specs.Prelude.{is_some, if◌then◌else◌}
+use Rattle.std.specs.List.{list_all, AllByRecursion}
 use Rattle.std.specs.Option.{option_or}
 use Rattle.std.proofs.lemmas.Option.{none-some}
 use Rattle.xmp_scopes.specs.Names as scope
@@ -11,19 +11,16 @@ use Rattle.xmp_walk.specs.declared.names.Meaning.TheVariants.{Array}
 use Rattle.xmp_map.specs.Spread.{sizes_fit}
 use Rattle.xmp_prog.specs.declared.parts.ProgParts.{ProgParts}
 use Rattle.xmp_prog.specs.declared.statements.Stmt as made
-use Rattle.xmp_prog.specs.declared.statements.Stmt.TheVariants as s
-use Rattle.xmp_prog.specs.declared.statements.Task.{Task}
 use Rattle.xmp_tree.specs.declared.expression.Expr.{Expr}
-use Rattle.xmp_walk.specs.declared.names.Environment.{Environment}
 use Rattle.xmp_walk.specs.declared.typed.Operand.{Operand}
 use Rattle.xmp_walk.specs.declared.world.World.{World}
 use Rattle.xmp_walk.specs.Expressions.{is_function, is_first}
-use Rattle.xmp_walk.specs.Walk.{Step, Gave, Run, typed}
+use Rattle.xmp_walk.specs.Walk.{Step, Gave, typed}
 use Rattle.xmp_fits.proofs.Laters.{Scopes, begins_trans, unbroken_before}
 use Rattle.xmp_fits.proofs.GoodWorlds as good_worlds
 use Rattle.xmp_fits.proofs.GoodWorlds.{Own, Good, Extends}
 use Rattle.xmp_fits.proofs.GoodSteps.{Stays, onward_stays, begins_get}
-use Rattle.xmp_fits.proofs.KeptRuns.{Ends, Goes, GoesOn, Kept}
+use Rattle.xmp_fits.proofs.KeptRuns.{Ends, GoesOn}
 use Rattle.xmp_fits.proofs.KeptSteps as kept_steps
 use Rattle.xmp_fits.proofs.Holding.{Unbroken, Holds}
 use Rattle.xmp_fits.proofs.TermsFit.{NoneInside}
@@ -31,13 +28,10 @@ use Rattle.xmp_fits.proofs.OperandsFit.{Fits}
 use Rattle.xmp_fits.proofs.NamesFit.{Tells}
 use Rattle.xmp_fits.proofs.TellsTrue.{tells}
 use Rattle.xmp_fits.specs.NumbersLie.{numbers_lie}
-use Rattle.xmp_fits.specs.NumbersLie.{simple_lies}
-use Rattle.xmp_fits.proofs.StepsFit.{Gives, typed_fits}
+use Rattle.xmp_fits.proofs.StepsFit.{typed_fits}
 use Rattle.xmp_fits.proofs.PlainFits.{StatementFits, AllFit}
-use Rattle.xmp_fits.proofs.RunsFit.{simple_fits}
-use Rattle.xmp_fits.proofs.TermTests.{TermPasses, StatementPasses, OperandPasses, is_slot, all_map, statement_passes, operand_passes}
+use Rattle.xmp_fits.proofs.TermTests.{OperandPasses, is_slot, all_map, statement_passes, operand_passes}
 use Rattle.xmp_fits.proofs.ClausesHold.{StmtPasses}
-use Rattle.xmp_fits.proofs.StmtsPass.{block_passes, TaskPasses}
 
 -- The parts of a program extend a world, and the extents of its arrays are 1 to 4,194,304.
 pub record Reached (p : ProgParts) (w : World) : Type 0 where

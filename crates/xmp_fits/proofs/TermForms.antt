@@ -1,8 +1,8 @@
 -- An expression of each form fits where its parts do.
-use Rattle.std.proofs.Common.{◌≡◌, ◌∙◌, sym, ap, refl, subst, ◌++◌, ◌∷◌, [], ◌-◌, ◌<◌, ◌&&◌, ◌||◌, ℕ, zero, suc, ℤ, Bool, true, false, List, Option, Some, None, length, map}
-use Rattle.std.specs.Prelude.{⊤, slice_get, nat_lt, is_none, ◌==◌}
+use Rattle.std.proofs.Common.{◌≡◌, ◌∙◌, sym, ap, refl, subst, ◌++◌, ◌∷◌, [], ◌-◌, ◌||◌, ℕ, ℤ, true, false, List, Option, Some, None, length, map}
+use Rattle.std.specs.Prelude.{slice_get, nat_lt, is_none}
 use Rattle.std.specs.List.{flat_map, AllByRecursion}
-use Rattle.std.specs.Option.{unwrap_or, option_map}
+use Rattle.std.specs.Option.{unwrap_or}
 use Rattle.std.proofs.Common.{eq-eqb}
 use Rattle.std.proofs.lemmas.List.{length-map}
 use Rattle.std.proofs.lemmas.Bool.{lt-ltb}
@@ -11,7 +11,7 @@ use Rattle.xmp_base.specs.declared.place.Place.{Place}
 use Rattle.xmp_num.specs.declared.types.Ty.{Ty}
 use Rattle.xmp_num.specs.declared.types.Ty.TheVariants.{Int, Long}
 use Rattle.xmp_num.specs.declared.types.BinOp.{BinOp}
-use Rattle.xmp_prog.specs.declared.expressions.Expr.{Expr, map-Expr}
+use Rattle.xmp_prog.specs.declared.expressions.Expr.{Expr}
 use Rattle.xmp_prog.specs.declared.expressions.Expr.TheVariants as e
 use Rattle.xmp_prog.specs.declared.expressions.Expr.TheOpen.{Expr-F, Access-F}
 use Rattle.xmp_prog.specs.declared.expressions.Expr.TheFolds.{fold-Access, fold-roll-Access}
@@ -20,8 +20,8 @@ use Rattle.xmp_prog.specs.declared.parts.Array as made_array
 use Rattle.xmp_prog.specs.declared.parts.Function as made_function
 use Rattle.xmp_prog.specs.declared.parts.ProgParts.{ProgParts}
 use Rattle.xmp_prog.specs.Numbers.{same_type, lies_in}
-use Rattle.xmp_prog.specs.Terms.{Term, Of, Element, Typed, typed, type_of, terms_of, terms_of_access, typed_step, access_step, slots_of_term, slots_of_terms, result_of, array_type, call_type, image_terms}
-use Rattle.xmp_prog.specs.Tests.{constant_fits, operands_fit, choice_fits, element_fits, image_fits, is_image, is_no_element, asks_no_node, calls_below, arguments_fit, arguments_match, subscripts_fit, is_coarray, right_fits}
+use Rattle.xmp_prog.specs.Terms.{Of, Element, Typed, typed, type_of, terms_of, typed_step, access_step, result_of, array_type, call_type}
+use Rattle.xmp_prog.specs.Tests.{is_image, arguments_match, subscripts_fit, is_coarray, right_fits}
 use Rattle.xmp_prog.specs.Fits.{has_coarrays}
 use Rattle.xmp_prog.proofs.Rolls as rolls
 use Rattle.xmp_walk.specs.declared.names.Environment.{Environment}

@@ -1,20 +1,19 @@
 -- The tests of terms and statements that don't speak of scopes, and what they give for the clauses of a program.
-use Rattle.std.proofs.Common.{◌≡◌, ◌∙◌, sym, ap, refl, subst, ◌++◌, ◌∷◌, [], ◌-◌, ◌<◌, ◌&&◌, ◌||◌, ℕ, Bool, true, false, List, Option, Some, None, length, map}
-use Rattle.std.specs.Prelude.{⊤, slice_get, nat_lt}
-use Rattle.std.specs.List.{list_all, flat_map, AllByRecursion}
+use Rattle.std.proofs.Common.{◌≡◌, ◌∙◌, ap, refl, ◌∷◌, [], ◌-◌, ◌&&◌, ◌||◌, ℕ, Bool, true, List, Some, length}
+use Rattle.std.specs.Prelude.{nat_lt}
+use Rattle.std.specs.List.{list_all, AllByRecursion}
 use Rattle.std.proofs.lemmas.Bool.{lt-ltb}
 use Rattle.std.proofs.lemmas.Option.{slice_get_within}
 use Rattle.xmp_num.specs.declared.types.Ty.{Ty}
-use Rattle.xmp_prog.specs.declared.expressions.Expr.{Expr}
 use Rattle.xmp_prog.specs.declared.parts.ProgParts.{ProgParts}
-use Rattle.xmp_prog.specs.Terms.{Term, type_of, terms_of, slots_of_term, slots_of_terms}
-use Rattle.xmp_prog.specs.Statements.{Statement, terms_in, slots_beside, slots_in}
+use Rattle.xmp_prog.specs.Terms.{Term, type_of, terms_of, slots_of_term}
+use Rattle.xmp_prog.specs.Statements.{Statement, terms_in, slots_beside}
 use Rattle.xmp_prog.specs.Tests.{constant_fits, operands_fit, choice_fits, element_fits, image_fits, is_no_element, asks_no_node, calls_below, arguments_fit, assignment_fits, is_no_sync, stands_in_function}
 use Rattle.xmp_prog.specs.Fits.{has_coarrays, PrintFits}
 use Rattle.xmp_walk.specs.declared.names.Environment.{Environment}
 use Rattle.xmp_walk.specs.declared.typed.Operand.{Operand}
 use Rattle.xmp_walk.specs.Expressions.{is_function}
-use Rattle.xmp_fits.proofs.TermsFit.{NoneInside, Seen, TermFits, TypedFits}
+use Rattle.xmp_fits.proofs.TermsFit.{NoneInside, Seen, TermFits}
 use Rattle.xmp_fits.proofs.ValuesLie.{Lies}
 use Rattle.xmp_fits.proofs.OperandsFit.{Fits, IsConst}
 use Rattle.xmp_fits.proofs.NamesFit.{Tells}

@@ -1,28 +1,16 @@
 -- What is to be shown of the terms of an expression, and of an expression by those of its operands.
-use Rattle.std.proofs.Common.{◌≡◌, ◌∙◌, sym, ap, refl, subst, ◌++◌, ◌∷◌, [], ◌-◌, ◌<◌, ◌&&◌, ◌||◌, ℕ, zero, suc, ℤ, Bool, true, false, List, Option, Some, None, length, map}
-use Rattle.std.specs.Prelude.{⊤, slice_get, nat_lt, is_none, ◌==◌}
+use Rattle.std.proofs.Common.{◌≡◌, ◌∙◌, sym, ap, refl, ◌++◌, ◌∷◌, [], ◌-◌, ◌||◌, ℕ, Bool, true, false, List, Option, Some, length, map}
+use Rattle.std.specs.Prelude.{⊤}
 use Rattle.std.specs.List.{flat_map, AllByRecursion}
-use Rattle.xmp_base.specs.declared.place.Place.{Place}
 use Rattle.xmp_num.specs.declared.types.Ty.{Ty}
-use Rattle.xmp_num.specs.declared.types.Ty.TheVariants.{Int, Long}
-use Rattle.xmp_num.specs.declared.types.BinOp.{BinOp}
 use Rattle.xmp_scopes.specs.Names.{nearest, depth_of}
-use Rattle.xmp_prog.specs.declared.expressions.Expr.{Expr, map-Expr}
-use Rattle.xmp_prog.specs.declared.expressions.Expr.TheVariants as e
-use Rattle.xmp_prog.specs.declared.expressions.Expr.TheOpen.{Expr-F, Access-F}
-use Rattle.xmp_prog.specs.declared.expressions.Expr.TheFolds.{fold-Access, fold-roll-Access}
-use Rattle.xmp_prog.specs.declared.expressions.Access.{Access, roll-Access}
-use Rattle.xmp_prog.specs.declared.parts.Array as made_array
-use Rattle.xmp_prog.specs.declared.parts.Function as made_function
+use Rattle.xmp_prog.specs.declared.expressions.Expr.{Expr}
 use Rattle.xmp_prog.specs.declared.parts.ProgParts.{ProgParts}
-use Rattle.xmp_prog.specs.Numbers.{same_type, lies_in}
-use Rattle.xmp_prog.specs.Terms.{Term, Of, Element, Typed, typed, type_of, terms_of, typed_step, access_step, slots_of_term, slots_of_terms, result_of, array_type, call_type}
-use Rattle.xmp_prog.specs.Tests.{constant_fits, operands_fit, choice_fits, element_fits, image_fits, is_image, is_no_element, asks_no_node, calls_below, arguments_fit, right_fits}
+use Rattle.xmp_prog.specs.Terms.{Term, Typed, typed, type_of, terms_of, slots_of_term}
+use Rattle.xmp_prog.specs.Tests.{constant_fits, operands_fit, choice_fits, element_fits, image_fits, is_no_element, asks_no_node, calls_below, arguments_fit}
 use Rattle.xmp_prog.specs.Fits.{has_coarrays}
-use Rattle.xmp_prog.proofs.Rolls as rolls
 use Rattle.xmp_tree.specs.declared.parts.Name as named
-use Rattle.xmp_walk.specs.declared.names.Meaning.{Meaning}
-use Rattle.xmp_walk.specs.declared.names.Meaning.TheVariants.{Scalar, Array, Function}
+use Rattle.xmp_walk.specs.declared.names.Meaning.TheVariants.{Scalar, Array}
 use Rattle.xmp_walk.specs.declared.names.Environment.{Environment}
 use Rattle.xmp_walk.specs.Expressions.{is_function, is_first, may_name}
 

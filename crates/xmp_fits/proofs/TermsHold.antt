@@ -1,7 +1,7 @@
 -- The instance of the induction for the tests of terms.
-use Rattle.std.proofs.Common.{◌≡◌, ◌∙◌, sym, ap, refl, subst, ◌++◌, ◌∷◌, [], ◌-◌, ◌&&◌, ◌||◌, not, ℕ, ℤ, Bool, true, false, List, Option, Some, None, length, map}
-use Rattle.std.specs.Prelude.{⊤, pos, if◌then◌else◌}
-use Rattle.std.specs.List.{list_all, flat_map, AllByRecursion}
+use Rattle.std.proofs.Common.{◌≡◌, ◌∙◌, sym, ap, refl, subst, ◌++◌, ◌∷◌, [], ◌-◌, ℕ, ℤ, Bool, true, false, List, Option, Some, None, length, map}
+use Rattle.std.specs.Prelude.{pos, if◌then◌else◌}
+use Rattle.std.specs.List.{flat_map, AllByRecursion}
 use Rattle.std.specs.Option.{unwrap_or}
 use Rattle.std.proofs.lemmas.Option.{same_Some, none-some}
 use Rattle.xmp_base.specs.declared.place.Place.{Place}
@@ -20,12 +20,11 @@ use Rattle.xmp_prog.specs.declared.statements.Reduction as made_reduction
 use Rattle.xmp_prog.specs.declared.parts.ProgParts.{ProgParts}
 use Rattle.xmp_prog.specs.Numbers.{lies_in}
 use Rattle.xmp_prog.specs.Fits.{has_coarrays}
-use Rattle.xmp_prog.specs.Terms.{Term, Of, Typed, typed, terms_of, type_of, typed_step, access_step}
+use Rattle.xmp_prog.specs.Terms.{Typed, terms_of, typed_step, access_step}
 use Rattle.xmp_prog.specs.Statements.{slots_of_point}
 use Rattle.xmp_prog.proofs.Rolls as rolls
 use Rattle.xmp_tree.specs.declared.directive.Sections.{Sections}
 use Rattle.xmp_tree.specs.declared.directive.DirectiveLine.{DirectiveLine}
-use Rattle.xmp_tree.specs.declared.directive.LoopLine.{LoopLine}
 use Rattle.xmp_tree.specs.declared.directive.TaskLine.{TaskLine}
 use Rattle.xmp_tree.specs.declared.statement.ForHead.{ForHead}
 use Rattle.xmp_tree.specs.declared.statement.Plain.TheVariants as plain
@@ -35,7 +34,6 @@ use Rattle.xmp_walk.specs.declared.loop_lines.LoopParts.{LoopParts}
 use Rattle.xmp_walk.specs.declared.typed.Operand.{Operand}
 use Rattle.xmp_walk.specs.declared.world.World.{World}
 use Rattle.xmp_walk.specs.Expressions.{is_function}
-use Rattle.xmp_walk.specs.Walk as walk
 use Rattle.xmp_walk.specs.Statements.{right_side, one, first_of, shape_of, shape_by, shape_at, is_bump, compared_at, added_by}
 use Rattle.xmp_walk.specs.Typing.{is_of}
 use Rattle.xmp_walk.specs.Counted.{is_counted, bound_of}
@@ -44,23 +42,23 @@ use Rattle.xmp_walk.specs.declared.rules.Rule.TheVariants.{M7}
 use Rattle.xmp_walk.specs.Directives as directives
 use Rattle.xmp_walk.specs.Directives.{made_of_point, made_loop, made_task, nest_of}
 use Rattle.xmp_elab.proofs.Unbroken.{left_none, left_true}
-use Rattle.xmp_fits.proofs.GoodWorlds.{Own, Good}
+use Rattle.xmp_fits.proofs.GoodWorlds.{Own}
 use Rattle.xmp_fits.proofs.GoodSteps.{Stays, onward_stays}
-use Rattle.xmp_fits.proofs.KeptRuns.{Ends, Goes, goes_refl, goes_trans, GoesOn, Kept}
+use Rattle.xmp_fits.proofs.KeptRuns.{goes_trans}
 use Rattle.xmp_fits.proofs.KeptDirectives as kept
 use Rattle.xmp_fits.proofs.KeptSteps as kept_steps
 use Rattle.xmp_fits.proofs.Laters.{unbroken_before}
-use Rattle.xmp_fits.proofs.Endings.{opened, ends_at, later_at, directed, goes_directed}
+use Rattle.xmp_fits.proofs.Endings.{opened, later_at, directed}
 use Rattle.xmp_fits.proofs.Holding.{Unbroken, Holds, unbroken_map}
 use Rattle.xmp_fits.proofs.OneWorld.{Tests, Cases, FirstFits, counted_head}
 use Rattle.xmp_fits.specs.NumbersLie.{plain_lies}
 use Rattle.xmp_fits.proofs.TermsFit.{all_append, or_true}
 use Rattle.xmp_fits.proofs.TermTests.{TermPasses, OperandPasses, is_slot}
 use Rattle.xmp_fits.proofs.ClausesHold.{StmtPasses}
-use Rattle.xmp_fits.proofs.StmtsPass.{block_passes, if_passes, while_passes, HeadPasses, counted_passes, heads_pass, loop_passes, TaskPasses, task_passes, tasks_pass}
+use Rattle.xmp_fits.proofs.StmtsPass.{block_passes, if_passes, while_passes, counted_passes, heads_pass, loop_passes, TaskPasses, task_passes, tasks_pass}
 use Rattle.xmp_fits.proofs.NestsPass.{nest_passes}
 use Rattle.xmp_fits.proofs.TermTests as tests
-use Rattle.xmp_fits.proofs.TermCases.{Reached, Here, StmtGood, OperandGood, SlotsGood, back, here_stays, stmt_stays, operand_stays, slots_stay, test_good}
+use Rattle.xmp_fits.proofs.TermCases.{Reached, Here, StmtGood, OperandGood, back, here_stays, stmt_stays, operand_stays, slots_stay, test_good}
 use Rattle.xmp_fits.proofs.NameSlots.{InNone, none_stays, directive_holds, PointGood, ReductionGood, LineGood, line_holds, carried}
 use Rattle.xmp_fits.proofs.PlainCases.{plain_good}
 use Rattle.xmp_fits.proofs.HeadCases.{declarator_good, first_good, FirstGood}

@@ -1,15 +1,13 @@
 -- Induction over the statements of a tree.
-use Rattle.std.proofs.Common.{◌≡◌, subst, List, [], ◌∷◌}
-use Rattle.std.specs.Prelude.{⊤, Option, None, Some}
+use Rattle.std.proofs.Common.{subst, List, [], ◌∷◌}
+use Rattle.std.specs.Prelude.{⊤, None, Some}
 use Rattle.std.specs.List.{AllByRecursion}
 use Rattle.xmp_base.specs.declared.place.Place.{Place}
 use Rattle.xmp_tree.specs.declared.parts.Inside.{Inside}
 use Rattle.xmp_tree.specs.declared.expression.Expr.{Expr}
-use Rattle.xmp_tree.specs.declared.declaration.Declaration.{Declaration}
 use Rattle.xmp_tree.specs.declared.directive.DirectiveLine.{DirectiveLine}
 use Rattle.xmp_tree.specs.declared.directive.LoopLine.{LoopLine}
 use Rattle.xmp_tree.specs.declared.directive.TaskLine.{TaskLine}
-use Rattle.xmp_tree.specs.declared.directive.Mapping.{Mapping}
 use Rattle.xmp_tree.specs.declared.statement.Plain.{Plain}
 use Rattle.xmp_tree.specs.declared.statement.ForHead.{ForHead}
 use Rattle.xmp_tree.specs.declared.statement.BlockItem.{BlockItem}

@@ -1,12 +1,11 @@
 -- A value that is known before the run lies in its type.
-use Rattle.std.proofs.Common.{◌≡◌, ◌∙◌, sym, ap, refl, subst, ◌+◌, ◌-◌, ◌*◌, ◌/◌, ◌^◌, ◌<◌, ◌≤◌, ℕ, zero, suc, ℤ, pos, negsuc, Bool, true, false, not, List, Option, Some, None, Result, Ok, Err, arith}
-use Rattle.std.specs.Prelude.{⊤, ◌||◌, ◌*ℤ◌, if◌then◌else◌, int_le, nat_le, nat_lt, bit_and, bit_or, bit_xor, int_lt}
+use Rattle.std.proofs.Common.{◌≡◌, refl, subst, ◌/◌, ◌^◌, ◌≤◌, ℕ, zero, suc, ℤ, pos, negsuc, Bool, true, false, not, Result, Ok, Err, arith}
+use Rattle.std.specs.Prelude.{⊤, ◌||◌, ◌*ℤ◌, if◌then◌else◌, int_le, nat_lt, int_lt}
 use Rattle.std.specs.Ordering.{int_eq}
-use Rattle.std.specs.Int.{int_wrap, int_div_euclid, w32, w64}
-use Rattle.std.specs.Int.RustNames.{FitsSigned}
+use Rattle.std.specs.Int.{int_div_euclid}
 use Rattle.std.proofs.lemmas.Bool.{le-leb, leb-true}
 use Rattle.std.proofs.Math.Nat.{div-le_self}
-use Rattle.std.proofs.lemmas.Int.{SFits-int_wrap, int_wrap_fits}
+use Rattle.std.proofs.lemmas.Int.{SFits-int_wrap}
 use Rattle.xmp_num.specs.declared.types.TrapKind.{TrapKind}
 use Rattle.xmp_num.specs.declared.types.TrapKind.TheVariants.{Shift}
 use Rattle.xmp_num.specs.declared.types.Ty.{Ty}
@@ -14,7 +13,6 @@ use Rattle.xmp_num.specs.declared.types.Ty.TheVariants.{Int, Long}
 use Rattle.xmp_num.specs.declared.types.BinOp.{BinOp}
 use Rattle.xmp_num.specs.declared.types.BinOp.TheVariants as op
 use Rattle.xmp_num.specs.Arithmetic.{wrap, width_of, bits_of, truth, binary_of, with_divisor, with_count, FitsType}
-use Rattle.xmp_num.specs.Reduction.{least, greatest}
 use Rattle.xmp_num.proofs.BitLaws.{wide_fits, closed, and_laws, or_laws, xor_laws}
 use Rattle.xmp_prog.specs.Numbers.{lies_in}
 use Rattle.xmp_prog.specs.Terms.{result_of}
@@ -22,7 +20,7 @@ use Rattle.xmp_prog.specs.Tests.{is_shift}
 use Rattle.xmp_walk.specs.declared.typed.Value.{Value}
 use Rattle.xmp_walk.specs.declared.typed.Value.TheVariants.{Named, Trapping, Known}
 use Rattle.xmp_walk.specs.Typing.{known, binary_value, is_zero, truth_value, both_value, either_value, converted, is_named, picked, chosen_value}
-use Rattle.xmp_elab.proofs.Unbroken.{both_true, left_true, right_true}
+use Rattle.xmp_elab.proofs.Unbroken.{both_true, left_true}
 
 -- ---- the two ways to say it
 

@@ -1,5 +1,5 @@
 -- Where a tree has no verdict, its parts are made of a world in which no rule breaks; and what fits of them.
-use Rattle.std.proofs.Common.{◌≡◌, ◌∙◌, sym, ap, refl, subst, ◌++◌, [], ℕ, true, Option, None, IsTrue}
+use Rattle.std.proofs.Common.{◌≡◌, ap, refl, subst, ℕ, true, Option, None, IsTrue}
 use Rattle.std.specs.Prelude.{not, ◌||◌}
 use Rattle.std.specs.List.{list_all, list_any}
 use Rattle.xmp_prog.specs.declared.parts.Array as made_array

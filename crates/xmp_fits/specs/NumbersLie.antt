@@ -1,5 +1,5 @@
 -- The numbers of a tree lie in their types: an int from -2^31 to 2^31 - 1, a long from -2^63 to 2^63 - 1. A test of each part of a tree. Source: this project.
-use Rattle.std.specs.Prelude.{◌&&◌, [], ◌∷◌, Bool, true, false, List, Option, Some, None, map}
+use Rattle.std.specs.Prelude.{◌&&◌, Bool, true, List, Option, Some, None}
 use Rattle.std.specs.List.{list_all}
 use Rattle.xmp_base.specs.declared.place.Place.{Place}
 use Rattle.xmp_prog.specs.Numbers.{lies_in}
@@ -20,13 +20,11 @@ use Rattle.xmp_tree.specs.declared.directive.TaskLine.{TaskLine}
 use Rattle.xmp_tree.specs.declared.expression.Expr.TheOpen.{Expr-F}
 use Rattle.xmp_tree.specs.declared.expression.Expr.{Expr, fold-Expr}
 use Rattle.xmp_tree.specs.declared.expression.Expr.{Expr}
-use Rattle.xmp_tree.specs.declared.parts.Call.{Call}
 use Rattle.xmp_tree.specs.declared.parts.CommaList.{CommaList}
 use Rattle.xmp_tree.specs.declared.parts.Image.{Image}
 use Rattle.xmp_tree.specs.declared.parts.Inside.{Inside}
 use Rattle.xmp_tree.specs.declared.parts.Next.{Next}
 use Rattle.xmp_tree.specs.declared.parts.Reference.{Reference}
-use Rattle.xmp_tree.specs.declared.program.Function.{Function}
 use Rattle.xmp_tree.specs.declared.program.TopItem.TheVariants as top
 use Rattle.xmp_tree.specs.declared.program.TopItem.{TopItem}
 use Rattle.xmp_tree.specs.declared.program.Tree.{Tree}
