@@ -2,6 +2,8 @@
 use Rattle.std.specs.Prelude.{◌&&◌, Bool, true, List, Option, Some, None}
 use Rattle.std.specs.List.{list_all}
 use Rattle.xmp_base.specs.declared.place.Place.{Place}
+use Rattle.xmp_lex.specs.declared.token.TokenKind.{TokenKind}
+use Rattle.xmp_lex.specs.declared.token.TokenKind.TheVariants as t
 use Rattle.xmp_prog.specs.Numbers.{lies_in}
 use Rattle.xmp_tree.specs.declared.declaration.Declaration.{Declaration}
 use Rattle.xmp_tree.specs.declared.declaration.Declarator.TheVariants as declarator
@@ -40,6 +42,11 @@ use Rattle.xmp_tree.specs.declared.statement.Simple.{Simple}
 use Rattle.xmp_tree.specs.declared.statement.Stmt.TheOpen.{Stmt-F}
 use Rattle.xmp_tree.specs.declared.statement.Stmt.{Stmt, fold-Stmt}
 use Rattle.xmp_walk.specs.Declarations.{listed}
+
+-- Whether the number that a token is, if it is one, lies in its type.
+abbrev pub number_lies : TokenKind → Bool
+number_lies (t.Number v ty) = lies_in ty v
+number_lies _ = true
 
 -- Whether the numbers in an expression lie in their types, with the same of the expressions inside.
 abbrev pub image_step : Option (Image Bool) → Bool
