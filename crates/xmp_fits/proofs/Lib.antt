@@ -75,7 +75,7 @@ mod Seen
 mod SetsEnd
 mod SetsPass
 mod SlotsSeen
-mod SpelledNumbers
+pub mod SpelledNumbers
 mod StepsFit
 mod StmtsPass
 mod TellsTrue

@@ -17,7 +17,7 @@ use Rattle.xmp_lex.specs.Cut.{behind, at_end, Piece, white, comment, token, hash
 use Rattle.xmp_lex.specs.Expand.{Definition, same, body_of, definition_of, moved, Event, out, used, again, Replaces, done, keep, replace, Expands, Expanded, tokens_of}
 use Rattle.xmp_lex.specs.Expand as e
 use Rattle.xmp_prog.specs.Numbers.{lies_in}
-use Rattle.xmp_typed.specs.NumberTokens.{number_lies}
+use Rattle.xmp_fits.specs.NumbersLie.{number_lies}
 
 -- what is to hold of a kind, a token, a definition and an event
 abbrev KindLies : TokenKind → Type 0

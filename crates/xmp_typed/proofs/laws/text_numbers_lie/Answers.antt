@@ -1,6 +1,6 @@
 use Rattle.std.proofs.Common.{◌≡◌, true, All, subst}
-use Rattle.xmp_typed.specs.NumberTokens.{number_lies}
-use Rattle.xmp_typed.proofs.SpelledNumbers.{spelled}
+use Rattle.xmp_fits.specs.NumbersLie.{number_lies}
+use Rattle.xmp_fits.proofs.SpelledNumbers.{spelled}
 use Rattle.xmp_typed.proofs.TextNumbers.{all_numbers}
 use Rattle.xmp_typed.proofs.laws.text_numbers_lie.Goals as goal
 
