@@ -7,16 +7,6 @@
 mod elaborated;
 mod grids;
 mod homes;
-#[cfg(test)]
-mod mapping_texts;
-#[cfg(test)]
-mod name_texts;
-#[cfg(test)]
-mod parts_texts;
-#[cfg(test)]
-mod texts;
-#[cfg(test)]
-mod value_texts;
 mod verdict;
 
 pub use elaborated::elaborate_parts;

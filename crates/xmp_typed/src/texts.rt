@@ -2,7 +2,8 @@
 ghost use Rattle.std.specs.Prelude.{◌≡◌};
 ghost use Rattle.xmp_elab.specs.Narrow.{is_count};
 
-use crate::elaborate_parts;
+use crate::laws::text_numbers_lie;
+use crate::typed::elaborate;
 use std::alloc::Global;
 use std::mem::drop;
 use xmp_base::{Fault, Phase, Refusal};
@@ -14,7 +15,7 @@ pub(crate) type Breaks = (char, u16, u32, u32);
 // No memory; no program by its tokens.
 const NOTHING: Breaks = ('-', 0, 0, 0);
 
-fn letter(phase: Phase) -> char {
+pub(crate) fn letter(phase: Phase) -> char {
     match phase {
         Phase::Lex => 'L',
         Phase::Macro => 'E',
@@ -61,9 +62,10 @@ pub(crate) fn judged(alloc: Global, text: &[u8], given: Option<u32>) -> Option<B
         Ok(tree) => tree,
         Err(cause) => return Some(fault(cause)),
     };
-    match elaborate_parts(alloc, &tree, given) {
-        Ok(parts) => {
-            drop(parts);
+    text_numbers_lie();
+    match elaborate(alloc, &tree, given) {
+        Ok(program) => {
+            drop(program);
             None
         }
         Err(cause) => Some(fault(cause)),
