@@ -1,13 +1,24 @@
 // Texts of programs, and what becomes of them.
+ghost use Rattle.std.specs.Prelude.{◌≡◌};
+ghost use Rattle.xmp_elab.specs.Narrow.{is_count};
+
 use crate::laws::text_numbers_lie;
-use crate::texts::{is_count, letter};
 use crate::typed::elaborate;
 use std::alloc::Global;
 use std::mem::drop;
 use std::test::Fail;
-use xmp_base::Fault;
+use xmp_base::{Fault, Phase};
 use xmp_prog::{Kind, Prog};
 use xmp_source::tree_of;
+
+fn is_count(given: Option<u32>) -> bool
+    ensures { result ≡ is_count given }
+{
+    match given {
+        Some(count) => 1 <= count && count <= 16,
+        None => true,
+    }
+}
 
 // What becomes of a text, for a number of nodes or none.
 fn typed(alloc: Global, text: &[u8], given: Option<u32>) -> Result<Prog, Fault> {
@@ -25,6 +36,18 @@ enum Is {
     Program(u32, bool),
     Breaks(char, u16, u32, u32),
     NoMemory,
+}
+
+fn letter(phase: Phase) -> char {
+    match phase {
+        Phase::Lex => 'L',
+        Phase::Macro => 'E',
+        Phase::Syntax => 'S',
+        Phase::Names => 'N',
+        Phase::Mapping => 'M',
+        Phase::Flow => 'F',
+        Phase::Coarray => 'C',
+    }
 }
 
 fn program(p: &Prog) -> Is {
