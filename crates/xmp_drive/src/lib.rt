@@ -1,0 +1,11 @@
+//! The verdict on a source text: the typed program that it is, or the refusal by the first rule that it breaks.
+#![tactic(auto)]
+
+mod accepted;
+mod coarrays;
+mod laws;
+mod verdict;
+
+pub use accepted::Accepted;
+pub use laws::{accepted_or_refused, one_program, one_refusal};
+pub use verdict::compile;

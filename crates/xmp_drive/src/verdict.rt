@@ -1,0 +1,78 @@
+// The verdict on a text.
+ghost use Rattle.std.specs.Prelude.{◌≡◌, ◌≤◌, ℕ, Option, IfOk, IfErr, IsTrue, None, Some, length, option_map, true};
+ghost use Rattle.xmp_base.specs.declared.refusal.Refusal.{Refusal};
+ghost use Rattle.xmp_base.specs.declared.refusal.Fault.TheVariants as fault;
+ghost use Rattle.xmp_prog.specs.declared.parts.ProgParts.{ProgParts};
+ghost use Rattle.xmp_prog.specs.declared.parts.Kind.TheVariants.{Global};
+ghost use Rattle.xmp_elab.specs.Narrow.{is_count};
+ghost use Rattle.xmp_elab.specs.Parts.{IsParts, RefusedBy};
+ghost use Rattle.xmp_elab.specs.Verdict.{verdict};
+ghost use Rattle.xmp_fits.specs.NumbersLie.{tree_lies};
+ghost use Rattle.xmp_drive.specs.Verdict.{IsAccepted, IsRefused, IsVerdictFault, tree_verdict};
+
+use crate::accepted::Accepted;
+use crate::coarrays::coarray_of;
+use crate::laws::accepted_or_refused;
+use std::alloc::Global;
+use xmp_base::{Fault, Phase, Refusal};
+use xmp_prog::{Kind, Prog};
+use xmp_source::tree_of;
+use xmp_tree::Tree;
+use xmp_typed::{elaborate, text_numbers_lie};
+
+// What the tree of a program with a coarray is refused for.
+fn coarray_fault(alloc: Global, t: &Tree, given: Option<u32>) -> Fault
+    requires named { verdict t.now given ≡ None }
+    ensures { RefusedBy (tree_verdict t.now given) result }
+{
+    match coarray_of(alloc, t, given) {
+        Ok(Some(at)) => Fault::Refused(Refusal {
+            phase: Phase::Coarray,
+            rule: 9,
+            at,
+        }),
+        _ => Fault::NoMemory,
+    }
+}
+
+// The verdict on a tree.
+fn judged_tree(alloc: Global, t: &Tree, given: Option<u32>) -> Result<Accepted, Fault>
+    requires count { IsTrue (is_count given) }
+    requires numbers { tree_lies t.now ≡ true }
+    ensures accepted { IfOk result (λ p. tree_verdict t.now given ≡ None) }
+    ensures program { IfOk result (λ p. IsParts t.now given p) }
+    ensures refused { IfErr result (λ e. RefusedBy (tree_verdict t.now given) e) }
+{
+    let prog = elaborate(alloc, t, given)?;
+    match prog.kind() {
+        Kind::Global => Ok(Accepted::new(prog)),
+        Kind::Coarray => Err(coarray_fault(alloc, t, given)),
+    }
+}
+
+// The verdict on a text.
+fn judged(alloc: Global, text: &[u8], given: Option<u32>) -> Result<Accepted, Fault>
+    requires size { length text.now ≤ 1048576 }
+    requires count { IsTrue (is_count given) }
+    ensures accepted { IfOk result (λ p. IsAccepted text.now given p) }
+    ensures refused { IfErr result (λ e. IsVerdictFault text.now given e) }
+{
+    let tree = tree_of(alloc, text)?;
+    text_numbers_lie();
+    judged_tree(alloc, &tree, given)
+}
+
+/// The verdict on a source text, for a number of nodes or none: the program, or its refusal by the first rule that it breaks. Want of memory may
+/// be answered at any time.
+///
+/// A text has at most 1,048,576 bytes, a number of nodes is 1 to 16. Time and memory grow with the text, and with what its macros come to.
+pub fn compile(alloc: Global, text: &[u8], nodes: Option<u32>) -> Result<Accepted, Fault>
+    requires size { length text.now ≤ 1048576 }
+    requires count { IsTrue (is_count nodes) }
+    ensures accepted { IfOk result (λ p. IsAccepted text.now nodes p) }
+    ensures refused { IfErr result (λ e. IsVerdictFault text.now nodes e) }
+    ensures accepted_alone { (p : ProgParts) → IsAccepted text.now nodes p → IfErr result (λ e. e ≡ fault.NoMemory) }
+{
+    accepted_or_refused();
+    judged(alloc, text, nodes)
+}
