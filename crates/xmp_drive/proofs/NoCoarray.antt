@@ -1,0 +1,58 @@
+-- A program of the kind Global has no coarray.
+use Rattle.std.proofs.Common.{◌≡◌, ◌∙◌, refl, sym, ap, ℕ, ◌+◌, List, [], ◌∷◌, Bool, true, false, Option, Some, None}
+use Rattle.std.specs.Prelude.{◌||◌, if◌then◌else◌, option_map}
+use Rattle.std.specs.List.{list_any}
+use Rattle.xmp_base.specs.declared.refusal.Refusal.{Refusal}
+use Rattle.xmp_map.specs.declared.template.Template.{Template}
+use Rattle.xmp_tree.specs.declared.program.Tree.{Tree}
+use Rattle.xmp_prog.specs.declared.parts.Home.{Home}
+use Rattle.xmp_prog.specs.declared.parts.Home.TheVariants as home
+use Rattle.xmp_prog.specs.declared.parts.Array as made_array
+use Rattle.xmp_prog.specs.declared.parts.ProgParts.{ProgParts}
+use Rattle.xmp_prog.specs.declared.statements.Stmt.{Stmt}
+use Rattle.xmp_prog.specs.Tests.{is_image}
+use Rattle.xmp_walk.specs.declared.names.Array.{Array}
+use Rattle.xmp_walk.specs.declared.world.World.{World}
+use Rattle.xmp_walk.specs.Walk.{Step, Gave}
+use Rattle.xmp_walk.specs.Program.{program_of}
+use Rattle.xmp_elab.specs.Parts.{EachMade, IsArray, IsHome, IsParts, MadeAfter}
+use Rattle.xmp_elab.specs.Verdict.{world_after, verdict}
+use Rattle.xmp_drive.specs.Verdict.{coarray_refusal, coarray_verdict, first_coarray, then_verdict, tree_verdict}
+
+-- a home that is no image's own is that of no coarray
+not_coarray : (w : World) (ts : List Template) (k : ℕ) (extents : List ℕ) (coarray : Bool) (h : Home) → IsHome coarray w ts k extents h → is_image h ≡ false
+    → coarray ≡ false
+not_coarray w ts k extents true h is no_image = sym (ap is_image is) ∙ no_image
+not_coarray w ts k extents false h is no_image = refl
+
+none_here : (a : Array) (more : List Array) → a.coarray ≡ false → first_coarray more ≡ None → first_coarray (a ∷ more) ≡ None
+none_here a more e none = ap (λ b. if b then Some a.at else first_coarray more) e ∙ none
+
+left_false : (a b : Bool) → (a || b) ≡ false → a ≡ false
+left_false false b e = refl
+left_false true b e = e
+
+right_false : (a b : Bool) → (a || b) ≡ false → b ≡ false
+right_false false b e = e
+right_false true false e = refl
+right_false true true e = e
+
+none_made : (w : World) (ts : List Template) (k : ℕ) (as : List Array) (made : List made_array.Array) → EachMade (IsArray w ts) k as made
+    → list_any (λ a. is_image a.home) made ≡ false → first_coarray as ≡ None
+none_made w ts k [] made each e = refl
+none_made w ts k (a ∷ more) [] each e = absurd each
+none_made w ts k (a ∷ more) (m ∷ made) each e =
+    none_here a more (not_coarray w ts k a.extents a.coarray m.home each.0.home (left_false _ _ e))
+        (none_made w ts (k + 1) more made each.1 (right_false _ _ e))
+
+none_after : (s : Step Stmt) (p : ProgParts) → MadeAfter s p → list_any (λ a. is_image a.home) p.arrays ≡ false → first_coarray (world_after s).names.arrays ≡ None
+none_after (Gave main w) p made e = none_made w p.templates 0 w.names.arrays p.arrays made.arrays e
+
+both_none : (a b : Option Refusal) → a ≡ None → b ≡ None → then_verdict a b ≡ None
+both_none a b first second = ap (λ x. then_verdict x b) first ∙ second
+
+-- where no rule of names or mappings breaks and no array is a coarray, no rule breaks
+pub unbroken : (t : Tree) (given : Option ℕ) (p : ProgParts) → verdict t given ≡ None → IsParts t given p → list_any (λ a. is_image a.home) p.arrays ≡ false
+    → tree_verdict t given ≡ None
+unbroken t given p ok made e =
+    both_none (verdict t given) (coarray_verdict t given) ok (ap (option_map coarray_refusal) (none_after (program_of t given) p made e))
