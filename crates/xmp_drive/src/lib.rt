@@ -4,6 +4,7 @@
 mod accepted;
 mod coarrays;
 mod laws;
+mod probe;
 mod verdict;
 
 pub use accepted::Accepted;
