@@ -1,2 +1,4 @@
-mod SameFields
+mod OneMap
+mod OneProgram
 mod OneTemplate
+mod SameFields

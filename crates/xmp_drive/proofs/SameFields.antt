@@ -1,13 +1,11 @@
--- Values of a grid and of a template are one where the fields are that a program can read; the facts that they keep have one proof each.
-use Rattle.std.proofs.Common.{◌≡◌, ◌≤◌, ◌<◌, ◌==◌, ℕ, List, map, drop, IsTrue}
+-- Grids, templates and maps with the same fields are the same: each fact that they keep has one proof at most.
+use Rattle.std.proofs.Common.{◌≡◌, ◌≤◌, ◌<◌, ◌==◌, map, drop, IsTrue}
 use Rattle.std.proofs.Props.{props}
 use mathlib.Core.HLevel.{is_prop→PathP}
 use Rattle.std.specs.List.{list_all}
 use Rattle.std.specs.Prelude.{is_none}
 use Rattle.xmp_dist.specs.declared.dimension.Dim.{Dim}
-use Rattle.xmp_dist.specs.declared.form.Dist.{Dist}
 use Rattle.xmp_dist.specs.Valid.{is_dim, is_extent}
-use Rattle.xmp_map.specs.declared.aligned.AlignedDim.{AlignedDim}
 use Rattle.xmp_map.specs.declared.array_map.ArrayMap.{ArrayMap}
 use Rattle.xmp_map.specs.declared.grid.Grid.{Grid}
 use Rattle.xmp_map.specs.declared.spread_dim.SpreadDim.{SpreadDim}
@@ -17,6 +15,7 @@ use Rattle.xmp_map.specs.Nodes.{is_grid}
 use Rattle.xmp_map.specs.RowMajor.{product}
 use Rattle.xmp_map.specs.Spread.{is_whole, lies_over, spreads}
 
+-- grids of the same sizes are the same
 pub same_grid : (a b : Grid) → a.sizes ≡ b.sizes → a.dims ≡ b.dims → a ≡ b
 same_grid a b s d = λ i. record {
   sizes = s i;
@@ -26,6 +25,7 @@ same_grid a b s d = λ i. record {
   rest = is_prop→PathP (λ j. IsTrue (list_all (λ n. n == 1) (drop (d j) (s j)))) (λ j. hlevel props) a.rest b.rest i;
 }
 
+-- dimensions of the same size, nodes and form are the same
 pub same_dim : (a b : Dim) → a.size ≡ b.size → a.nodes ≡ b.nodes → a.dist ≡ b.dist → a ≡ b
 same_dim a b s n d = λ i. record {
   size = s i;
@@ -34,6 +34,7 @@ same_dim a b s n d = λ i. record {
   valid = is_prop→PathP (λ j. IsTrue (is_dim (s j) (n j) (d j))) (λ j. hlevel props) a.valid b.valid i;
 }
 
+-- so are two that lie on the same axis
 pub same_spread_dim : (a b : SpreadDim) → a.dim ≡ b.dim → a.axis ≡ b.axis → a ≡ b
 same_spread_dim a b d k = λ i. record {
   dim = d i;
@@ -41,6 +42,7 @@ same_spread_dim a b d k = λ i. record {
   small = is_prop→PathP (λ j. k j < 3) (λ j. hlevel props) a.small b.small i;
 }
 
+-- templates over one grid with the same dimensions are the same
 pub same_template : (a b : Template) → a.grid ≡ b.grid → a.spread ≡ b.spread → a.dims ≡ b.dims → a ≡ b
 same_template a b g s d = λ i. record {
   grid = g i;
@@ -52,6 +54,7 @@ same_template a b g s d = λ i. record {
   covers = is_prop→PathP (λ j. spreads (map (λ x. x.dim.dist) (s j)) ≡ (g j).dims) (λ j. hlevel props) a.covers b.covers i;
 }
 
+-- maps over one template with the same dimensions are the same
 pub same_map : (a b : ArrayMap) → a.template ≡ b.template → a.aligned ≡ b.aligned → a.dims ≡ b.dims → a ≡ b
 same_map a b t l d = λ i. record {
   template = t i;

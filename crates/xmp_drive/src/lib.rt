@@ -4,7 +4,6 @@
 mod accepted;
 mod coarrays;
 mod laws;
-mod probe;
 mod verdict;
 
 pub use accepted::Accepted;

@@ -1,6 +1,0 @@
-ghost use Rattle.std.specs.Prelude.{◌≡◌};
-pub fn bump(n: u8) -> u8
-    ensures { result ≡ n }
-{
-    n
-}
