@@ -29,10 +29,10 @@ one_made : (main : Stmt) (w : World) (p q : ProgParts) → Made main w p → Mad
 one_made main w p q P Q =
     let grid : p.grid ≡ q.grid = same_grid p.grid q.grid (P.grid.0 ∙ sym Q.grid.0) (P.grid.1 ∙ sym Q.grid.1) in
     let templates : p.templates ≡ q.templates = one_each (λ k line t. IsTemplate w p.grid k t)
-        (λ k line t u. one_template p.grid (template_sizes w k) (forms_of w k) t u) 0 w.mappings.templates p.templates q.templates P.templates
-        (subst (λ g. EachMade (λ k line t. IsTemplate w g k t) 0 w.mappings.templates q.templates) (sym grid) Q.templates) in
+    (λ k line t u. one_template p.grid (template_sizes w k) (forms_of w k) t u) 0 w.mappings.templates p.templates q.templates P.templates
+    (subst (λ g. EachMade (λ k line t. IsTemplate w g k t) 0 w.mappings.templates q.templates) (sym grid) Q.templates) in
     let arrays : p.arrays ≡ q.arrays = one_each (IsArray w p.templates) (one_array w p.templates) 0 w.names.arrays p.arrays q.arrays P.arrays
-        (subst (λ ts. EachMade (IsArray w ts) 0 w.names.arrays q.arrays) (sym templates) Q.arrays) in
+    (subst (λ ts. EachMade (IsArray w ts) 0 w.names.arrays q.arrays) (sym templates) Q.arrays) in
     λ i. record {
       grid = grid i;
       kind = (P.kind ∙ sym Q.kind) i;

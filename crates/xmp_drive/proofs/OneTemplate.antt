@@ -47,5 +47,5 @@ one_spread sizes k (x ∷ xs) (y ∷ ys) s d h i =
 pub one_template : (g : Grid) (ns : List ℤ) (fs : List Form) (t u : Template) → IsOf g ns fs t → IsOf g ns fs u → t ≡ u
 one_template g ns fs t u T U = same_template t u (T.grid ∙ sym U.grid)
     (one_spread g.sizes 0 t.spread u.spread (T.sizes ∙ sym U.sizes) (T.forms ∙ sym U.forms)
-        (subst (λ v. IsTrue (lies_over t.spread v.sizes 0)) T.grid t.lies) (subst (λ v. IsTrue (lies_over u.spread v.sizes 0)) U.grid u.lies))
+    (subst (λ v. IsTrue (lies_over t.spread v.sizes 0)) T.grid t.lies) (subst (λ v. IsTrue (lies_over u.spread v.sizes 0)) U.grid u.lies))
     (T.dims ∙ sym U.dims)
