@@ -1,6 +1,6 @@
 -- The faults of the phases are those of the verdict.
-use Rattle.std.proofs.Common.{◌≡◌, refl, ℕ, List, Option, Some, None, Result, Ok, Err, ⊤}
-use Rattle.std.specs.Prelude.{IfErr}
+use Rattle.std.proofs.Common.{◌≡◌, refl, ℕ, List, Option, Some, None}
+use Rattle.std.specs.Prelude.{IfErr, Result, Ok, Err}
 use Rattle.xmp_base.specs.declared.refusal.Fault.{Fault}
 use Rattle.xmp_base.specs.declared.refusal.Fault.TheVariants as fault
 use Rattle.xmp_base.specs.declared.refusal.Refusal.{Refusal}

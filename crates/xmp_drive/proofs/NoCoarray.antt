@@ -37,8 +37,8 @@ right_false false b e = e
 right_false true false e = refl
 right_false true true e = e
 
-none_made : (w : World) (ts : List Template) (k : ℕ) (as : List Array) (made : List made_array.Array) → EachMade (IsArray w ts) k as made
-    → list_any (λ a. is_image a.home) made ≡ false → first_coarray as ≡ None
+none_made : (w : World) (ts : List Template) (k : ℕ) (arrays : List Array) (made : List made_array.Array) → EachMade (IsArray w ts) k arrays made
+    → list_any (λ a. is_image a.home) made ≡ false → first_coarray arrays ≡ None
 none_made w ts k [] made each e = refl
 none_made w ts k (a ∷ more) [] each e = absurd each
 none_made w ts k (a ∷ more) (m ∷ made) each e =
