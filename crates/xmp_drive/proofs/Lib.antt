@@ -1,1 +1,4 @@
 mod Verdicts
+mod Readings
+mod OneBreak
+mod OneRefusal
