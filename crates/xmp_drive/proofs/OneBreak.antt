@@ -6,8 +6,6 @@ use Rattle.xmp_base.specs.declared.place.Place.{Place}
 use Rattle.xmp_base.specs.declared.refusal.Phase.{Phase}
 use Rattle.xmp_base.specs.declared.refusal.Refusal.{Refusal}
 use Rattle.xmp_lex.specs.declared.token.Token.{Token}
-use Rattle.xmp_tree.specs.Reading.{State, reading, Reads}
-use Rattle.xmp_tree.specs.Grammar.{rule}
 use Rattle.xmp_tree.specs.Refused.{Begins, Stuck, TooDeep, start, program_rules}
 use Rattle.xmp_tree.specs.Steps.{regroup, all_split}
 use Rattle.xmp_parse.specs.Programs.{StandsAt, Breaks}

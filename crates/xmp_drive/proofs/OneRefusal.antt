@@ -8,7 +8,7 @@ use Rattle.xmp_lex.specs.declared.token.Token.{Token}
 use Rattle.xmp_lex.specs.Cut.{Cut, BreaksLexRule}
 use Rattle.xmp_lex.specs.Expand.{Event, Expands, Expanded, BreaksMacros, tokens_of}
 use Rattle.xmp_parse.specs.Programs as syntax
-use Rattle.xmp_source.specs.Source.{Comes, IsTreeOf, Breaks, in_text, in_macros, in_syntax}
+use Rattle.xmp_source.specs.Source.{Comes, Breaks, in_text, in_macros, in_syntax}
 use Rattle.xmp_drive.specs.Verdict.{IsRefused, in_source, in_tree, tree_verdict}
 use Rattle.xmp_drive.proofs.Verdicts.{OneTree, TreeOrRefused, one_verdict}
 use Rattle.xmp_drive.proofs.OneBreak.{ShorterBegins, OneStuck, same_refusal, one_break}

@@ -1,8 +1,8 @@
 -- Readings of the same tokens agree: of one place, and of the tokens before a bad one.
-use Rattle.std.proofs.Common.{◌≡◌, ◌≤◌, ◌+◌, ◌⊎◌, inl, inr, ℕ, suc, List, [], ◌∷◌, ◌++◌, length, refl, sym, ap, ◌∙◌, subst, append_assoc, arith}
+use Rattle.std.proofs.Common.{◌≡◌, ◌+◌, ℕ, suc, List, [], ◌∷◌, ◌++◌, length, refl, sym, ap, ◌∙◌, subst, append_assoc, arith}
 use Rattle.std.proofs.lemmas.List.{length-append}
 use Rattle.xmp_lex.specs.declared.token.Token.{Token}
-use Rattle.xmp_tree.specs.Reading.{Rule, Depths, State, reading, Step, goes, halts, step, Reads, here, onward}
+use Rattle.xmp_tree.specs.Reading.{Rule, Depths, State, reading, goes, step, Reads, here, onward}
 use Rattle.xmp_tree.specs.Grammar.{rule}
 use Rattle.xmp_tree.specs.Refused.{Begins}
 use Rattle.xmp_tree.specs.Steps.{Local, no_token, one_token, two_tokens, local, begins_nothing}
