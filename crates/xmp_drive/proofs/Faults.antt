@@ -1,5 +1,5 @@
 -- The faults of the phases are those of the verdict.
-use Rattle.std.proofs.Common.{◌≡◌, refl, ℕ, List, Option, Some, None}
+use Rattle.std.proofs.Common.{◌≡◌, refl, ℕ, List, Option}
 use Rattle.std.specs.Prelude.{IfErr, Result, Ok, Err}
 use Rattle.xmp_base.specs.declared.refusal.Fault.{Fault}
 use Rattle.xmp_base.specs.declared.refusal.Fault.TheVariants as fault
@@ -7,7 +7,7 @@ use Rattle.xmp_base.specs.declared.refusal.Refusal.{Refusal}
 use Rattle.xmp_tree.specs.declared.program.Tree.{Tree}
 use Rattle.xmp_source.specs.Source.{IsTreeOf, IsSourceFault}
 use Rattle.xmp_elab.specs.Parts.{RefusedBy}
-use Rattle.xmp_drive.specs.Verdict.{IsRefused, in_source, in_tree, IsVerdictFault, tree_verdict, then_verdict}
+use Rattle.xmp_drive.specs.Verdict.{IsRefused, in_source, in_tree, IsVerdictFault, tree_verdict}
 
 pub err_map : {A E : Type 0} {P Q : E → Type 0} (r : Result A E) → ((e : E) → P e → Q e) → IfErr r P → IfErr r Q
 err_map (Ok x) f p = tt

@@ -6,7 +6,6 @@ use Rattle.xmp_base.specs.declared.refusal.Refusal.{Refusal}
 use Rattle.xmp_map.specs.declared.template.Template.{Template}
 use Rattle.xmp_tree.specs.declared.program.Tree.{Tree}
 use Rattle.xmp_prog.specs.declared.parts.Home.{Home}
-use Rattle.xmp_prog.specs.declared.parts.Home.TheVariants as home
 use Rattle.xmp_prog.specs.declared.parts.Array as made_array
 use Rattle.xmp_prog.specs.declared.parts.ProgParts.{ProgParts}
 use Rattle.xmp_prog.specs.declared.statements.Stmt.{Stmt}

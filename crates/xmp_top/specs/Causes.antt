@@ -1,44 +1,92 @@
 -- What follows from an answer for each status: when it comes, and what was written.
-use Rattle.std.specs.Prelude.{◌≡◌, ◌≢◌, ◌≤◌, ◌⊎◌, ℕ, List, length, Some, codes}
+use Rattle.std.specs.Prelude.{◌≡◌, ◌≢◌, ◌≤◌, ◌<◌, ◌⊎◌, ⊤, ℕ, List, [], length, Option, Some, None, codes}
+use Rattle.xmp_base.specs.declared.place.Place.{Place}
+use Rattle.xmp_base.specs.declared.refusal.Refusal.{Refusal}
 use Rattle.xmp_base.specs.declared.status.Status.{Status}
-use Rattle.xmp_base.specs.declared.status.Status.TheVariants.{Ended, Refused, Usage, ReadFault, WriteFault, NoMemory, Trapped, OutOfSteps, TooLarge}
+use Rattle.xmp_base.specs.declared.status.Status.TheVariants.{Ended, Trapped, OutOfSteps, Refused, Usage, ReadFault, WriteFault, NoMemory, TooLarge}
+use Rattle.xmp_num.specs.declared.types.TrapKind.{TrapKind}
+use Rattle.xmp_prog.specs.declared.parts.ProgParts.{ProgParts}
+use Rattle.xmp_meaning.specs.declared.outcome.Outcome.TheVariants as outcome
+use Rattle.xmp_meaning.specs.Programs.{serial}
+use Rattle.xmp_drive.specs.Verdict.{IsAccepted, IsRefused}
 use Rattle.xmp_first.specs.Accepts.{Accepts}
-use Rattle.xmp_top.specs.declared.TheConstants.{SOURCE_LIMIT}
-use Rattle.xmp_top.specs.declared.forms.Command.TheVariants.{Run}
+use Rattle.xmp_top.specs.declared.TheConstants.{SOURCE_LIMIT, INPUT_LIMIT}
+use Rattle.xmp_top.specs.declared.forms.Command.TheVariants.{Check, Serial, Run}
+use Rattle.xmp_top.specs.Settings.{Settings}
 use Rattle.xmp_top.specs.Forms.{Form, SpellsForm, SpellsNoForm}
+use Rattle.xmp_top.specs.Lines.{line, refused_text, trapped_text}
 use Rattle.xmp_top.specs.Delivery.{Due, SinkCall, SinkFailed, Took, TookNothing, OutFailed, ErrFailed}
-use Rattle.xmp_top.specs.Answer.{FilesCall, line, IsRead, ReadFailed, IsRefused, IsDue}
+use Rattle.xmp_top.specs.Answer.{FilesCall, IsRead, ReadFailed, IsNone, IsDue, first_refusal, says_usage, says_refused, says_too_large, prints, run_on}
+
+-- ---- what was written
 
 -- Nothing was written to out, and this line to err.
 pub record SaysOnly (text : List ℕ) (out err : SinkCall) : Type 0 where
   pub out_took : TookNothing out
   pub err_took : Took err (line text)
 
--- The words are a form whose file could not be read.
-pub record ReadFaulted (words : List (List ℕ)) (files : FilesCall) : Type 0 where
-  pub form : Form
-  pub spells : SpellsForm form words
-  pub failed : ReadFailed files form.file
+-- All that is due was written.
+pub record Wrote (due : Due) (out err : SinkCall) (status : Status) : Type 0 where
+  pub status_is : status ≡ due.status
+  pub out_took : Took out due.out
+  pub err_took : Took err due.err
 
--- The words are a form whose file was read, and its text is refused.
-pub record ReadRefused (words : List (List ℕ)) (files : FilesCall) : Type 0 where
-  pub form : Form
-  pub spells : SpellsForm form words
-  pub text : List ℕ
-  pub read : IsRead files form.file text
-  pub refused : IsRefused text
+-- ---- what was read
 
--- The words ask for a run of a file, which was read, whose program printed these bytes.
-pub record ReadAndRan (words : List (List ℕ)) (files : FilesCall) (out err : SinkCall) : Type 0 where
-  pub form : Form
+-- The words are a form whose file was read, and its text is within the limit.
+pub record ReadSource (words : List (List ℕ)) (files : FilesCall) (form : Form) (text : List ℕ) : Type 0 where
   pub spells : SpellsForm form words
-  pub runs : form.command ≡ Run
+  pub read : IsRead files SOURCE_LIMIT form.file text
+  pub fits : length text ≤ SOURCE_LIMIT
+
+-- The words are `serial`, and the text of its file is accepted.
+pub record ReadProgram (words : List (List ℕ)) (files : FilesCall) (form : Form) (p : ProgParts) : Type 0 where
   pub text : List ℕ
-  pub read : IsRead files form.file text
-  pub bytes : List ℕ
-  pub accepted : Accepts text bytes
-  pub out_took : Took out bytes
-  pub err_took : TookNothing err
+  pub source : ReadSource words files form text
+  pub serial : form.command ≡ Serial
+  pub accepted : IsAccepted text form.settings.nodes p
+
+-- what was read as the input: nothing where no file is named
+abbrev pub IsInput : FilesCall → Option (List ℕ) → List ℕ → Type 0
+IsInput files None input = input ≡ []
+IsInput files (Some name) input = IsRead files INPUT_LIMIT name input × (length input ≤ INPUT_LIMIT)
+
+-- ---- when each answer comes
+
+-- The file of the form could not be read; or its text is accepted, and the file of the input could not be read.
+pub data ReadFaulted (words : List (List ℕ)) (files : FilesCall) : Type 0 where
+  of_source : (form : Form) → SpellsForm form words → ReadFailed files form.file → ReadFaulted words files
+  of_input : (form : Form) (p : ProgParts) → ReadProgram words files form p → (name : List ℕ) → form.settings.input ≡ Some name → ReadFailed files name
+      → ReadFaulted words files
+
+-- The file of the form is too large; or its text is accepted, and the file of the input is too large.
+pub data WasTooLarge (words : List (List ℕ)) (files : FilesCall) : Type 0 where
+  of_source : (form : Form) → SpellsForm form words → (text : List ℕ) → IsRead files SOURCE_LIMIT form.file text → SOURCE_LIMIT < length text
+      → WasTooLarge words files
+  of_input : (form : Form) (p : ProgParts) → ReadProgram words files form p → (name : List ℕ) → form.settings.input ≡ Some name
+      → (input : List ℕ) → IsRead files INPUT_LIMIT name input → INPUT_LIMIT < length input → WasTooLarge words files
+
+-- The text that was read breaks a rule; under `run` it is none of its programs.
+pub data WasRefused (words : List (List ℕ)) (files : FilesCall) (r : Refusal) : Type 0 where
+  by_rule : (form : Form) (text : List ℕ) → ReadSource words files form text → form.command ≢ Run → IsRefused text form.settings.nodes r → WasRefused words files r
+  by_form : (form : Form) (text : List ℕ) → ReadSource words files form text → form.command ≡ Run → IsNone text → r ≡ first_refusal → WasRefused words files r
+
+-- An accepted program was run with its directives erased, on its input, and this is due for what it came to.
+pub record WasRun (words : List (List ℕ)) (files : FilesCall) (due : Due) : Type 0 where
+  pub form : Form
+  pub p : ProgParts
+  pub program : ReadProgram words files form p
+  pub input : List ℕ
+  pub is_input : IsInput files form.settings.input input
+  pub due_is : due ≡ run_on form.settings p input
+
+-- The program was accepted by `check`, or run by `serial` or `run`, and this is due for what it came to.
+pub data HasEnded (words : List (List ℕ)) (files : FilesCall) (due : Due) : Type 0 where
+  by_check : (form : Form) (text : List ℕ) → ReadSource words files form text → form.command ≡ Check → (p : ProgParts) → IsAccepted text form.settings.nodes p
+      → due ≡ prints (line (codes "accepted")) → HasEnded words files due
+  by_serial : WasRun words files due → HasEnded words files due
+  by_run : (form : Form) (text : List ℕ) → ReadSource words files form text → form.command ≡ Run → (bytes : List ℕ) → Accepts text bytes → due ≡ prints bytes
+      → HasEnded words files due
 
 -- Bytes were due on out and it failed at them, or it took them all, a line was due on err, and that failed at it.
 pub record WriteFaulted (words : List (List ℕ)) (files : FilesCall) (out err : SinkCall) (status : Status) : Type 0 where
@@ -46,37 +94,64 @@ pub record WriteFaulted (words : List (List ℕ)) (files : FilesCall) (out err :
   pub is_due : IsDue files words due
   pub failed : OutFailed due out err status ⊎ ErrFailed due out err status
 
--- The words ask for a run of a file that is told and not larger than the limit: its text is this one.
-pub record RunsText (words : List (List ℕ)) (files : FilesCall) (text : List ℕ) : Type 0 where
-  pub form : Form
-  pub spells : SpellsForm form words
-  pub runs : form.command ≡ Run
-  pub told : files.told form.file ≡ Some text
-  pub small : length text ≤ SOURCE_LIMIT
+-- ---- exactly when
 
--- Neither the file that the words name nor a sink failed in the call.
+-- Of the files that the words name none failed to be read in the call, and no sink failed.
 pub record NothingFailed (words : List (List ℕ)) (files : FilesCall) (out err : SinkCall) : Type 0 where
-  pub read : (form : Form) → SpellsForm form words → ReadFailed files form.file → ⊥
+  pub source : (form : Form) → SpellsForm form words → ReadFailed files form.file → ⊥
+  pub input : (form : Form) (name : List ℕ) → SpellsForm form words → form.settings.input ≡ Some name → ReadFailed files name → ⊥
   pub out_held : SinkFailed out → ⊥
   pub err_held : SinkFailed err → ⊥
 
--- The status is this one, or memory ran out before the first write.
-abbrev pub OrNoMemory : Status → Status → Type 0
-OrNoMemory wanted status = (status ≡ wanted) ⊎ (status ≡ NoMemory)
+-- This was answered, or memory ran out before the first write.
+abbrev pub OrNoMemory : Due → SinkCall → SinkCall → Status → Type 0
+OrNoMemory due out err status = Wrote due out err status ⊎ (status ≡ NoMemory)
+
+-- The words are a form whose file is told and not larger than the limit: its text is this one.
+pub record HasText (words : List (List ℕ)) (files : FilesCall) (form : Form) (text : List ℕ) : Type 0 where
+  pub spells : SpellsForm form words
+  pub told : files.told form.file ≡ Some text
+  pub small : length text ≤ SOURCE_LIMIT
+
+-- The input is told and not larger than its limit, or none is named and it is empty.
+abbrev pub HasInput : FilesCall → Option (List ℕ) → List ℕ → Type 0
+HasInput files None input = input ≡ []
+HasInput files (Some name) input = (files.told name ≡ Some input) × (length input ≤ INPUT_LIMIT)
+
+-- The file of this name is told, and has more bytes than the limit.
+abbrev pub HasMore : FilesCall → ℕ → List ℕ → Type 0
+HasMore files limit name = (all : List ℕ) × (files.told name ≡ Some all) × (limit < length all)
 
 pub record HasCauses (words : List (List ℕ)) (files : FilesCall) (out err : SinkCall) (status : Status) : Type 0 where
   -- when each answer comes, and what was written with it
   pub usage : status ≡ Usage → SpellsNoForm words × SaysOnly (codes "usage") out err
   pub read_fault : status ≡ ReadFault → ReadFaulted words files × SaysOnly (codes "read fault") out err
-  pub refused : status ≡ Refused → ReadRefused words files × SaysOnly (codes "refused S1 at 1:1") out err
+  pub too_large : status ≡ TooLarge → WasTooLarge words files × SaysOnly (codes "too large") out err
+  pub refused : status ≡ Refused → (r : Refusal) × WasRefused words files r × SaysOnly (refused_text r) out err
+  pub ended : status ≡ Ended → (due : Due) × HasEnded words files due × Wrote due out err status
+  pub trapped : status ≡ Trapped → (due : Due) × WasRun words files due × Wrote due out err status
+  pub out_of_steps : status ≡ OutOfSteps → (due : Due) × WasRun words files due × Wrote due out err status
   pub write_fault : status ≡ WriteFault → WriteFaulted words files out err status
   pub no_memory : status ≡ NoMemory → TookNothing out × TookNothing err
-  pub ended : status ≡ Ended → ReadAndRan words files out err
-  pub no_other : (status ≢ Trapped) × (status ≢ OutOfSteps) × (status ≢ TooLarge)
   -- words of no form have no other answer, but where the line can't be written
-  pub usage_exactly : SpellsNoForm words → (SinkFailed err → ⊥) → OrNoMemory Usage status
-  -- the headline: a run of a program that ended wrote exactly what the program prints with its directives erased
-  pub headline : status ≡ Ended → (text bytes : List ℕ) → RunsText words files text → Accepts text bytes → Took out bytes × TookNothing err
-  -- where nothing failed, an accepted text ends, and any other is refused
-  pub complete : (text bytes : List ℕ) → RunsText words files text → Accepts text bytes → NothingFailed words files out err → OrNoMemory Ended status
-  pub refused_exactly : (text : List ℕ) → RunsText words files text → IsRefused text → NothingFailed words files out err → OrNoMemory Refused status
+  pub usage_exactly : SpellsNoForm words → (SinkFailed err → ⊥) → OrNoMemory says_usage out err status
+  -- where nothing failed: a source that is too large
+  pub source_exactly : (form : Form) → SpellsForm form words → HasMore files SOURCE_LIMIT form.file → NothingFailed words files out err
+      → OrNoMemory says_too_large out err status
+  -- the headline of `check` and `serial`: a text that breaks a rule is refused by the first, and nothing is written but that
+  pub refused_exactly : (form : Form) (text : List ℕ) (r : Refusal) → HasText words files form text → form.command ≢ Run → IsRefused text form.settings.nodes r
+      → NothingFailed words files out err → OrNoMemory (says_refused r) out err status
+  pub accepted_exactly : (form : Form) (text : List ℕ) (p : ProgParts) → HasText words files form text → form.command ≡ Check → IsAccepted text form.settings.nodes p
+      → NothingFailed words files out err → OrNoMemory (prints (line (codes "accepted"))) out err status
+  -- the headline of `serial`: the output and the end of the program with its directives erased
+  pub run_exactly : (form : Form) (text : List ℕ) (p : ProgParts) (input : List ℕ) → HasText words files form text → form.command ≡ Serial
+      → IsAccepted text form.settings.nodes p → HasInput files form.settings.input input → NothingFailed words files out err
+      → OrNoMemory (run_on form.settings p input) out err status
+  pub input_exactly : (form : Form) (text : List ℕ) (p : ProgParts) (name : List ℕ) → HasText words files form text → form.command ≡ Serial
+      → IsAccepted text form.settings.nodes p → form.settings.input ≡ Some name → HasMore files INPUT_LIMIT name → NothingFailed words files out err
+      → OrNoMemory says_too_large out err status
+  -- the headline of `run`: what a program of its form prints with its directives erased, and any other text is refused
+  pub printed_exactly : (form : Form) (text bytes : List ℕ) → HasText words files form text → form.command ≡ Run → Accepts text bytes
+      → NothingFailed words files out err → OrNoMemory (prints bytes) out err status
+  pub no_program_exactly : (form : Form) (text : List ℕ) → HasText words files form text → form.command ≡ Run → IsNone text
+      → NothingFailed words files out err → OrNoMemory (says_refused first_refusal) out err status

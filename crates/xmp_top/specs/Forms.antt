@@ -2,7 +2,7 @@
 use Rattle.std.specs.Prelude.{◌≡◌, ℕ, List, [], ◌∷◌, ◌++◌, codes}
 use Rattle.xmp_top.specs.Settings.{Settings, Sets, unset, settings_of, IsFileName}
 use Rattle.xmp_top.specs.declared.forms.Command.{Command}
-use Rattle.xmp_top.specs.declared.forms.Command.TheVariants.{Run}
+use Rattle.xmp_top.specs.declared.forms.Command.TheVariants.{Check, Serial, Run}
 use Rattle.xmp_top.specs.declared.forms.CommandLine.{CommandLine}
 
 -- What a command line asks for: a command, its options, and the file that has the source.
@@ -13,10 +13,14 @@ pub record Form : Type 0 where
 
 -- the word of a command
 abbrev pub word_of : Command → List ℕ
+word_of Check = codes "check"
+word_of Serial = codes "serial"
 word_of Run = codes "run"
 
 -- The options that a command takes: `run` takes none as yet.
 abbrev pub Takes : Command → Settings → Type 0
+Takes Check settings = settings ≡ record unset { nodes = settings.nodes }
+Takes Serial settings = settings ≡ record unset { nodes = settings.nodes; steps = settings.steps; input = settings.input }
 Takes Run settings = settings ≡ unset
 
 -- The words are those of the form: the command, its options in any order, and the file.

@@ -2,7 +2,9 @@ pub mod Numbers
 pub mod Settings
 pub mod Forms
 pub mod Delivery
+pub mod Lines
 pub mod Answer
 pub mod Causes
 pub use Rattle.xmp_base.specs.Told
 pub use Rattle.xmp_first.specs.Accepts
+pub use Rattle.xmp_drive.specs.Verdict

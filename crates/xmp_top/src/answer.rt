@@ -1,17 +1,27 @@
 // Prepares what is due.
-ghost use Rattle.std.specs.Prelude.{◌≡◌, List, ℕ, map, string_bytes, IfOk, MatchOption};
+ghost use Rattle.std.specs.Prelude.{◌≡◌, ◌≤◌, List, ℕ, Option, map, string_bytes, option_map, IfOk, IsTrue, length, MatchOption};
+ghost use Rattle.xmp_elab.specs.Narrow.{is_count};
+ghost use Rattle.xmp_prog.specs.declared.parts.ProgParts.{ProgParts};
+ghost use Rattle.xmp_meaning.specs.Programs.{serial};
 ghost use Rattle.xmp_first.specs.Accepts.{Accepts};
-ghost use Rattle.xmp_top.specs.declared.forms.Command.TheVariants.{Run};
+ghost use Rattle.xmp_top.specs.declared.TheConstants.{SOURCE_LIMIT};
+ghost use Rattle.xmp_top.specs.Settings.{settings_of};
 ghost use Rattle.xmp_top.specs.Forms.{form_of};
-ghost use Rattle.xmp_top.specs.Answer.{IsDue, IsRefused, AnswersText, AnswersForm, only_line};
+ghost use Rattle.xmp_top.specs.Answer.{AnswersCheck, AnswersForm, AnswersInput, AnswersRead, AnswersRun, AnswersSerial, AnswersText, IsDue, IsNone, due_of, only_line, prints, run_on, says_refused, steps_in};
 
-use crate::SOURCE_LIMIT;
 use crate::forms::{Command, CommandLine};
+use crate::lines::{refused_line, trapped_line};
+use crate::options::Options;
 use crate::prepared::Prepared;
 use crate::words::command_line;
+use crate::{DEFAULT_STEPS, INPUT_LIMIT, SOURCE_LIMIT};
 use std::alloc::Global;
-use xmp_base::{Bytes, Fault, FileError, Files, NoMemory, Status};
+use std::mem::drop;
+use xmp_base::{Bytes, Fault, FileError, Files, NoMemory, Phase, Place, Refusal, Status};
+use xmp_drive::{Accepted, compile};
 use xmp_first::{read_first, run_first};
+use xmp_meaning::Outcome;
+use xmp_serial::serial;
 
 fn bytes_of(alloc: Global, from: &[u8]) -> Result<Bytes, NoMemory>
     ensures { IfOk result (λ bytes. bytes ≡ from.now) }
@@ -20,6 +30,8 @@ fn bytes_of(alloc: Global, from: &[u8]) -> Result<Bytes, NoMemory>
     bytes.push_all(from)?;
     Ok(bytes)
 }
+
+// ---- the dues
 
 // Nothing on `out`, and a line on `err`.
 fn line_on_err(alloc: Global, text: &[u8], status: Status) -> Result<Prepared, NoMemory>
@@ -34,9 +46,60 @@ fn line_on_err(alloc: Global, text: &[u8], status: Status) -> Result<Prepared, N
     })
 }
 
+fn refused(alloc: Global, refusal: Refusal) -> Result<Prepared, NoMemory>
+    ensures { IfOk result (λ due. record { out = due.out; err = due.err; status = due.status } ≡ says_refused refusal) }
+{
+    let err = refused_line(alloc, refusal)?;
+    Ok(Prepared {
+        out: Bytes::new(alloc),
+        err,
+        status: Status::Refused,
+    })
+}
+
+fn printed(alloc: Global, out: Bytes) -> Prepared
+    ensures { record { out = result.out; err = result.err; status = result.status } ≡ prints out }
+{
+    Prepared {
+        out,
+        err: Bytes::new(alloc),
+        status: Status::Ended,
+    }
+}
+
+// What a run came to.
+fn come_to(alloc: Global, outcome: Outcome) -> Result<Prepared, NoMemory>
+    ensures { IfOk result (λ due. record { out = due.out; err = due.err; status = due.status } ≡ due_of outcome) }
+{
+    match outcome {
+        Outcome::Ended { out, arrays } => {
+            drop(arrays);
+            Ok(printed(alloc, out))
+        }
+        Outcome::Trapped { out, kind, at } => {
+            let err = trapped_line(alloc, kind, at)?;
+            Ok(Prepared {
+                out,
+                err,
+                status: Status::Trapped,
+            })
+        }
+        Outcome::OutOfSteps { out } => {
+            let err = bytes_of(alloc, b"out of steps\n")?;
+            Ok(Prepared {
+                out,
+                err,
+                status: Status::OutOfSteps,
+            })
+        }
+    }
+}
+
+// ---- run
+
 // The output of the program that a text is, as its nodes found it, or none where the text is no program.
 fn output_of(alloc: Global, text: &[u8]) -> Result<Option<Bytes>, NoMemory>
-    ensures { IfOk result (λ found. MatchOption found (IsRefused text.now) (λ out. Accepts text.now out)) }
+    ensures { IfOk result (λ found. MatchOption found (IsNone text.now) (λ out. Accepts text.now out)) }
 {
     match read_first(alloc, text) {
         Ok(program) => {
@@ -49,25 +112,160 @@ fn output_of(alloc: Global, text: &[u8]) -> Result<Option<Bytes>, NoMemory>
     }
 }
 
-// What `run` answers to a text.
 fn answer_run(alloc: Global, text: &[u8]) -> Result<Prepared, NoMemory>
-    ensures { IfOk result (λ due. AnswersText Run text.now (record { out = due.out; err = due.err; status = due.status })) }
+    ensures { IfOk result (λ due. AnswersRun text.now (record { out = due.out; err = due.err; status = due.status })) }
 {
     match output_of(alloc, text)? {
-        Some(out) => Ok(Prepared {
-            out,
-            err: Bytes::new(alloc),
-            status: Status::Ended,
-        }),
-        None => line_on_err(alloc, b"refused S1 at 1:1", Status::Refused),
+        Some(out) => Ok(printed(alloc, out)),
+        None => refused(
+            alloc,
+            Refusal {
+                phase: Phase::Syntax,
+                rule: 1,
+                at: Place { line: 1, column: 1 },
+            },
+        ),
     }
 }
 
+// ---- check
+
+// The number of nodes that is asked for.
+fn nodes_of(options: &Options<'_>) -> Option<u32>
+    ensures nodes { result ≡ options.now.nodes }
+    ensures count { IsTrue (is_count result) }
+{
+    match options.nodes {
+        Some(n) => Some(n as u32),
+        None => None,
+    }
+}
+
+fn answer_check(alloc: Global, options: &Options<'_>, text: &[u8]) -> Result<Prepared, NoMemory>
+    requires size { length text.now ≤ SOURCE_LIMIT }
+    ensures { IfOk result (λ due. AnswersCheck (settings_of options.now) text.now (record { out = due.out; err = due.err; status = due.status })) }
+{
+    match compile(alloc, text, nodes_of(options)) {
+        Ok(program) => {
+            drop(program);
+            let out = bytes_of(alloc, b"accepted\n")?;
+            Ok(printed(alloc, out))
+        }
+        Err(Fault::Refused(refusal)) => refused(alloc, refusal),
+        Err(Fault::NoMemory) => Err(NoMemory),
+    }
+}
+
+// ---- serial
+
+fn steps_of(options: &Options<'_>) -> u64
+    ensures { result ≡ steps_in options.now.steps }
+{
+    match options.steps {
+        Some(steps) => steps,
+        None => DEFAULT_STEPS,
+    }
+}
+
+// A run of a program with its directives erased, on an input.
+fn run_serial(
+    alloc: Global,
+    options: &Options<'_>,
+    program: &Accepted,
+    input: &[u8],
+) -> Result<Prepared, NoMemory>
+    ensures { IfOk result (λ due. record { out = due.out; err = due.err; status = due.status } ≡ run_on (settings_of options.now) program.now input.now) }
+{
+    let outcome = serial(alloc, program.prog(), input, steps_of(options))?;
+    come_to(alloc, outcome)
+}
+
+// The same on what a file tells.
+fn run_on_file<F: Files>(
+    alloc: Global,
+    options: &Options<'_>,
+    program: &Accepted,
+    name: &str,
+    files: &mut F,
+) -> Result<Prepared, NoMemory>
+    ensures { IfOk result (λ due. AnswersRead
+        (record { told = F.told files.old; faults_before = F.faults files.old; faults_now = F.faults files.new })
+        (settings_of options.now) program.now name.now
+        (record { out = due.out; err = due.err; status = due.status })) }
+{
+    match files.read(alloc, name, INPUT_LIMIT) {
+        Ok(input) => {
+            let input = input.as_slice();
+            if input.len() > INPUT_LIMIT {
+                return line_on_err(alloc, b"too large", Status::TooLarge);
+            }
+            run_serial(alloc, options, program, input)
+        }
+        Err(FileError::Failed) => line_on_err(alloc, b"read fault", Status::ReadFault),
+        Err(FileError::NoMemory) => Err(NoMemory),
+    }
+}
+
+// What `serial` answers to a program.
+fn answer_program<F: Files>(
+    alloc: Global,
+    options: &Options<'_>,
+    program: &Accepted,
+    files: &mut F,
+) -> Result<Prepared, NoMemory>
+    ensures { IfOk result (λ due. AnswersInput
+        (record { told = F.told files.old; faults_before = F.faults files.old; faults_now = F.faults files.new })
+        (settings_of options.now) program.now (settings_of options.now).input
+        (record { out = due.out; err = due.err; status = due.status })) }
+{
+    match options.input {
+        Some(name) => run_on_file(alloc, options, program, name, files),
+        None => run_serial(alloc, options, program, b""),
+    }
+}
+
+fn answer_serial<F: Files>(
+    alloc: Global,
+    options: &Options<'_>,
+    text: &[u8],
+    files: &mut F,
+) -> Result<Prepared, NoMemory>
+    requires size { length text.now ≤ SOURCE_LIMIT }
+    ensures { IfOk result (λ due. AnswersSerial
+        (record { told = F.told files.old; faults_before = F.faults files.old; faults_now = F.faults files.new })
+        (settings_of options.now) text.now
+        (record { out = due.out; err = due.err; status = due.status })) }
+{
+    match compile(alloc, text, nodes_of(options)) {
+        Ok(program) => {
+            let due = answer_program(alloc, options, &program, files);
+            drop(program);
+            due
+        }
+        Err(Fault::Refused(refusal)) => refused(alloc, refusal),
+        Err(Fault::NoMemory) => Err(NoMemory),
+    }
+}
+
+// ---- all forms
+
 // What a command answers to a text.
-fn answer_text(alloc: Global, command: Command, text: &[u8]) -> Result<Prepared, NoMemory>
-    ensures { IfOk result (λ due. AnswersText command text.now (record { out = due.out; err = due.err; status = due.status })) }
+fn answer_text<F: Files>(
+    alloc: Global,
+    command: Command,
+    options: &Options<'_>,
+    text: &[u8],
+    files: &mut F,
+) -> Result<Prepared, NoMemory>
+    requires size { length text.now ≤ SOURCE_LIMIT }
+    ensures { IfOk result (λ due. AnswersText
+        (record { told = F.told files.old; faults_before = F.faults files.old; faults_now = F.faults files.new })
+        command (settings_of options.now) text.now
+        (record { out = due.out; err = due.err; status = due.status })) }
 {
     match command {
+        Command::Check => answer_check(alloc, options, text),
+        Command::Serial => answer_serial(alloc, options, text, files),
         Command::Run => answer_run(alloc, text),
     }
 }
@@ -84,13 +282,19 @@ fn answer_form<F: Files>(
         (record { out = due.out; err = due.err; status = due.status })) }
 {
     match files.read(alloc, line.file, SOURCE_LIMIT) {
-        Ok(text) => answer_text(alloc, line.command, text.as_slice()),
+        Ok(text) => {
+            let text = text.as_slice();
+            if text.len() > SOURCE_LIMIT {
+                return line_on_err(alloc, b"too large", Status::TooLarge);
+            }
+            answer_text(alloc, line.command, &line.options, text, files)
+        }
         Err(FileError::Failed) => line_on_err(alloc, b"read fault", Status::ReadFault),
         Err(FileError::NoMemory) => Err(NoMemory),
     }
 }
 
-/// Reads the words, and the file that they name, and prepares all that is to be written.
+/// Reads the words, and the files that they name, and prepares all that is to be written.
 pub fn prepare<F: Files>(
     alloc: Global,
     words: &Vec<String>,

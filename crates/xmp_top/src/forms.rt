@@ -4,6 +4,11 @@ use crate::options::Options;
 /// The commands that there are.
 #[derive(Clone, Copy, Debug, PartialEq, Eq)]
 pub enum Command {
+    /// Writes whether the program is accepted.
+    Check,
+    /// Runs the program with its directives erased.
+    Serial,
+    /// Runs the program on its nodes.
     Run,
 }
 

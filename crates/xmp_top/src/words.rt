@@ -13,31 +13,46 @@ fn command_of(word: &str) -> Option<Command>
     ensures some { IfSome result (λ command. word.now ≡ word_of command) }
     ensures none { IfNone result ((command : Command) → word.now ≡ word_of command → ⊥) }
 {
-    if word == "run" {
-        Some(Command::Run)
-    } else {
-        None
+    if word == "check" {
+        return Some(Command::Check);
     }
+    if word == "serial" {
+        return Some(Command::Serial);
+    }
+    if word == "run" {
+        return Some(Command::Run);
+    }
+    None
 }
 
-fn is_unset(options: &Options<'_>) -> bool
-    ensures { IsTrue result ↔ (settings_of options.now ≡ unset) }
+// Whether nothing is set that concerns the order of the nodes, their code or their report.
+fn has_no_more(options: &Options<'_>) -> bool
+    ensures { IsTrue result ↔ ((options.now.order ≡ None) × (options.now.node ≡ None) × (options.now.report ≡ false)) }
 {
-    if options.nodes.is_some() || options.steps.is_some() || options.input.is_some() {
-        return false;
-    }
     if options.order.is_some() || options.node.is_some() {
         return false;
     }
     !options.report
 }
 
+// Whether no budget and no input is set either.
+fn has_no_run(options: &Options<'_>) -> bool
+    ensures { IsTrue result ↔ ((options.now.steps ≡ None) × (options.now.input ≡ None)) }
+{
+    options.steps.is_none() && options.input.is_none()
+}
+
 // Whether the command takes these options.
 fn takes(command: Command, options: &Options<'_>) -> bool
     ensures { IsTrue result ↔ Takes command (settings_of options.now) }
 {
+    if !has_no_more(options) {
+        return false;
+    }
     match command {
-        Command::Run => is_unset(options),
+        Command::Check => has_no_run(options),
+        Command::Serial => true,
+        Command::Run => has_no_run(options) && options.nodes.is_none(),
     }
 }
 
