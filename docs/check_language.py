@@ -1,16 +1,16 @@
 #!/usr/bin/env python3
 """Runs the texts of LANGUAGE.md: check_language.py [PATH OF xmpc], which is ../crates/xmpc/out/xmpc beside this file where no path is given.
 
-The first line of a fenced block says what becomes of its text, options first:
+The line above a fenced block, one code span, says what becomes of the text in it:
 
-    c --nodes=3 accepted                 xmpc check accepts it
-    c refused N1 at 1:27                 check and serial refuse it with this line, status 3, and print nothing
-    c serial --steps=10                  serial prints the block 'output' that follows (nothing where none does), status 0
-    c serial trapped zero at 8:79        the same, and then this line on standard error, status 1
-    c serial out of steps                the same, status 2
+    --nodes=3 accepted                 xmpc check accepts it
+    refused N1 at 1:27                 check and serial refuse it with this line, status 3, and print nothing
+    serial --steps=10                  serial prints the block 'output' that follows (nothing where none does), status 0
+    serial trapped zero at 8:79        the same, and then this line on standard error, status 1
+    serial out of steps                the same, status 2
 
-A block 'input' behind a serial one is its input. With 'python' for 'c', the block is an expression whose value is the text.
-A block whose first line is 'c' alone is only shown. Each rule that a table of the page lists must be broken by some text.
+A block 'input' behind a serial one is its input. A block of python is an expression whose value is the text. A block with no such
+line above it is only shown. Each rule that a table of the page lists must be broken by some text.
 """
 import os
 import re
@@ -19,41 +19,41 @@ import sys
 import tempfile
 
 HERE = os.path.dirname(os.path.abspath(__file__))
-HEAD = re.compile(r"(c|python)((?: --\w+=\d+)*)( serial)?((?: --\w+=\d+)*)(?: (accepted|refused .*|trapped .*|out of steps))?$")
+HEAD = re.compile(r"((?:--\w+=\d+ ?)*)(serial ?)?((?:--\w+=\d+ ?)*)(accepted|refused .*|trapped .*|out of steps|)$")
 STATUS = {"accepted": 0, "refused": 3, "trapped": 1, "out": 2}
 
 
 def blocks(page):
-    """The fenced blocks of the page, each with the number of its first line, that line's words, and its text."""
-    head, lines = None, []
+    """The fenced blocks of the page: the number of the line above, what that line says (None where it is no code span), the language, the text."""
+    before, head, lines = "", None, []
     for number, line in enumerate(page.splitlines(keepends=True), 1):
-        if head is None:
-            if line.startswith("```"):
-                head, lines = (number, line[3:].strip()), []
+        if head is None and line.startswith("```"):
+            said = re.fullmatch(r"`([^`]+)`", before.strip())
+            head, lines = (number - 1, said and said[1], line[3:].strip()), []
+        elif head is None:
+            before = line
         elif line.rstrip() == "```":
             yield (*head, "".join(lines))
-            head = None
+            before, head = "", None
         else:
             lines.append(line)
 
 
 def texts(page):
-    """The texts to be run: the line, the form serial or not, options, what becomes of the text, the text, its output and its input."""
+    """The texts to be run: line, whether the form is serial, options, what becomes of the text, the text, its output and its input."""
     found = []
-    for number, words, text in blocks(page):
+    for line, words, language, text in blocks(page):
         if words in ("output", "input"):
             if not found or not found[-1]["serial"]:
-                sys.exit(f"LANGUAGE.md:{number}: no text to be run stands before this {words}")
+                sys.exit(f"LANGUAGE.md:{line}: no text to be run stands before this {words}")
             found[-1][words] = text
-            continue
-        said = HEAD.match(words)
-        if words == "c" or not words:
-            continue
-        if not said or not (said[3] or said[5]):
-            sys.exit(f"LANGUAGE.md:{number}: a block can't begin with '{words}'")
-        found.append({
-            "line": number, "serial": bool(said[3]), "options": (said[2] + said[4]).split(), "end": said[5] or "",
-            "text": eval(text, {}) if said[1] == "python" else text, "output": "", "input": None})
+        elif words:
+            said = HEAD.match(words)
+            if not said or not (said[2] or said[4]):
+                sys.exit(f"LANGUAGE.md:{line}: what is '{words}'?")
+            found.append({
+                "line": line, "serial": bool(said[2]), "options": (said[1] + said[3]).split(), "end": said[4],
+                "text": eval(text, {}) if language == "python" else text, "output": "", "input": None})
     return found
 
 
