@@ -1,0 +1,108 @@
+#!/usr/bin/env python3
+"""Runs the texts of LANGUAGE.md: check_language.py [PATH OF xmpc], which is ../crates/xmpc/out/xmpc beside this file where no path is given.
+
+The line above a fenced block, one code span, says what becomes of the text in it:
+
+    --nodes=3 accepted                 xmpc check accepts it
+    refused N1 at 1:27                 check and serial refuse it with this line, status 3, and print nothing
+    serial --steps=10                  serial prints the block 'output' that follows (nothing where none does), status 0
+    serial trapped zero at 8:79        the same, and then this line on standard error, status 1
+    serial out of steps                the same, status 2
+
+A block 'input' behind a serial one is its input. A block of python is an expression whose value is the text. A block with no such
+line above it is only shown. Each rule that a table of the page lists must be broken by some text.
+"""
+import os
+import re
+import subprocess
+import sys
+import tempfile
+
+HERE = os.path.dirname(os.path.abspath(__file__))
+HEAD = re.compile(r"((?:--\w+=\d+ ?)*)(serial ?)?((?:--\w+=\d+ ?)*)(accepted|refused .*|trapped .*|out of steps|)$")
+STATUS = {"accepted": 0, "refused": 3, "trapped": 1, "out": 2}
+
+
+def blocks(page):
+    """The fenced blocks of the page: the number of the line above, what that line says (None where it is no code span), the language, the text."""
+    before, head, lines = "", None, []
+    for number, line in enumerate(page.splitlines(keepends=True), 1):
+        if head is None and line.startswith("```"):
+            said = re.fullmatch(r"`([^`]+)`", before.strip())
+            head, lines = (number - 1, said and said[1], line[3:].strip()), []
+        elif head is None:
+            before = line
+        elif line.rstrip() == "```":
+            yield (*head, "".join(lines))
+            before, head = "", None
+        else:
+            lines.append(line)
+
+
+def texts(page):
+    """The texts to be run: line, whether the form is serial, options, what becomes of the text, the text, its output and its input."""
+    found = []
+    for line, words, language, text in blocks(page):
+        if words in ("output", "input"):
+            if not found or not found[-1]["serial"]:
+                sys.exit(f"LANGUAGE.md:{line}: no text to be run stands before this {words}")
+            found[-1][words] = text
+        elif words:
+            said = HEAD.match(words)
+            if not said or not (said[2] or said[4]):
+                sys.exit(f"LANGUAGE.md:{line}: what is '{words}'?")
+            found.append({
+                "line": line, "serial": bool(said[2]), "options": (said[1] + said[3]).split(), "end": said[4],
+                "text": eval(text, {}) if language == "python" else text, "output": "", "input": None})
+    return found
+
+
+def run(xmpc, form, options, text, given, folder):
+    """Status, standard output and standard error of one run."""
+    file = os.path.join(folder, "text.c")
+    with open(file, "wb") as it:
+        it.write(text.encode())
+    if given is not None:
+        options = [*options, f"--input={folder}/text.in"]
+        with open(f"{folder}/text.in", "wb") as it:
+            it.write(given.encode())
+    ran = subprocess.run([xmpc, form, *options, file], stdin=subprocess.DEVNULL, capture_output=True, timeout=60)
+    return ran.returncode, ran.stdout, ran.stderr
+
+
+def wanted(it, form):
+    """What a run in this form has to come to."""
+    if it["end"] == "accepted":
+        return 0, b"accepted\n", b""
+    line = f"{it['end']}\n".encode() if it["end"] else b""
+    output = b"" if form == "check" else it["output"].encode()
+    return STATUS.get(it["end"].split(" ")[0], 0), output, line
+
+
+def main():
+    xmpc = sys.argv[1] if len(sys.argv) > 1 else f"{HERE}/../crates/xmpc/out/xmpc"
+    if not os.access(xmpc, os.X_OK):
+        sys.exit(f"LANGUAGE.md: there is no program {xmpc}")
+    with open(f"{HERE}/LANGUAGE.md", encoding="utf-8") as it:
+        page = it.read()
+    all_texts, runs, wrong = texts(page), 0, 0
+    with tempfile.TemporaryDirectory() as folder:
+        for it in all_texts:
+            forms = ["serial"] if it["serial"] else ["check", "serial"] if it["end"].startswith("refused") else ["check"]
+            for form in forms:
+                got, due = run(xmpc, form, it["options"], it["text"], it["input"], folder), wanted(it, form)
+                runs += 1
+                if got != due:
+                    wrong += 1
+                    print(f"LANGUAGE.md:{it['line']}: {form}: wanted {due}, and got {got}")
+    listed = set(re.findall(r"^\| ([LESNMC]\d+) \|", page, re.M))
+    broken = {it["end"].split(" ")[1] for it in all_texts if it["end"].startswith("refused")}
+    if listed != broken:
+        wrong += 1
+        print(f"LANGUAGE.md: rules without a text that breaks them, or without a row: {' '.join(sorted(listed ^ broken))}")
+    if wrong:
+        sys.exit(1)
+    print(f"LANGUAGE.md: {len(all_texts)} texts right, {len(listed)} rules, {runs} runs")
+
+
+main()
