@@ -1,34 +1,10 @@
 // Texts of programs, and what becomes of them.
-ghost use Rattle.std.specs.Prelude.{◌≡◌};
-ghost use Rattle.xmp_elab.specs.Narrow.{is_count};
-
-use crate::laws::text_numbers_lie;
-use crate::typed::elaborate;
+use crate::texts::{letter, typed};
 use std::alloc::Global;
 use std::mem::drop;
 use std::test::Fail;
-use xmp_base::{Fault, Phase};
+use xmp_base::Fault;
 use xmp_prog::{Kind, Prog};
-use xmp_source::tree_of;
-
-fn is_count(given: Option<u32>) -> bool
-    ensures { result ≡ is_count given }
-{
-    match given {
-        Some(count) => 1 <= count && count <= 16,
-        None => true,
-    }
-}
-
-// What becomes of a text, for a number of nodes or none.
-fn typed(alloc: Global, text: &[u8], given: Option<u32>) -> Result<Prog, Fault> {
-    if text.len() > 1048576 || !is_count(given) {
-        return Err(Fault::NoMemory);
-    }
-    let tree = tree_of(alloc, text)?;
-    text_numbers_lie();
-    elaborate(alloc, &tree, given)
-}
 
 /// A program by its number of nodes and whether it has a coarray; a rule by its letter, its number, and the line and column where it breaks.
 #[derive(Clone, Copy, PartialEq, Eq, Debug)]
@@ -36,18 +12,6 @@ enum Is {
     Program(u32, bool),
     Breaks(char, u16, u32, u32),
     NoMemory,
-}
-
-fn letter(phase: Phase) -> char {
-    match phase {
-        Phase::Lex => 'L',
-        Phase::Macro => 'E',
-        Phase::Syntax => 'S',
-        Phase::Names => 'N',
-        Phase::Mapping => 'M',
-        Phase::Flow => 'F',
-        Phase::Coarray => 'C',
-    }
 }
 
 fn program(p: &Prog) -> Is {
