@@ -1,15 +1,9 @@
 // The rules of mappings: texts that break each, and texts beside them that break none.
-use crate::texts::{Row, check};
+use crate::texts::{Around, PROGRAM, Row, check};
+use std::test::Fail;
 
-// Of nodes, templates and distributions.
-const TEMPLATES: [Row; 33] = [
-    (
-        "#pragma xmp nodes p[3]\nint main() {}",
-        Some(4),
-        Some(('M', 1, 1, 13)),
-    ),
-    ("#pragma xmp nodes p[3]\nint main() {}", Some(3), None),
-    ("#pragma xmp nodes p[3]\nint main() {}", None, None),
+// Whole programs: nodes, templates, forms over other grids, and cells.
+const MAPPINGS: [Row; 29] = [
     (
         "#pragma xmp nodes p[2]\n#pragma xmp nodes q[2]\nint main() {}",
         None,
@@ -53,7 +47,6 @@ const TEMPLATES: [Row; 33] = [
         None,
         Some(('M', 1, 1, 13)),
     ),
-    ("int main() {}", Some(5), None),
     (
         "#pragma xmp nodes p[1]\n#pragma xmp template t[0]\nint main() {}",
         None,
@@ -75,29 +68,9 @@ const TEMPLATES: [Row; 33] = [
         None,
     ),
     (
-        "#pragma xmp nodes p[2]\n#pragma xmp template t[8]\nint main() {}",
-        None,
-        Some(('M', 3, 2, 13)),
-    ),
-    (
-        "#pragma xmp nodes p[2]\n#pragma xmp template t[8]\n#pragma xmp distribute t[block] onto p\n#pragma xmp distribute t[cyclic] onto p\nint main() {}",
-        None,
-        Some(('M', 3, 4, 13)),
-    ),
-    (
-        "#pragma xmp nodes p[2]\n#pragma xmp template t[8]\n#pragma xmp distribute t[*] onto p\nint main() {}",
-        None,
-        Some(('M', 3, 3, 13)),
-    ),
-    (
         "#pragma xmp nodes p[2][2]\n#pragma xmp template t[8]\n#pragma xmp distribute t[block] onto p\nint main() {}",
         None,
         Some(('M', 3, 3, 13)),
-    ),
-    (
-        "#pragma xmp nodes p[2]\n#pragma xmp template t[8]\n#pragma xmp distribute t[block][*] onto p\nint main() {}",
-        None,
-        Some(('N', 3, 3, 24)),
     ),
     (
         "#pragma xmp nodes p[2][2]\n#pragma xmp template t[8][3][8]\n#pragma xmp distribute t[block][*][cyclic(3)] onto p\nint main() {}",
@@ -105,158 +78,14 @@ const TEMPLATES: [Row; 33] = [
         None,
     ),
     (
-        "#pragma xmp nodes p[2]\n#pragma xmp template t[8]\n#pragma xmp distribute t[cyclic(0)] onto p\nint main() {}",
-        None,
-        Some(('M', 4, 3, 13)),
-    ),
-    (
-        "#pragma xmp nodes p[2]\n#pragma xmp template t[8]\n#pragma xmp distribute t[cyclic(4194305)] onto p\nint main() {}",
-        None,
-        Some(('M', 4, 3, 13)),
-    ),
-    (
-        "#pragma xmp nodes p[2]\n#pragma xmp template t[8]\n#pragma xmp distribute t[cyclic(4194304)] onto p\nint main() {}",
-        None,
-        None,
-    ),
-    (
-        "#pragma xmp nodes p[2]\n#pragma xmp template t[8]\n#pragma xmp distribute t[gblock({3, 5})] onto p\nint main() {}",
-        None,
-        None,
-    ),
-    (
-        "#pragma xmp nodes p[2]\n#pragma xmp template t[8]\n#pragma xmp distribute t[gblock({8})] onto p\nint main() {}",
-        None,
-        Some(('M', 4, 3, 13)),
-    ),
-    (
-        "#pragma xmp nodes p[2]\n#pragma xmp template t[8]\n#pragma xmp distribute t[gblock({9, -1})] onto p\nint main() {}",
-        None,
-        Some(('M', 4, 3, 13)),
-    ),
-    (
-        "#pragma xmp nodes p[2]\n#pragma xmp template t[8]\n#pragma xmp distribute t[gblock({4294967299, 5})] onto p\nint main() {}",
-        None,
-        Some(('M', 4, 3, 13)),
-    ),
-    (
         "#define N 8\nint x;\n#pragma xmp nodes p[4]\n#pragma xmp template t[N]\n#pragma xmp distribute t[gblock({0, 5, 0, 4})] onto p\nint main() {}",
         None,
         Some(('M', 4, 5, 13)),
-    ),
-];
-
-// Of aligns, shadows and cells.
-const ARRAYS: [Row; 28] = [
-    (
-        "int a[8], b[9];\n#pragma xmp nodes p[2]\n#pragma xmp template t[8]\n#pragma xmp distribute t[block] onto p\n#pragma xmp align a[i] with t[i]\nint main() {}",
-        None,
-        None,
-    ),
-    (
-        "int a[8], b[9];\n#pragma xmp nodes p[2]\n#pragma xmp template t[8]\n#pragma xmp distribute t[block] onto p\n#pragma xmp align b[i] with t[i]\nint main() {}",
-        None,
-        Some(('M', 5, 5, 13)),
-    ),
-    (
-        "int a[8], b[9];\n#pragma xmp nodes p[2]\n#pragma xmp template t[8]\n#pragma xmp distribute t[block] onto p\n#pragma xmp align a[i] with t[i+1]\nint main() {}",
-        None,
-        Some(('M', 5, 5, 13)),
-    ),
-    (
-        "int a[8], b[9];\n#pragma xmp nodes p[2]\n#pragma xmp template t[8]\n#pragma xmp distribute t[block] onto p\n#pragma xmp align a[i] with t[i-1]\nint main() {}",
-        None,
-        Some(('M', 5, 5, 13)),
-    ),
-    (
-        "int a[8], b[9];\n#pragma xmp nodes p[2]\n#pragma xmp template t[8]\n#pragma xmp distribute t[block] onto p\n#pragma xmp align a[i] with t[*]\nint main() {}",
-        None,
-        Some(('M', 5, 5, 13)),
-    ),
-    (
-        "int a[8], b[9];\n#pragma xmp nodes p[2]\n#pragma xmp template t[8]\n#pragma xmp distribute t[block] onto p\n#pragma xmp align a[*] with t[*]\nint main() {}",
-        None,
-        Some(('M', 5, 5, 13)),
-    ),
-    (
-        "int a[8], b[9];\n#pragma xmp nodes p[2]\n#pragma xmp template t[8]\n#pragma xmp distribute t[block] onto p\n#pragma xmp align a[i] with t[i]\n#pragma xmp align a[i] with t[i]\nint main() {}",
-        None,
-        Some(('M', 5, 6, 13)),
-    ),
-    (
-        "int a[8], b[9];\n#pragma xmp nodes p[2]\n#pragma xmp template t[8]\n#pragma xmp distribute t[block] onto p\n#pragma xmp align a[i] with t[i+4294967296]\nint main() {}",
-        None,
-        Some(('M', 5, 5, 13)),
-    ),
-    (
-        "int a[8], b[9];\n#pragma xmp nodes p[2]\n#pragma xmp template t[8]\n#pragma xmp distribute t[block] onto p\n#pragma xmp align a[i] with t[j]\nint main() {}",
-        None,
-        Some(('N', 1, 5, 31)),
-    ),
-    (
-        "int a[8], b[9];\n#pragma xmp nodes p[2]\n#pragma xmp template t[8]\n#pragma xmp distribute t[block] onto p\n#pragma xmp align a[i] with t[a]\nint main() {}",
-        None,
-        Some(('N', 3, 5, 31)),
-    ),
-    (
-        "int a[8], b[9];\n#pragma xmp nodes p[2]\n#pragma xmp template t[8]\n#pragma xmp distribute t[block] onto p\n#pragma xmp align a[i][j] with t[i]\nint main() {}",
-        None,
-        Some(('N', 3, 5, 19)),
-    ),
-    (
-        "int a[8], b[9];\n#pragma xmp nodes p[2]\n#pragma xmp template t[8]\n#pragma xmp distribute t[block] onto p\n#pragma xmp align a[i] with t[i][*]\nint main() {}",
-        None,
-        Some(('N', 3, 5, 29)),
-    ),
-    (
-        "int c[4][4];\n#pragma xmp nodes p[2]\n#pragma xmp template t[8]\n#pragma xmp distribute t[block] onto p\n#pragma xmp align c[i][i] with t[i]\nint main() {}",
-        None,
-        Some(('N', 2, 5, 24)),
-    ),
-    (
-        "int c[4][4];\n#pragma xmp nodes p[2]\n#pragma xmp template t[8]\n#pragma xmp distribute t[block] onto p\n#pragma xmp align c[*][j] with t[j+4]\nint main() {}",
-        None,
-        None,
     ),
     (
         "int c[4]:[*];\nint a[8];\n#pragma xmp nodes p[2]\n#pragma xmp template t[8]\n#pragma xmp distribute t[block] onto p\n#pragma xmp align a[i] with t[i]\nint main() {}",
         None,
         Some(('M', 5, 6, 13)),
-    ),
-    (
-        "int a[8], b[9];\n#pragma xmp nodes p[2]\n#pragma xmp template t[8]\n#pragma xmp distribute t[block] onto p\n#pragma xmp align a[i] with t[i]\n#pragma xmp shadow a[1]\nint main() {}",
-        None,
-        None,
-    ),
-    (
-        "int a[8], b[9];\n#pragma xmp nodes p[2]\n#pragma xmp template t[8]\n#pragma xmp distribute t[block] onto p\n#pragma xmp align a[i] with t[i]\n#pragma xmp shadow a[0:8]\nint main() {}",
-        None,
-        None,
-    ),
-    (
-        "int a[8], b[9];\n#pragma xmp nodes p[2]\n#pragma xmp template t[8]\n#pragma xmp distribute t[block] onto p\n#pragma xmp align a[i] with t[i]\n#pragma xmp shadow a[-1]\nint main() {}",
-        None,
-        Some(('M', 6, 6, 13)),
-    ),
-    (
-        "int a[8], b[9];\n#pragma xmp nodes p[2]\n#pragma xmp template t[8]\n#pragma xmp distribute t[block] onto p\n#pragma xmp align a[i] with t[i]\n#pragma xmp shadow a[1:4194305]\nint main() {}",
-        None,
-        Some(('M', 6, 6, 13)),
-    ),
-    (
-        "int a[8], b[9];\n#pragma xmp nodes p[2]\n#pragma xmp template t[8]\n#pragma xmp distribute t[block] onto p\n#pragma xmp align a[i] with t[i]\n#pragma xmp shadow a[1]\n#pragma xmp shadow a[1]\nint main() {}",
-        None,
-        Some(('M', 6, 7, 13)),
-    ),
-    (
-        "int a[8], b[9];\n#pragma xmp nodes p[2]\n#pragma xmp template t[8]\n#pragma xmp distribute t[block] onto p\n#pragma xmp align a[i] with t[i]\n#pragma xmp shadow b[1]\nint main() {}",
-        None,
-        Some(('M', 6, 6, 13)),
-    ),
-    (
-        "int a[8], b[9];\n#pragma xmp nodes p[2]\n#pragma xmp template t[8]\n#pragma xmp distribute t[block] onto p\n#pragma xmp align a[i] with t[i]\n#pragma xmp shadow a[1][1]\nint main() {}",
-        None,
-        Some(('N', 3, 6, 20)),
     ),
     (
         "int a[8];\n#pragma xmp nodes p[2]\n#pragma xmp template t[8]\n#pragma xmp distribute t[cyclic] onto p\n#pragma xmp align a[i] with t[i]\n#pragma xmp shadow a[1]\nint main() {}",
@@ -280,223 +109,443 @@ const ARRAYS: [Row; 28] = [
         Some(('M', 10, 1, 21)),
     ),
     ("int c[2097152]:[*], d[1]:[*];\nint main() {}", None, None),
+    (
+        "#pragma xmp nodes p[2]\nint main() {\n#pragma xmp nodes q[2]\n}",
+        None,
+        Some(('M', 1, 3, 13)),
+    ),
+    (
+        "#pragma xmp nodes p[1]\n#pragma xmp template t[-1]\nint main() {}",
+        None,
+        Some(('M', 2, 2, 13)),
+    ),
+    (
+        "int a[8];\n#pragma xmp nodes p[2]\n#pragma xmp template t[8]\n#pragma xmp distribute t[gblock({3, 5})] onto p\n#pragma xmp align a[i] with t[i]\n#pragma xmp shadow a[1]\nint main() {}",
+        None,
+        None,
+    ),
+    (
+        "int a[4194304];\nint main() { int b[1]; }",
+        None,
+        Some(('M', 10, 2, 18)),
+    ),
 ];
 
-// Of loops, sets of nodes and moves.
-const DIRECTIVES: [Row; 40] = [
+// Over a template of eight, on two nodes.
+const OVER_EIGHT: Around = (
+    "#pragma xmp nodes p[2]\n#pragma xmp template t[8]\n",
+    "\nint main() {}",
+);
+
+const DISTRIBUTIONS: [Row; 11] = [
+    ("", None, Some(('M', 3, 2, 13))),
     (
-        "int i, j, s, a[8][8]; long k;\n#pragma xmp nodes p[2]\n#pragma xmp template t[8][8]\n#pragma xmp distribute t[block][*] onto p\nint main() {\n#pragma xmp loop (i, j) on t[i][j]\nfor (i = 0; i < 8; i++) for (j = 0; j < 8; j++) a[i][j] = 1;\n}",
+        "#pragma xmp distribute t[block] onto p\n#pragma xmp distribute t[cyclic] onto p",
+        None,
+        Some(('M', 3, 4, 13)),
+    ),
+    (
+        "#pragma xmp distribute t[*] onto p",
+        None,
+        Some(('M', 3, 3, 13)),
+    ),
+    (
+        "#pragma xmp distribute t[block][*] onto p",
+        None,
+        Some(('N', 3, 3, 24)),
+    ),
+    (
+        "#pragma xmp distribute t[cyclic(0)] onto p",
+        None,
+        Some(('M', 4, 3, 13)),
+    ),
+    (
+        "#pragma xmp distribute t[cyclic(4194305)] onto p",
+        None,
+        Some(('M', 4, 3, 13)),
+    ),
+    (
+        "#pragma xmp distribute t[cyclic(4194304)] onto p",
         None,
         None,
     ),
     (
-        "int i, j, s, a[8][8]; long k;\n#pragma xmp nodes p[2]\n#pragma xmp template t[8][8]\n#pragma xmp distribute t[block][*] onto p\nint main() {\n#pragma xmp loop on t[i][j]\nfor (i = 0; i < 8; i++) { for (j = 0; j < 8; j++) a[i][j] = 1; }\n}",
+        "#pragma xmp distribute t[gblock({3, 5})] onto p",
         None,
         None,
     ),
     (
-        "int i, j, s, a[8][8]; long k;\n#pragma xmp nodes p[2]\n#pragma xmp template t[8][8]\n#pragma xmp distribute t[block][*] onto p\nint main() {\n#pragma xmp loop (i) on t[i][*]\nfor (i = 0; i < 8; i++) for (j = 0; j < 8; j++) a[i][j] = 1;\n}",
+        "#pragma xmp distribute t[gblock({8})] onto p",
+        None,
+        Some(('M', 4, 3, 13)),
+    ),
+    (
+        "#pragma xmp distribute t[gblock({9, -1})] onto p",
+        None,
+        Some(('M', 4, 3, 13)),
+    ),
+    (
+        "#pragma xmp distribute t[gblock({4294967299, 5})] onto p",
+        None,
+        Some(('M', 4, 3, 13)),
+    ),
+];
+
+// Over arrays with one dimension.
+const WITH_LISTS: Around = (
+    "int a[8], b[9];\n#pragma xmp nodes p[2]\n#pragma xmp template t[8]\n#pragma xmp distribute t[block] onto p\n",
+    "\nint main() {}",
+);
+
+// Aligns and shadows.
+const ALIGNS: [Row; 20] = [
+    ("#pragma xmp align a[i] with t[i]", None, None),
+    (
+        "#pragma xmp align b[i] with t[i]",
+        None,
+        Some(('M', 5, 5, 13)),
+    ),
+    (
+        "#pragma xmp align a[i] with t[i+1]",
+        None,
+        Some(('M', 5, 5, 13)),
+    ),
+    (
+        "#pragma xmp align a[i] with t[i-1]",
+        None,
+        Some(('M', 5, 5, 13)),
+    ),
+    (
+        "#pragma xmp align a[i] with t[*]",
+        None,
+        Some(('M', 5, 5, 13)),
+    ),
+    (
+        "#pragma xmp align a[*] with t[*]",
+        None,
+        Some(('M', 5, 5, 13)),
+    ),
+    (
+        "#pragma xmp align a[i] with t[i]\n#pragma xmp align a[i] with t[i]",
+        None,
+        Some(('M', 5, 6, 13)),
+    ),
+    (
+        "#pragma xmp align a[i] with t[i+4294967296]",
+        None,
+        Some(('M', 5, 5, 13)),
+    ),
+    (
+        "#pragma xmp align a[i] with t[j]",
+        None,
+        Some(('N', 1, 5, 31)),
+    ),
+    (
+        "#pragma xmp align a[i] with t[a]",
+        None,
+        Some(('N', 3, 5, 31)),
+    ),
+    (
+        "#pragma xmp align a[i][j] with t[i]",
+        None,
+        Some(('N', 3, 5, 19)),
+    ),
+    (
+        "#pragma xmp align a[i] with t[i][*]",
+        None,
+        Some(('N', 3, 5, 29)),
+    ),
+    (
+        "#pragma xmp align a[i] with t[i]\n#pragma xmp shadow a[1]",
         None,
         None,
     ),
     (
-        "int i, j, s, a[8][8]; long k;\n#pragma xmp nodes p[2]\n#pragma xmp template t[8][8]\n#pragma xmp distribute t[block][*] onto p\nint main() {\n#pragma xmp loop on t[i+1][*] reduction(+:s)\nfor (i = 0; i < 8; i++) s += i;\n}",
+        "#pragma xmp align a[i] with t[i]\n#pragma xmp shadow a[0:8]",
         None,
         None,
     ),
     (
-        "int i, j, s, a[8][8]; long k;\n#pragma xmp nodes p[2]\n#pragma xmp template t[8][8]\n#pragma xmp distribute t[block][*] onto p\nint main() {\n#pragma xmp loop (j, i) on t[i][j]\nfor (i = 0; i < 8; i++) for (j = 0; j < 8; j++) a[i][j] = 1;\n}",
+        "#pragma xmp align a[i] with t[i]\n#pragma xmp shadow a[-1]",
+        None,
+        Some(('M', 6, 6, 13)),
+    ),
+    (
+        "#pragma xmp align a[i] with t[i]\n#pragma xmp shadow a[1:4194305]",
+        None,
+        Some(('M', 6, 6, 13)),
+    ),
+    (
+        "#pragma xmp align a[i] with t[i]\n#pragma xmp shadow a[1]\n#pragma xmp shadow a[1]",
+        None,
+        Some(('M', 6, 7, 13)),
+    ),
+    (
+        "#pragma xmp align a[i] with t[i]\n#pragma xmp shadow b[1]",
+        None,
+        Some(('M', 6, 6, 13)),
+    ),
+    (
+        "#pragma xmp align a[i] with t[i]\n#pragma xmp shadow a[1][1]",
+        None,
+        Some(('N', 3, 6, 20)),
+    ),
+    (
+        "#pragma xmp align a[i] with t[i]\n#pragma xmp shadow a[4194305:0]",
+        None,
+        Some(('M', 6, 6, 13)),
+    ),
+];
+
+// Over an array with two dimensions.
+const WITH_A_SQUARE: Around = (
+    "int c[4][4];\n#pragma xmp nodes p[2]\n#pragma xmp template t[8]\n#pragma xmp distribute t[block] onto p\n",
+    "\nint main() {}",
+);
+
+// Its aligns and shadows.
+const SQUARES: [Row; 5] = [
+    (
+        "#pragma xmp align c[i][i] with t[i]",
+        None,
+        Some(('N', 2, 5, 24)),
+    ),
+    ("#pragma xmp align c[*][j] with t[j+4]", None, None),
+    (
+        "#pragma xmp align c[i][j] with t[i]",
+        None,
+        Some(('M', 5, 5, 13)),
+    ),
+    (
+        "#pragma xmp align c[*][j] with t[j+4]\n#pragma xmp shadow c[0][1]",
+        None,
+        None,
+    ),
+    (
+        "#pragma xmp align c[*][j] with t[j+4]\n#pragma xmp shadow c[1][0]",
+        None,
+        Some(('M', 6, 6, 13)),
+    ),
+];
+
+// In main, over a template with two dimensions of which the first is distributed.
+const AMONG_LOOPS: Around = (
+    "int i, j, s, a[8][8]; long k;\n#pragma xmp nodes p[2]\n#pragma xmp template t[8][8]\n#pragma xmp distribute t[block][*] onto p\nint main() {\n",
+    "\n}",
+);
+
+const LOOPS: [Row; 20] = [
+    (
+        "#pragma xmp loop (i, j) on t[i][j]\nfor (i = 0; i < 8; i++) for (j = 0; j < 8; j++) a[i][j] = 1;",
+        None,
+        None,
+    ),
+    (
+        "#pragma xmp loop on t[i][j]\nfor (i = 0; i < 8; i++) { for (j = 0; j < 8; j++) a[i][j] = 1; }",
+        None,
+        None,
+    ),
+    (
+        "#pragma xmp loop (i) on t[i][*]\nfor (i = 0; i < 8; i++) for (j = 0; j < 8; j++) a[i][j] = 1;",
+        None,
+        None,
+    ),
+    (
+        "#pragma xmp loop on t[i+1][*] reduction(+:s)\nfor (i = 0; i < 8; i++) s += i;",
+        None,
+        None,
+    ),
+    (
+        "#pragma xmp loop (j, i) on t[i][j]\nfor (i = 0; i < 8; i++) for (j = 0; j < 8; j++) a[i][j] = 1;",
         None,
         Some(('M', 7, 6, 13)),
     ),
     (
-        "int i, j, s, a[8][8]; long k;\n#pragma xmp nodes p[2]\n#pragma xmp template t[8][8]\n#pragma xmp distribute t[block][*] onto p\nint main() {\n#pragma xmp loop (i, j) on t[i][*]\nfor (i = 0; i < 8; i++) for (j = 0; j < 8; j++) a[i][j] = 1;\n}",
+        "#pragma xmp loop (i, j) on t[i][*]\nfor (i = 0; i < 8; i++) for (j = 0; j < 8; j++) a[i][j] = 1;",
         None,
         Some(('M', 7, 6, 13)),
     ),
     (
-        "int i, j, s, a[8][8]; long k;\n#pragma xmp nodes p[2]\n#pragma xmp template t[8][8]\n#pragma xmp distribute t[block][*] onto p\nint main() {\n#pragma xmp loop (i) on t[i][j]\nfor (i = 0; i < 8; i++) ;\n}",
+        "#pragma xmp loop (i) on t[i][j]\nfor (i = 0; i < 8; i++) ;",
         None,
         Some(('M', 7, 6, 13)),
     ),
     (
-        "int i, j, s, a[8][8]; long k;\n#pragma xmp nodes p[2]\n#pragma xmp template t[8][8]\n#pragma xmp distribute t[block][*] onto p\nint main() {\n#pragma xmp loop (i, j) on t[i][j]\nfor (i = 0; i < 8; i++) { s = 1; for (j = 0; j < 8; j++) ; }\n}",
+        "#pragma xmp loop (i, j) on t[i][j]\nfor (i = 0; i < 8; i++) { s = 1; for (j = 0; j < 8; j++) ; }",
         None,
         Some(('M', 7, 6, 13)),
     ),
     (
-        "int i, j, s, a[8][8]; long k;\n#pragma xmp nodes p[2]\n#pragma xmp template t[8][8]\n#pragma xmp distribute t[block][*] onto p\nint main() {\n#pragma xmp loop on t[*][i]\nfor (i = 0; i < 8; i++) ;\n}",
+        "#pragma xmp loop on t[*][i]\nfor (i = 0; i < 8; i++) ;",
         None,
         Some(('M', 7, 6, 13)),
     ),
     (
-        "int i, j, s, a[8][8]; long k;\n#pragma xmp nodes p[2]\n#pragma xmp template t[8][8]\n#pragma xmp distribute t[block][*] onto p\nint main() {\n#pragma xmp loop on t[i+4194305][*]\nfor (i = 0; i < 8; i++) ;\n}",
+        "#pragma xmp loop on t[i+4194305][*]\nfor (i = 0; i < 8; i++) ;",
         None,
         Some(('M', 7, 6, 13)),
     ),
     (
-        "int i, j, s, a[8][8]; long k;\n#pragma xmp nodes p[2]\n#pragma xmp template t[8][8]\n#pragma xmp distribute t[block][*] onto p\nint main() {\n#pragma xmp loop on t[i][i]\nfor (i = 0; i < 8; i++) ;\n}",
+        "#pragma xmp loop on t[i][i]\nfor (i = 0; i < 8; i++) ;",
         None,
         Some(('M', 7, 6, 13)),
     ),
     (
-        "int i, j, s, a[8][8]; long k;\n#pragma xmp nodes p[2]\n#pragma xmp template t[8][8]\n#pragma xmp distribute t[block][*] onto p\nint main() {\n#pragma xmp loop on t[i][*]\nfor (i = 0; i < s; i += 2) ;\n}",
+        "#pragma xmp loop on t[i][*]\nfor (i = 0; i < s; i += 2) ;",
         None,
         Some(('M', 7, 6, 13)),
     ),
     (
-        "int i, j, s, a[8][8]; long k;\n#pragma xmp nodes p[2]\n#pragma xmp template t[8][8]\n#pragma xmp distribute t[block][*] onto p\nint main() {\n#pragma xmp loop on t[i][*]\nfor (i = 0; i < 8; i += 2) ;\n}",
+        "#pragma xmp loop on t[i][*]\nfor (i = 0; i < 8; i += 2) ;",
         None,
         None,
     ),
     (
-        "int i, j, s, a[8][8]; long k;\n#pragma xmp nodes p[2]\n#pragma xmp template t[8][8]\n#pragma xmp distribute t[block][*] onto p\nint main() {\n#pragma xmp loop on t[i][*]\nfor (i = 0; i < s; i++) ;\n}",
+        "#pragma xmp loop on t[i][*]\nfor (i = 0; i < s; i++) ;",
         None,
         None,
     ),
     (
-        "int i, j, s, a[8][8]; long k;\n#pragma xmp nodes p[2]\n#pragma xmp template t[8][8]\n#pragma xmp distribute t[block][*] onto p\nint main() {\n#pragma xmp loop on t[i][*]\nfor (i = 0; i <= s; i++) ;\n}",
+        "#pragma xmp loop on t[i][*]\nfor (i = 0; i <= s; i++) ;",
         None,
         Some(('M', 7, 6, 13)),
     ),
     (
-        "int i, j, s, a[8][8]; long k;\n#pragma xmp nodes p[2]\n#pragma xmp template t[8][8]\n#pragma xmp distribute t[block][*] onto p\nint main() {\n#pragma xmp loop on t[i][*]\nfor (i = 0; i < 8; i++) i = 1;\n}",
+        "#pragma xmp loop on t[i][*]\nfor (i = 0; i < 8; i++) i = 1;",
         None,
         Some(('M', 7, 6, 13)),
     ),
     (
-        "int i, j, s, a[8][8]; long k;\n#pragma xmp nodes p[2]\n#pragma xmp template t[8][8]\n#pragma xmp distribute t[block][*] onto p\nint main() {\n#pragma xmp loop on t[i][*]\nfor (i = 0; i < s; i++) s = 1;\n}",
+        "#pragma xmp loop on t[i][*]\nfor (i = 0; i < s; i++) s = 1;",
         None,
         Some(('M', 7, 6, 13)),
     ),
     (
-        "int i, j, s, a[8][8]; long k;\n#pragma xmp nodes p[2]\n#pragma xmp template t[8][8]\n#pragma xmp distribute t[block][*] onto p\nint main() {\n#pragma xmp loop on t[k][*]\nfor (i = 0; i < 8; i++) ;\n}",
+        "#pragma xmp loop on t[k][*]\nfor (i = 0; i < 8; i++) ;",
         None,
         Some(('N', 3, 6, 23)),
     ),
     (
-        "int i, j, s, a[8][8]; long k;\n#pragma xmp nodes p[2]\n#pragma xmp template t[8][8]\n#pragma xmp distribute t[block][*] onto p\nint main() {\n#pragma xmp loop on t[i]\nfor (i = 0; i < 8; i++) ;\n}",
+        "#pragma xmp loop on t[i]\nfor (i = 0; i < 8; i++) ;",
         None,
         Some(('N', 3, 6, 21)),
     ),
     (
-        "int i, j, s, a[8][8]; long k;\n#pragma xmp nodes p[2]\n#pragma xmp template t[8][8]\n#pragma xmp distribute t[block][*] onto p\nint main() {\n#pragma xmp loop on t[i][*] reduction(+:a)\nfor (i = 0; i < 8; i++) ;\n}",
+        "#pragma xmp loop on t[i][*] reduction(+:a)\nfor (i = 0; i < 8; i++) ;",
         None,
         Some(('N', 3, 6, 41)),
     ),
+];
+
+// In main, on two by two nodes.
+const ON_A_GRID: Around = (
+    "int s, a[8], b[4][4];\n#pragma xmp nodes p[2][2]\nint main() {\n",
+    "\n}",
+);
+
+// Sets of nodes, tasks and moves.
+const SETS: [Row; 21] = [
+    ("#pragma xmp task on p[1][0]\ns = 1;", None, None),
+    ("#pragma xmp task on p[0:2][1]\ns = 1;", None, None),
+    ("#pragma xmp task on p\ns = 1;", None, None),
     (
-        "int s, a[8], b[4][4];\n#pragma xmp nodes p[2][2]\nint main() {\n#pragma xmp task on p[1][0]\ns = 1;\n}",
-        None,
-        None,
-    ),
-    (
-        "int s, a[8], b[4][4];\n#pragma xmp nodes p[2][2]\nint main() {\n#pragma xmp task on p[0:2][1]\ns = 1;\n}",
-        None,
-        None,
-    ),
-    (
-        "int s, a[8], b[4][4];\n#pragma xmp nodes p[2][2]\nint main() {\n#pragma xmp task on p\ns = 1;\n}",
-        None,
-        None,
-    ),
-    (
-        "int s, a[8], b[4][4];\n#pragma xmp nodes p[2][2]\nint main() {\n#pragma xmp task on p[2][0]\ns = 1;\n}",
+        "#pragma xmp task on p[2][0]\ns = 1;",
         None,
         Some(('M', 8, 4, 13)),
     ),
     (
-        "int s, a[8], b[4][4];\n#pragma xmp nodes p[2][2]\nint main() {\n#pragma xmp task on p[-1][0]\ns = 1;\n}",
+        "#pragma xmp task on p[-1][0]\ns = 1;",
         None,
         Some(('M', 8, 4, 13)),
     ),
     (
-        "int s, a[8], b[4][4];\n#pragma xmp nodes p[2][2]\nint main() {\n#pragma xmp task on p[0:0][0]\ns = 1;\n}",
+        "#pragma xmp task on p[0:0][0]\ns = 1;",
         None,
         Some(('M', 8, 4, 13)),
     ),
     (
-        "int s, a[8], b[4][4];\n#pragma xmp nodes p[2][2]\nint main() {\n#pragma xmp task on p[1:2][0]\ns = 1;\n}",
+        "#pragma xmp task on p[1:2][0]\ns = 1;",
         None,
         Some(('M', 8, 4, 13)),
     ),
     (
-        "int s, a[8], b[4][4];\n#pragma xmp nodes p[2][2]\nint main() {\n#pragma xmp task on p[0]\ns = 1;\n}",
+        "#pragma xmp task on p[0]\ns = 1;",
         None,
         Some(('N', 3, 4, 21)),
     ),
+    ("#pragma xmp bcast (s) from p[1][1]", None, None),
     (
-        "int s, a[8], b[4][4];\n#pragma xmp nodes p[2][2]\nint main() {\n#pragma xmp bcast (s) from p[1][1]\n}",
-        None,
-        None,
-    ),
-    (
-        "int s, a[8], b[4][4];\n#pragma xmp nodes p[2][2]\nint main() {\n#pragma xmp bcast (s) from p[1][0:2]\n}",
+        "#pragma xmp bcast (s) from p[1][0:2]",
         None,
         Some(('M', 8, 4, 13)),
     ),
     (
-        "int s, a[8], b[4][4];\n#pragma xmp nodes p[2][2]\nint main() {\n#pragma xmp bcast (a) from p[1][1]\n}",
+        "#pragma xmp bcast (a) from p[1][1]",
         None,
         Some(('N', 3, 4, 20)),
     ),
     (
-        "int s, a[8], b[4][4];\n#pragma xmp nodes p[2][2]\nint main() {\n#pragma xmp tasks\n{\n#pragma xmp task on p[0][:]\ns = 1;\n#pragma xmp task on p[1][0]\ns = 2;\n}\n}",
+        "#pragma xmp tasks\n{\n#pragma xmp task on p[0][:]\ns = 1;\n#pragma xmp task on p[1][0]\ns = 2;\n}",
         None,
         None,
     ),
     (
-        "int s, a[8], b[4][4];\n#pragma xmp nodes p[2][2]\nint main() {\n#pragma xmp tasks\n{\n#pragma xmp task on p[0][:]\ns = 1;\n#pragma xmp task on p[:][1]\ns = 2;\n}\n}",
+        "#pragma xmp tasks\n{\n#pragma xmp task on p[0][:]\ns = 1;\n#pragma xmp task on p[:][1]\ns = 2;\n}",
         None,
         Some(('M', 9, 8, 13)),
     ),
     (
-        "int s, a[8], b[4][4];\n#pragma xmp nodes p[2][2]\nint main() {\n#pragma xmp tasks\n{\n#pragma xmp task on p[0][0]\ns = 1;\n#pragma xmp task on p[0][0]\ns = 2;\n}\n}",
+        "#pragma xmp tasks\n{\n#pragma xmp task on p[0][0]\ns = 1;\n#pragma xmp task on p[0][0]\ns = 2;\n}",
         None,
         Some(('M', 9, 8, 13)),
     ),
+    ("#pragma xmp gmove\na[0:4] = b[1][:];", None, None),
+    ("#pragma xmp gmove\na[:] = 1;", None, Some(('S', 1, 5, 8))),
+    ("#pragma xmp gmove\na[:] = s;", None, None),
     (
-        "int s, a[8], b[4][4];\n#pragma xmp nodes p[2][2]\nint main() {\n#pragma xmp gmove\na[0:4] = b[1][:];\n}",
-        None,
-        None,
-    ),
-    (
-        "int s, a[8], b[4][4];\n#pragma xmp nodes p[2][2]\nint main() {\n#pragma xmp gmove\na[:] = 1;\n}",
-        None,
-        Some(('S', 1, 5, 8)),
-    ),
-    (
-        "int s, a[8], b[4][4];\n#pragma xmp nodes p[2][2]\nint main() {\n#pragma xmp gmove\na[:] = s;\n}",
-        None,
-        None,
-    ),
-    (
-        "int s, a[8], b[4][4];\n#pragma xmp nodes p[2][2]\nint main() {\n#pragma xmp gmove\na[:] = b[:][:];\n}",
+        "#pragma xmp gmove\na[:] = b[:][:];",
         None,
         Some(('N', 3, 5, 1)),
     ),
     (
-        "int s, a[8], b[4][4];\n#pragma xmp nodes p[2][2]\nint main() {\n#pragma xmp gmove\na[:] = b[:];\n}",
+        "#pragma xmp gmove\na[:] = b[:];",
         None,
         Some(('N', 3, 5, 8)),
     ),
+    ("#pragma xmp reflect (s)", None, Some(('N', 3, 4, 22))),
     (
-        "int s, a[8], b[4][4];\n#pragma xmp nodes p[2][2]\nint main() {\n#pragma xmp reflect (s)\n}",
+        "#pragma xmp tasks\n{\n#pragma xmp task on p[0][0]\ns = 1;\n#pragma xmp task on p[1][1]\ns = 2;\n#pragma xmp task on p\ns = 3;\n}",
         None,
-        Some(('N', 3, 4, 22)),
+        Some(('M', 9, 10, 13)),
     ),
 ];
 
 #[test]
-fn templates_are_judged(rt: HostRuntime) {
-    check(&rt, rt.alloc(), &TEMPLATES);
+fn mappings_are_judged(rt: HostRuntime) -> Result<(), Fail> {
+    check(&rt, rt.alloc(), PROGRAM, &MAPPINGS)
 }
 
 #[test]
-fn arrays_are_judged(rt: HostRuntime) {
-    check(&rt, rt.alloc(), &ARRAYS);
+fn distributions_are_judged(rt: HostRuntime) -> Result<(), Fail> {
+    check(&rt, rt.alloc(), OVER_EIGHT, &DISTRIBUTIONS)
 }
 
 #[test]
-fn directives_are_judged(rt: HostRuntime) {
-    check(&rt, rt.alloc(), &DIRECTIVES);
+fn aligns_and_shadows_are_judged(rt: HostRuntime) -> Result<(), Fail> {
+    check(&rt, rt.alloc(), WITH_LISTS, &ALIGNS)
+}
+
+#[test]
+fn a_square_is_judged(rt: HostRuntime) -> Result<(), Fail> {
+    check(&rt, rt.alloc(), WITH_A_SQUARE, &SQUARES)
+}
+
+#[test]
+fn loops_are_judged(rt: HostRuntime) -> Result<(), Fail> {
+    check(&rt, rt.alloc(), AMONG_LOOPS, &LOOPS)
+}
+
+#[test]
+fn sets_of_nodes_are_judged(rt: HostRuntime) -> Result<(), Fail> {
+    check(&rt, rt.alloc(), ON_A_GRID, &SETS)
 }

@@ -7,6 +7,7 @@ use crate::typed::elaborate;
 use std::alloc::Global;
 use std::mem::drop;
 use std::process::Abort;
+use std::test::Fail;
 use xmp_base::{Fault, Phase, Refusal};
 use xmp_prog::Prog;
 use xmp_source::tree_of;
@@ -16,6 +17,12 @@ pub(crate) type Breaks = (char, u16, u32, u32);
 
 /// A text, the number of nodes or none, and what the text breaks, or nothing where it is a program.
 pub(crate) type Row = (&'static str, Option<u32>, Option<Breaks>);
+
+/// What stands before and behind each text of a table.
+pub(crate) type Around = (&'static str, &'static str);
+
+/// Nothing: the texts are whole programs.
+pub(crate) const PROGRAM: Around = ("", "");
 
 // No memory; no program by its tokens.
 const NOTHING: Breaks = ('-', 0, 0, 0);
@@ -75,9 +82,42 @@ pub(crate) fn judged(alloc: Global, text: &str, given: Option<u32>) -> Option<Br
     }
 }
 
-/// Asserts that each text of a table is judged as its row says.
-pub(crate) fn check(rt: &impl Abort, alloc: Global, rows: &[Row]) {
+// Asserts that a text is judged as expected.
+fn check_one(
+    rt: &impl Abort,
+    alloc: Global,
+    pieces: (&str, &str, &str),
+    given: Option<u32>,
+    expected: Option<Breaks>,
+) -> Result<(), Fail> {
+    let text = format!(in alloc; "{}{}{}", pieces.0, pieces.1, pieces.2)?;
+    assert_eq!(rt; judged(alloc, text.as_str(), given), expected, "{text}");
+    Ok(())
+}
+
+/// Asserts that each text of a table, with what stands around it, is judged as its row says.
+pub(crate) fn check(
+    rt: &impl Abort,
+    alloc: Global,
+    around: Around,
+    rows: &[Row],
+) -> Result<(), Fail> {
     for (text, given, expected) in rows {
-        assert_eq!(rt; judged(alloc, text, *given), *expected, "{text}");
+        check_one(rt, alloc, (around.0, text, around.1), *given, *expected)?;
     }
+    Ok(())
+}
+
+/// Asserts that each of these texts, with what stands around it, is judged as expected, for no number of nodes.
+pub(crate) fn check_alike(
+    rt: &impl Abort,
+    alloc: Global,
+    around: Around,
+    texts: &[&str],
+    expected: Option<Breaks>,
+) -> Result<(), Fail> {
+    for text in texts {
+        check_one(rt, alloc, (around.0, text, around.1), None, expected)?;
+    }
+    Ok(())
 }
