@@ -1,133 +1,80 @@
 // The rules of mappings: texts that break each, and texts beside them that break none.
-use crate::texts::{Around, PROGRAM, Row, check};
+use crate::texts::{Alike, Around, PROGRAM, check};
 use std::test::Fail;
 
 // Whole programs: nodes, templates, forms over other grids, and cells.
-const MAPPINGS: [Row; 29] = [
+const MAPPINGS: [Alike; 11] = [
     (
-        "#pragma xmp nodes p[2]\n#pragma xmp nodes q[2]\nint main() {}",
-        None,
-        Some(('M', 1, 2, 13)),
+        "",
+        &[
+            "#pragma xmp nodes p[4][4]\nint main() {}",
+            "#pragma xmp nodes p[1]\n#pragma xmp template t[4194304][1][1]\n#pragma xmp distribute t[block][*][*] onto p\nint main() {}",
+            "#pragma xmp nodes p[2][2]\n#pragma xmp template t[8][3][8]\n#pragma xmp distribute t[block][*][cyclic(3)] onto p\nint main() {}",
+            "int a[8];\n#pragma xmp nodes p[2]\n#pragma xmp template t[8]\n#pragma xmp distribute t[cyclic] onto p\n#pragma xmp align a[i] with t[i]\n#pragma xmp shadow a[0]\nint main() {}",
+            "int a[2048][2047], x[2048];\nint main() {}",
+            "int c[2097152]:[*], d[1]:[*];\nint main() {}",
+            "int a[8];\n#pragma xmp nodes p[2]\n#pragma xmp template t[8]\n#pragma xmp distribute t[gblock({3, 5})] onto p\n#pragma xmp align a[i] with t[i]\n#pragma xmp shadow a[1]\nint main() {}",
+        ],
     ),
     (
-        "#pragma xmp nodes p[0]\nint main() {}",
-        None,
-        Some(('M', 1, 1, 13)),
-    ),
-    ("#pragma xmp nodes p[4][4]\nint main() {}", None, None),
-    (
-        "#pragma xmp nodes p[4][5]\nint main() {}",
-        None,
-        Some(('M', 1, 1, 13)),
-    ),
-    (
-        "#pragma xmp nodes p[1][1][1][1]\nint main() {}",
-        None,
-        Some(('M', 1, 1, 13)),
+        "M1 at 1:13",
+        &[
+            "#pragma xmp nodes p[0]\nint main() {}",
+            "#pragma xmp nodes p[4][5]\nint main() {}",
+            "#pragma xmp nodes p[1][1][1][1]\nint main() {}",
+            "#pragma xmp nodes p[-1][-2]\nint main() {}",
+            "#pragma xmp nodes p[4294967297]\nint main() {}",
+            "#pragma xmp template t[4]\nint main() {}",
+        ],
     ),
     (
-        "#pragma xmp nodes p[-1][-2]\nint main() {}",
-        None,
-        Some(('M', 1, 1, 13)),
+        "M1 at 2:13",
+        &[
+            "#pragma xmp nodes p[2]\n#pragma xmp nodes q[2]\nint main() {}",
+            "int main() {\n#pragma xmp barrier\n}",
+        ],
     ),
     (
-        "#pragma xmp nodes p[4294967297]\nint main() {}",
-        None,
-        Some(('M', 1, 1, 13)),
-    ),
-    ("#pragma xmp nodes p[*]\nint main() {}", Some(16), None),
-    ("#pragma xmp nodes p[*]\nint main() {}", None, None),
-    (
-        "int main() {\n#pragma xmp barrier\n}",
-        None,
-        Some(('M', 1, 2, 13)),
+        "M1 at 3:13",
+        &["#pragma xmp nodes p[2]\nint main() {\n#pragma xmp nodes q[2]\n}"],
     ),
     (
-        "#pragma xmp template t[4]\nint main() {}",
-        None,
-        Some(('M', 1, 1, 13)),
+        "M2 at 2:13",
+        &[
+            "#pragma xmp nodes p[1]\n#pragma xmp template t[0]\nint main() {}",
+            "#pragma xmp nodes p[1]\n#pragma xmp template t[2][2][2][2]\n#pragma xmp distribute t[block][*][*][*] onto p\nint main() {}",
+            "#pragma xmp nodes p[1]\n#pragma xmp template t[4194305]\n#pragma xmp distribute t[block] onto p\nint main() {}",
+            "#pragma xmp nodes p[1]\n#pragma xmp template t[-1]\nint main() {}",
+        ],
     ),
     (
-        "#pragma xmp nodes p[1]\n#pragma xmp template t[0]\nint main() {}",
-        None,
-        Some(('M', 2, 2, 13)),
+        "M3 at 3:13",
+        &[
+            "#pragma xmp nodes p[2][2]\n#pragma xmp template t[8]\n#pragma xmp distribute t[block] onto p\nint main() {}",
+        ],
     ),
     (
-        "#pragma xmp nodes p[1]\n#pragma xmp template t[2][2][2][2]\n#pragma xmp distribute t[block][*][*][*] onto p\nint main() {}",
-        None,
-        Some(('M', 2, 2, 13)),
+        "M4 at 5:13",
+        &[
+            "#define N 8\nint x;\n#pragma xmp nodes p[4]\n#pragma xmp template t[N]\n#pragma xmp distribute t[gblock({0, 5, 0, 4})] onto p\nint main() {}",
+        ],
     ),
     (
-        "#pragma xmp nodes p[1]\n#pragma xmp template t[4194305]\n#pragma xmp distribute t[block] onto p\nint main() {}",
-        None,
-        Some(('M', 2, 2, 13)),
+        "M5 at 6:13",
+        &[
+            "int c[4]:[*];\nint a[8];\n#pragma xmp nodes p[2]\n#pragma xmp template t[8]\n#pragma xmp distribute t[block] onto p\n#pragma xmp align a[i] with t[i]\nint main() {}",
+        ],
     ),
     (
-        "#pragma xmp nodes p[1]\n#pragma xmp template t[4194304][1][1]\n#pragma xmp distribute t[block][*][*] onto p\nint main() {}",
-        None,
-        None,
+        "M6 at 6:13",
+        &[
+            "int a[8];\n#pragma xmp nodes p[2]\n#pragma xmp template t[8]\n#pragma xmp distribute t[cyclic] onto p\n#pragma xmp align a[i] with t[i]\n#pragma xmp shadow a[1]\nint main() {}",
+        ],
     ),
+    ("M10 at 1:20", &["int a[2048][2048], x[1];\nint main() {}"]),
     (
-        "#pragma xmp nodes p[2][2]\n#pragma xmp template t[8]\n#pragma xmp distribute t[block] onto p\nint main() {}",
-        None,
-        Some(('M', 3, 3, 13)),
-    ),
-    (
-        "#pragma xmp nodes p[2][2]\n#pragma xmp template t[8][3][8]\n#pragma xmp distribute t[block][*][cyclic(3)] onto p\nint main() {}",
-        None,
-        None,
-    ),
-    (
-        "#define N 8\nint x;\n#pragma xmp nodes p[4]\n#pragma xmp template t[N]\n#pragma xmp distribute t[gblock({0, 5, 0, 4})] onto p\nint main() {}",
-        None,
-        Some(('M', 4, 5, 13)),
-    ),
-    (
-        "int c[4]:[*];\nint a[8];\n#pragma xmp nodes p[2]\n#pragma xmp template t[8]\n#pragma xmp distribute t[block] onto p\n#pragma xmp align a[i] with t[i]\nint main() {}",
-        None,
-        Some(('M', 5, 6, 13)),
-    ),
-    (
-        "int a[8];\n#pragma xmp nodes p[2]\n#pragma xmp template t[8]\n#pragma xmp distribute t[cyclic] onto p\n#pragma xmp align a[i] with t[i]\n#pragma xmp shadow a[1]\nint main() {}",
-        None,
-        Some(('M', 6, 6, 13)),
-    ),
-    (
-        "int a[8];\n#pragma xmp nodes p[2]\n#pragma xmp template t[8]\n#pragma xmp distribute t[cyclic] onto p\n#pragma xmp align a[i] with t[i]\n#pragma xmp shadow a[0]\nint main() {}",
-        None,
-        None,
-    ),
-    (
-        "int a[2048][2048], x[1];\nint main() {}",
-        None,
-        Some(('M', 10, 1, 20)),
-    ),
-    ("int a[2048][2047], x[2048];\nint main() {}", None, None),
-    (
-        "int c[2097152]:[*], d[1]:[*];\nint main() {}",
-        Some(2),
-        Some(('M', 10, 1, 21)),
-    ),
-    ("int c[2097152]:[*], d[1]:[*];\nint main() {}", None, None),
-    (
-        "#pragma xmp nodes p[2]\nint main() {\n#pragma xmp nodes q[2]\n}",
-        None,
-        Some(('M', 1, 3, 13)),
-    ),
-    (
-        "#pragma xmp nodes p[1]\n#pragma xmp template t[-1]\nint main() {}",
-        None,
-        Some(('M', 2, 2, 13)),
-    ),
-    (
-        "int a[8];\n#pragma xmp nodes p[2]\n#pragma xmp template t[8]\n#pragma xmp distribute t[gblock({3, 5})] onto p\n#pragma xmp align a[i] with t[i]\n#pragma xmp shadow a[1]\nint main() {}",
-        None,
-        None,
-    ),
-    (
-        "int a[4194304];\nint main() { int b[1]; }",
-        None,
-        Some(('M', 10, 2, 18)),
+        "M10 at 2:18",
+        &["int a[4194304];\nint main() { int b[1]; }"],
     ),
 ];
 
@@ -137,57 +84,30 @@ const OVER_EIGHT: Around = (
     "\nint main() {}",
 );
 
-const DISTRIBUTIONS: [Row; 11] = [
-    ("", None, Some(('M', 3, 2, 13))),
+const DISTRIBUTIONS: [Alike; 6] = [
     (
-        "#pragma xmp distribute t[block] onto p\n#pragma xmp distribute t[cyclic] onto p",
-        None,
-        Some(('M', 3, 4, 13)),
+        "",
+        &[
+            "#pragma xmp distribute t[cyclic(4194304)] onto p",
+            "#pragma xmp distribute t[gblock({3, 5})] onto p",
+        ],
+    ),
+    ("N3 at 3:24", &["#pragma xmp distribute t[block][*] onto p"]),
+    ("M3 at 2:13", &[""]),
+    ("M3 at 3:13", &["#pragma xmp distribute t[*] onto p"]),
+    (
+        "M3 at 4:13",
+        &["#pragma xmp distribute t[block] onto p\n#pragma xmp distribute t[cyclic] onto p"],
     ),
     (
-        "#pragma xmp distribute t[*] onto p",
-        None,
-        Some(('M', 3, 3, 13)),
-    ),
-    (
-        "#pragma xmp distribute t[block][*] onto p",
-        None,
-        Some(('N', 3, 3, 24)),
-    ),
-    (
-        "#pragma xmp distribute t[cyclic(0)] onto p",
-        None,
-        Some(('M', 4, 3, 13)),
-    ),
-    (
-        "#pragma xmp distribute t[cyclic(4194305)] onto p",
-        None,
-        Some(('M', 4, 3, 13)),
-    ),
-    (
-        "#pragma xmp distribute t[cyclic(4194304)] onto p",
-        None,
-        None,
-    ),
-    (
-        "#pragma xmp distribute t[gblock({3, 5})] onto p",
-        None,
-        None,
-    ),
-    (
-        "#pragma xmp distribute t[gblock({8})] onto p",
-        None,
-        Some(('M', 4, 3, 13)),
-    ),
-    (
-        "#pragma xmp distribute t[gblock({9, -1})] onto p",
-        None,
-        Some(('M', 4, 3, 13)),
-    ),
-    (
-        "#pragma xmp distribute t[gblock({4294967299, 5})] onto p",
-        None,
-        Some(('M', 4, 3, 13)),
+        "M4 at 3:13",
+        &[
+            "#pragma xmp distribute t[cyclic(0)] onto p",
+            "#pragma xmp distribute t[cyclic(4194305)] onto p",
+            "#pragma xmp distribute t[gblock({8})] onto p",
+            "#pragma xmp distribute t[gblock({9, -1})] onto p",
+            "#pragma xmp distribute t[gblock({4294967299, 5})] onto p",
+        ],
     ),
 ];
 
@@ -198,102 +118,50 @@ const WITH_LISTS: Around = (
 );
 
 // Aligns and shadows.
-const ALIGNS: [Row; 20] = [
-    ("#pragma xmp align a[i] with t[i]", None, None),
+const ALIGNS: [Alike; 10] = [
     (
-        "#pragma xmp align b[i] with t[i]",
-        None,
-        Some(('M', 5, 5, 13)),
+        "",
+        &[
+            "#pragma xmp align a[i] with t[i]",
+            "#pragma xmp align a[i] with t[i]\n#pragma xmp shadow a[1]",
+            "#pragma xmp align a[i] with t[i]\n#pragma xmp shadow a[0:8]",
+        ],
+    ),
+    ("N1 at 5:31", &["#pragma xmp align a[i] with t[j]"]),
+    ("N3 at 5:19", &["#pragma xmp align a[i][j] with t[i]"]),
+    ("N3 at 5:29", &["#pragma xmp align a[i] with t[i][*]"]),
+    ("N3 at 5:31", &["#pragma xmp align a[i] with t[a]"]),
+    (
+        "N3 at 6:20",
+        &["#pragma xmp align a[i] with t[i]\n#pragma xmp shadow a[1][1]"],
     ),
     (
-        "#pragma xmp align a[i] with t[i+1]",
-        None,
-        Some(('M', 5, 5, 13)),
+        "M5 at 5:13",
+        &[
+            "#pragma xmp align b[i] with t[i]",
+            "#pragma xmp align a[i] with t[i+1]",
+            "#pragma xmp align a[i] with t[i-1]",
+            "#pragma xmp align a[i] with t[*]",
+            "#pragma xmp align a[*] with t[*]",
+            "#pragma xmp align a[i] with t[i+4294967296]",
+        ],
     ),
     (
-        "#pragma xmp align a[i] with t[i-1]",
-        None,
-        Some(('M', 5, 5, 13)),
+        "M5 at 6:13",
+        &["#pragma xmp align a[i] with t[i]\n#pragma xmp align a[i] with t[i]"],
     ),
     (
-        "#pragma xmp align a[i] with t[*]",
-        None,
-        Some(('M', 5, 5, 13)),
+        "M6 at 6:13",
+        &[
+            "#pragma xmp align a[i] with t[i]\n#pragma xmp shadow a[-1]",
+            "#pragma xmp align a[i] with t[i]\n#pragma xmp shadow a[1:4194305]",
+            "#pragma xmp align a[i] with t[i]\n#pragma xmp shadow b[1]",
+            "#pragma xmp align a[i] with t[i]\n#pragma xmp shadow a[4194305:0]",
+        ],
     ),
     (
-        "#pragma xmp align a[*] with t[*]",
-        None,
-        Some(('M', 5, 5, 13)),
-    ),
-    (
-        "#pragma xmp align a[i] with t[i]\n#pragma xmp align a[i] with t[i]",
-        None,
-        Some(('M', 5, 6, 13)),
-    ),
-    (
-        "#pragma xmp align a[i] with t[i+4294967296]",
-        None,
-        Some(('M', 5, 5, 13)),
-    ),
-    (
-        "#pragma xmp align a[i] with t[j]",
-        None,
-        Some(('N', 1, 5, 31)),
-    ),
-    (
-        "#pragma xmp align a[i] with t[a]",
-        None,
-        Some(('N', 3, 5, 31)),
-    ),
-    (
-        "#pragma xmp align a[i][j] with t[i]",
-        None,
-        Some(('N', 3, 5, 19)),
-    ),
-    (
-        "#pragma xmp align a[i] with t[i][*]",
-        None,
-        Some(('N', 3, 5, 29)),
-    ),
-    (
-        "#pragma xmp align a[i] with t[i]\n#pragma xmp shadow a[1]",
-        None,
-        None,
-    ),
-    (
-        "#pragma xmp align a[i] with t[i]\n#pragma xmp shadow a[0:8]",
-        None,
-        None,
-    ),
-    (
-        "#pragma xmp align a[i] with t[i]\n#pragma xmp shadow a[-1]",
-        None,
-        Some(('M', 6, 6, 13)),
-    ),
-    (
-        "#pragma xmp align a[i] with t[i]\n#pragma xmp shadow a[1:4194305]",
-        None,
-        Some(('M', 6, 6, 13)),
-    ),
-    (
-        "#pragma xmp align a[i] with t[i]\n#pragma xmp shadow a[1]\n#pragma xmp shadow a[1]",
-        None,
-        Some(('M', 6, 7, 13)),
-    ),
-    (
-        "#pragma xmp align a[i] with t[i]\n#pragma xmp shadow b[1]",
-        None,
-        Some(('M', 6, 6, 13)),
-    ),
-    (
-        "#pragma xmp align a[i] with t[i]\n#pragma xmp shadow a[1][1]",
-        None,
-        Some(('N', 3, 6, 20)),
-    ),
-    (
-        "#pragma xmp align a[i] with t[i]\n#pragma xmp shadow a[4194305:0]",
-        None,
-        Some(('M', 6, 6, 13)),
+        "M6 at 7:13",
+        &["#pragma xmp align a[i] with t[i]\n#pragma xmp shadow a[1]\n#pragma xmp shadow a[1]"],
     ),
 ];
 
@@ -304,27 +172,19 @@ const WITH_A_SQUARE: Around = (
 );
 
 // Its aligns and shadows.
-const SQUARES: [Row; 5] = [
+const SQUARES: [Alike; 4] = [
     (
-        "#pragma xmp align c[i][i] with t[i]",
-        None,
-        Some(('N', 2, 5, 24)),
+        "",
+        &[
+            "#pragma xmp align c[*][j] with t[j+4]",
+            "#pragma xmp align c[*][j] with t[j+4]\n#pragma xmp shadow c[0][1]",
+        ],
     ),
-    ("#pragma xmp align c[*][j] with t[j+4]", None, None),
+    ("N2 at 5:24", &["#pragma xmp align c[i][i] with t[i]"]),
+    ("M5 at 5:13", &["#pragma xmp align c[i][j] with t[i]"]),
     (
-        "#pragma xmp align c[i][j] with t[i]",
-        None,
-        Some(('M', 5, 5, 13)),
-    ),
-    (
-        "#pragma xmp align c[*][j] with t[j+4]\n#pragma xmp shadow c[0][1]",
-        None,
-        None,
-    ),
-    (
-        "#pragma xmp align c[*][j] with t[j+4]\n#pragma xmp shadow c[1][0]",
-        None,
-        Some(('M', 6, 6, 13)),
+        "M6 at 6:13",
+        &["#pragma xmp align c[*][j] with t[j+4]\n#pragma xmp shadow c[1][0]"],
     ),
 ];
 
@@ -334,106 +194,45 @@ const AMONG_LOOPS: Around = (
     "\n}",
 );
 
-const LOOPS: [Row; 20] = [
+const LOOPS: [Alike; 5] = [
     (
-        "#pragma xmp loop (i, j) on t[i][j]\nfor (i = 0; i < 8; i++) for (j = 0; j < 8; j++) a[i][j] = 1;",
-        None,
-        None,
+        "",
+        &[
+            "#pragma xmp loop (i, j) on t[i][j]\nfor (i = 0; i < 8; i++) for (j = 0; j < 8; j++) a[i][j] = 1;",
+            "#pragma xmp loop on t[i][j]\nfor (i = 0; i < 8; i++) { for (j = 0; j < 8; j++) a[i][j] = 1; }",
+            "#pragma xmp loop (i) on t[i][*]\nfor (i = 0; i < 8; i++) for (j = 0; j < 8; j++) a[i][j] = 1;",
+            "#pragma xmp loop on t[i+1][*] reduction(+:s)\nfor (i = 0; i < 8; i++) s += i;",
+            "#pragma xmp loop on t[i][*]\nfor (i = 0; i < 8; i += 2) ;",
+            "#pragma xmp loop on t[i][*]\nfor (i = 0; i < s; i++) ;",
+        ],
     ),
     (
-        "#pragma xmp loop on t[i][j]\nfor (i = 0; i < 8; i++) { for (j = 0; j < 8; j++) a[i][j] = 1; }",
-        None,
-        None,
+        "N3 at 6:21",
+        &["#pragma xmp loop on t[i]\nfor (i = 0; i < 8; i++) ;"],
     ),
     (
-        "#pragma xmp loop (i) on t[i][*]\nfor (i = 0; i < 8; i++) for (j = 0; j < 8; j++) a[i][j] = 1;",
-        None,
-        None,
+        "N3 at 6:23",
+        &["#pragma xmp loop on t[k][*]\nfor (i = 0; i < 8; i++) ;"],
     ),
     (
-        "#pragma xmp loop on t[i+1][*] reduction(+:s)\nfor (i = 0; i < 8; i++) s += i;",
-        None,
-        None,
+        "N3 at 6:41",
+        &["#pragma xmp loop on t[i][*] reduction(+:a)\nfor (i = 0; i < 8; i++) ;"],
     ),
     (
-        "#pragma xmp loop (j, i) on t[i][j]\nfor (i = 0; i < 8; i++) for (j = 0; j < 8; j++) a[i][j] = 1;",
-        None,
-        Some(('M', 7, 6, 13)),
-    ),
-    (
-        "#pragma xmp loop (i, j) on t[i][*]\nfor (i = 0; i < 8; i++) for (j = 0; j < 8; j++) a[i][j] = 1;",
-        None,
-        Some(('M', 7, 6, 13)),
-    ),
-    (
-        "#pragma xmp loop (i) on t[i][j]\nfor (i = 0; i < 8; i++) ;",
-        None,
-        Some(('M', 7, 6, 13)),
-    ),
-    (
-        "#pragma xmp loop (i, j) on t[i][j]\nfor (i = 0; i < 8; i++) { s = 1; for (j = 0; j < 8; j++) ; }",
-        None,
-        Some(('M', 7, 6, 13)),
-    ),
-    (
-        "#pragma xmp loop on t[*][i]\nfor (i = 0; i < 8; i++) ;",
-        None,
-        Some(('M', 7, 6, 13)),
-    ),
-    (
-        "#pragma xmp loop on t[i+4194305][*]\nfor (i = 0; i < 8; i++) ;",
-        None,
-        Some(('M', 7, 6, 13)),
-    ),
-    (
-        "#pragma xmp loop on t[i][i]\nfor (i = 0; i < 8; i++) ;",
-        None,
-        Some(('M', 7, 6, 13)),
-    ),
-    (
-        "#pragma xmp loop on t[i][*]\nfor (i = 0; i < s; i += 2) ;",
-        None,
-        Some(('M', 7, 6, 13)),
-    ),
-    (
-        "#pragma xmp loop on t[i][*]\nfor (i = 0; i < 8; i += 2) ;",
-        None,
-        None,
-    ),
-    (
-        "#pragma xmp loop on t[i][*]\nfor (i = 0; i < s; i++) ;",
-        None,
-        None,
-    ),
-    (
-        "#pragma xmp loop on t[i][*]\nfor (i = 0; i <= s; i++) ;",
-        None,
-        Some(('M', 7, 6, 13)),
-    ),
-    (
-        "#pragma xmp loop on t[i][*]\nfor (i = 0; i < 8; i++) i = 1;",
-        None,
-        Some(('M', 7, 6, 13)),
-    ),
-    (
-        "#pragma xmp loop on t[i][*]\nfor (i = 0; i < s; i++) s = 1;",
-        None,
-        Some(('M', 7, 6, 13)),
-    ),
-    (
-        "#pragma xmp loop on t[k][*]\nfor (i = 0; i < 8; i++) ;",
-        None,
-        Some(('N', 3, 6, 23)),
-    ),
-    (
-        "#pragma xmp loop on t[i]\nfor (i = 0; i < 8; i++) ;",
-        None,
-        Some(('N', 3, 6, 21)),
-    ),
-    (
-        "#pragma xmp loop on t[i][*] reduction(+:a)\nfor (i = 0; i < 8; i++) ;",
-        None,
-        Some(('N', 3, 6, 41)),
+        "M7 at 6:13",
+        &[
+            "#pragma xmp loop (j, i) on t[i][j]\nfor (i = 0; i < 8; i++) for (j = 0; j < 8; j++) a[i][j] = 1;",
+            "#pragma xmp loop (i, j) on t[i][*]\nfor (i = 0; i < 8; i++) for (j = 0; j < 8; j++) a[i][j] = 1;",
+            "#pragma xmp loop (i) on t[i][j]\nfor (i = 0; i < 8; i++) ;",
+            "#pragma xmp loop (i, j) on t[i][j]\nfor (i = 0; i < 8; i++) { s = 1; for (j = 0; j < 8; j++) ; }",
+            "#pragma xmp loop on t[*][i]\nfor (i = 0; i < 8; i++) ;",
+            "#pragma xmp loop on t[i+4194305][*]\nfor (i = 0; i < 8; i++) ;",
+            "#pragma xmp loop on t[i][i]\nfor (i = 0; i < 8; i++) ;",
+            "#pragma xmp loop on t[i][*]\nfor (i = 0; i < s; i += 2) ;",
+            "#pragma xmp loop on t[i][*]\nfor (i = 0; i <= s; i++) ;",
+            "#pragma xmp loop on t[i][*]\nfor (i = 0; i < 8; i++) i = 1;",
+            "#pragma xmp loop on t[i][*]\nfor (i = 0; i < s; i++) s = 1;",
+        ],
     ),
 ];
 
@@ -444,80 +243,48 @@ const ON_A_GRID: Around = (
 );
 
 // Sets of nodes, tasks and moves.
-const SETS: [Row; 21] = [
-    ("#pragma xmp task on p[1][0]\ns = 1;", None, None),
-    ("#pragma xmp task on p[0:2][1]\ns = 1;", None, None),
-    ("#pragma xmp task on p\ns = 1;", None, None),
+const SETS: [Alike; 10] = [
     (
-        "#pragma xmp task on p[2][0]\ns = 1;",
-        None,
-        Some(('M', 8, 4, 13)),
+        "",
+        &[
+            "#pragma xmp task on p[1][0]\ns = 1;",
+            "#pragma xmp task on p[0:2][1]\ns = 1;",
+            "#pragma xmp task on p\ns = 1;",
+            "#pragma xmp bcast (s) from p[1][1]",
+            "#pragma xmp tasks\n{\n#pragma xmp task on p[0][:]\ns = 1;\n#pragma xmp task on p[1][0]\ns = 2;\n}",
+            "#pragma xmp gmove\na[0:4] = b[1][:];",
+            "#pragma xmp gmove\na[:] = s;",
+        ],
+    ),
+    ("N3 at 4:20", &["#pragma xmp bcast (a) from p[1][1]"]),
+    ("N3 at 4:21", &["#pragma xmp task on p[0]\ns = 1;"]),
+    ("N3 at 4:22", &["#pragma xmp reflect (s)"]),
+    ("N3 at 5:1", &["#pragma xmp gmove\na[:] = b[:][:];"]),
+    ("N3 at 5:8", &["#pragma xmp gmove\na[:] = b[:];"]),
+    (
+        "M8 at 4:13",
+        &[
+            "#pragma xmp task on p[2][0]\ns = 1;",
+            "#pragma xmp task on p[-1][0]\ns = 1;",
+            "#pragma xmp task on p[0:0][0]\ns = 1;",
+            "#pragma xmp task on p[1:2][0]\ns = 1;",
+            "#pragma xmp bcast (s) from p[1][0:2]",
+        ],
     ),
     (
-        "#pragma xmp task on p[-1][0]\ns = 1;",
-        None,
-        Some(('M', 8, 4, 13)),
+        "M9 at 8:13",
+        &[
+            "#pragma xmp tasks\n{\n#pragma xmp task on p[0][:]\ns = 1;\n#pragma xmp task on p[:][1]\ns = 2;\n}",
+            "#pragma xmp tasks\n{\n#pragma xmp task on p[0][0]\ns = 1;\n#pragma xmp task on p[0][0]\ns = 2;\n}",
+        ],
     ),
     (
-        "#pragma xmp task on p[0:0][0]\ns = 1;",
-        None,
-        Some(('M', 8, 4, 13)),
+        "M9 at 10:13",
+        &[
+            "#pragma xmp tasks\n{\n#pragma xmp task on p[0][0]\ns = 1;\n#pragma xmp task on p[1][1]\ns = 2;\n#pragma xmp task on p\ns = 3;\n}",
+        ],
     ),
-    (
-        "#pragma xmp task on p[1:2][0]\ns = 1;",
-        None,
-        Some(('M', 8, 4, 13)),
-    ),
-    (
-        "#pragma xmp task on p[0]\ns = 1;",
-        None,
-        Some(('N', 3, 4, 21)),
-    ),
-    ("#pragma xmp bcast (s) from p[1][1]", None, None),
-    (
-        "#pragma xmp bcast (s) from p[1][0:2]",
-        None,
-        Some(('M', 8, 4, 13)),
-    ),
-    (
-        "#pragma xmp bcast (a) from p[1][1]",
-        None,
-        Some(('N', 3, 4, 20)),
-    ),
-    (
-        "#pragma xmp tasks\n{\n#pragma xmp task on p[0][:]\ns = 1;\n#pragma xmp task on p[1][0]\ns = 2;\n}",
-        None,
-        None,
-    ),
-    (
-        "#pragma xmp tasks\n{\n#pragma xmp task on p[0][:]\ns = 1;\n#pragma xmp task on p[:][1]\ns = 2;\n}",
-        None,
-        Some(('M', 9, 8, 13)),
-    ),
-    (
-        "#pragma xmp tasks\n{\n#pragma xmp task on p[0][0]\ns = 1;\n#pragma xmp task on p[0][0]\ns = 2;\n}",
-        None,
-        Some(('M', 9, 8, 13)),
-    ),
-    ("#pragma xmp gmove\na[0:4] = b[1][:];", None, None),
-    ("#pragma xmp gmove\na[:] = 1;", None, Some(('S', 1, 5, 8))),
-    ("#pragma xmp gmove\na[:] = s;", None, None),
-    (
-        "#pragma xmp gmove\na[:] = b[:][:];",
-        None,
-        Some(('N', 3, 5, 1)),
-    ),
-    (
-        "#pragma xmp gmove\na[:] = b[:];",
-        None,
-        Some(('N', 3, 5, 8)),
-    ),
-    ("#pragma xmp reflect (s)", None, Some(('N', 3, 4, 22))),
-    (
-        "#pragma xmp tasks\n{\n#pragma xmp task on p[0][0]\ns = 1;\n#pragma xmp task on p[1][1]\ns = 2;\n#pragma xmp task on p\ns = 3;\n}",
-        None,
-        Some(('M', 9, 10, 13)),
-    ),
+    ("S1 at 5:8", &["#pragma xmp gmove\na[:] = 1;"]),
 ];
 
 #[test]

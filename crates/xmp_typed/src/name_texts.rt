@@ -1,397 +1,304 @@
 // The rules of names: texts that break each, and texts beside them that break none.
-use crate::texts::{Breaks, PROGRAM, Row, check, judged};
+use crate::texts::{Alike, PROGRAM, check, check_one};
 use std::alloc::Global;
 use std::test::Fail;
 
-// Names that are known, declared once, and used as what they are.
-const NAMES: [Row; 26] = [
-    ("int main() {}", None, None),
+// Names that are known, and declared once.
+const NAMES: [Alike; 17] = [
     // a name is known from its declaration on, in its own initialiser too
-    ("int main() { x = 1; }", None, Some(('N', 1, 1, 14))),
-    ("int x; int main() { x = y; }", None, Some(('N', 1, 1, 25))),
-    ("int x; int main() { x = 1; }", None, None),
-    ("int main() { int x = x; }", None, None),
     (
-        "int main() { { int y; } y = 1; }",
-        None,
-        Some(('N', 1, 1, 25)),
-    ),
-    ("int main() { y = 1; int y; }", None, Some(('N', 1, 1, 14))),
-    (
-        "int main() { for (int i = 0; i < 3; i++) ; i = 1; }",
-        None,
-        Some(('N', 1, 1, 44)),
+        "",
+        &[
+            "int main() {}",
+            "int x; int main() { x = 1; }",
+            "int main() { int x = x; }",
+            "int c[2]:[*], x; int main() { x = xmp_node_num(); xmp_sync_all(&x); }",
+        ],
     ),
     (
-        "int x; int main() { x = xmp_node_num(); }",
-        None,
-        Some(('N', 1, 1, 25)),
+        "N1 at 1:14",
+        &["int main() { x = 1; }", "int main() { y = 1; int y; }"],
     ),
     (
-        "int x; int main() { xmp_sync_all(&x); }",
-        None,
-        Some(('N', 1, 1, 21)),
+        "N1 at 1:18",
+        &["int f() { return g(); } int g() { return 0; } int main() {}"],
+    ),
+    ("N1 at 1:21", &["int x; int main() { xmp_sync_all(&x); }"]),
+    (
+        "N1 at 1:25",
+        &[
+            "int x; int main() { x = y; }",
+            "int main() { { int y; } y = 1; }",
+            "int x; int main() { x = xmp_node_num(); }",
+            "int x; int main() { x = xmp_num_nodes(); }",
+        ],
     ),
     (
-        "int c[2]:[*], x; int main() { x = xmp_node_num(); xmp_sync_all(&x); }",
-        None,
-        None,
+        "N1 at 1:27",
+        &["int f(int n) { return n + g; }\nint main() {}"],
     ),
     (
-        "int c[2]:[*], x; int main() { x = xmp_node_num; }",
-        None,
-        Some(('N', 1, 1, 35)),
+        "N1 at 1:35",
+        &["int c[2]:[*], x; int main() { x = xmp_node_num; }"],
     ),
     (
-        "int f(int n) { return n + g; }\nint main() {}",
-        None,
-        Some(('N', 1, 1, 27)),
-    ),
-    (
-        "int x; int main() { x = xmp_num_nodes(); }",
-        None,
-        Some(('N', 1, 1, 25)),
-    ),
-    (
-        "int f() { return g(); } int g() { return 0; } int main() {}",
-        None,
-        Some(('N', 1, 1, 18)),
+        "N1 at 1:44",
+        &["int main() { for (int i = 0; i < 3; i++) ; i = 1; }"],
     ),
     // a scope declares a name once
-    ("int x; int x; int main() {}", None, Some(('N', 2, 1, 12))),
-    ("int x; int main() { int x; { int x; } }", None, None),
-    ("int main() { int x, x; }", None, Some(('N', 2, 1, 21))),
     (
-        "int f(int a, int a) { return a; } int main() {}",
-        None,
-        Some(('N', 2, 1, 18)),
+        "",
+        &[
+            "int x; int main() { int x; { int x; } }",
+            "int f(int a) { { int a; } return a; } int main() {}",
+            "int main() { for (int i = 0; i < 3; i++) { int i; } }",
+        ],
+    ),
+    ("N2 at 1:5", &["int xmp_node_num; int main() {}"]),
+    ("N2 at 1:12", &["int x; int x; int main() {}"]),
+    (
+        "N2 at 1:15",
+        &["int c[2]:[*], xmp_num_nodes; int main() {}"],
     ),
     (
-        "int f(int a) { int a; return a; } int main() {}",
-        None,
-        Some(('N', 2, 1, 20)),
+        "N2 at 1:18",
+        &["int f(int a, int a) { return a; } int main() {}"],
     ),
     (
-        "int f(int a) { { int a; } return a; } int main() {}",
-        None,
-        None,
+        "N2 at 1:20",
+        &["int f(int a) { int a; return a; } int main() {}"],
+    ),
+    ("N2 at 1:21", &["int main() { int x, x; }"]),
+    (
+        "N2 at 1:27",
+        &["int f() { return 0; } int f() { return 1; } int main() {}"],
     ),
     (
-        "int xmp_node_num; int main() {}",
-        None,
-        Some(('N', 2, 1, 5)),
-    ),
-    (
-        "int main() { for (int i = 0; i < 3; i++) { int i; } }",
-        None,
-        None,
-    ),
-    (
-        "int c[2]:[*], xmp_num_nodes; int main() {}",
-        None,
-        Some(('N', 2, 1, 15)),
-    ),
-    (
-        "int f() { return 0; } int f() { return 1; } int main() {}",
-        None,
-        Some(('N', 2, 1, 27)),
-    ),
-    (
-        "int p;\n#pragma xmp nodes p[2]\nint main() {}",
-        None,
-        Some(('N', 2, 2, 19)),
+        "N2 at 2:19",
+        &["int p;\n#pragma xmp nodes p[2]\nint main() {}"],
     ),
 ];
 
 // What a name is used as, and what has to be constant.
-const USES: [Row; 21] = [
+const USES: [Alike; 16] = [
     // a name is used as what it is
     (
-        "int x; int main() { x[0] = 1; }",
-        None,
-        Some(('N', 3, 1, 21)),
+        "",
+        &[
+            "int a[4]; int main() { a[0] = 1; }",
+            "int f(int n) { return n; } int main() { f(1); }",
+            "int a[4]:[*]; int main() { a[0]:[1] = 1; }",
+        ],
     ),
     (
-        "int a[4]; int main() { a = 1; }",
-        None,
-        Some(('N', 3, 1, 24)),
+        "N3 at 1:21",
+        &[
+            "int x; int main() { x[0] = 1; }",
+            "int x; int main() { x(); }",
+        ],
     ),
     (
-        "int a[4]; int main() { a[0][1] = 1; }",
-        None,
-        Some(('N', 3, 1, 24)),
-    ),
-    ("int a[4]; int main() { a[0] = 1; }", None, None),
-    (
-        "int f(int n) { return n; } int main() { f(1, 2); }",
-        None,
-        Some(('N', 3, 1, 41)),
+        "N3 at 1:24",
+        &[
+            "int a[4]; int main() { a = 1; }",
+            "int a[4]; int main() { a[0][1] = 1; }",
+            "int a[4]; int main() { a[0]:[1] = 1; }",
+        ],
     ),
     (
-        "int f(int n) { return n; } int main() { f(1); }",
-        None,
-        None,
-    ),
-    ("int x; int main() { x(); }", None, Some(('N', 3, 1, 21))),
-    (
-        "int a[4]; int main() { a[0]:[1] = 1; }",
-        None,
-        Some(('N', 3, 1, 24)),
-    ),
-    ("int a[4]:[*]; int main() { a[0]:[1] = 1; }", None, None),
-    (
-        "int c[2]:[*], x; int main() { x = xmp_node_num(1); }",
-        None,
-        Some(('N', 3, 1, 35)),
+        "N3 at 1:35",
+        &["int c[2]:[*], x; int main() { x = xmp_node_num(1); }"],
     ),
     (
-        "#pragma xmp nodes p[2]\nint main() { p = 1; }",
-        None,
-        Some(('N', 3, 2, 14)),
+        "N3 at 1:41",
+        &["int f(int n) { return n; } int main() { f(1, 2); }"],
     ),
     (
-        "int c[2]:[*]; int main() { xmp_sync_all(&c); }",
-        None,
-        Some(('N', 3, 1, 42)),
+        "N3 at 1:42",
+        &["int c[2]:[*]; int main() { xmp_sync_all(&c); }"],
+    ),
+    (
+        "N3 at 2:14",
+        &["#pragma xmp nodes p[2]\nint main() { p = 1; }"],
     ),
     // what has to be constant is
     (
-        "int x; int a[x]; int main() {}",
-        None,
-        Some(('N', 4, 1, 14)),
+        "",
+        &["int y = 1 || 1 / 0, a[2 * 3]; int main() { return 7 % 4; }"],
+    ),
+    ("N4 at 1:7", &["int a[1 << 32]; int main() {}"]),
+    ("N4 at 1:9", &["int y = 1 / 0; int main() {}"]),
+    ("N4 at 1:14", &["int x; int a[x]; int main() {}"]),
+    ("N4 at 1:16", &["int x; int y = x; int main() {}"]),
+    ("N4 at 1:28", &["int x; int main() { return x; }"]),
+    (
+        "N4 at 2:21",
+        &["int x;\n#pragma xmp nodes p[x]\nint main() {}"],
     ),
     (
-        "int x; int y = x; int main() {}",
-        None,
-        Some(('N', 4, 1, 16)),
-    ),
-    ("int y = 1 / 0; int main() {}", None, Some(('N', 4, 1, 9))),
-    (
-        "int y = 1 || 1 / 0, a[2 * 3]; int main() { return 7 % 4; }",
-        None,
-        None,
+        "N4 at 4:23",
+        &["int x;\n#pragma xmp nodes p[2]\nint main() {\n#pragma xmp task on p[x]\n;\n}"],
     ),
     (
-        "int x; int main() { return x; }",
-        None,
-        Some(('N', 4, 1, 28)),
-    ),
-    (
-        "int x;\n#pragma xmp nodes p[x]\nint main() {}",
-        None,
-        Some(('N', 4, 2, 21)),
-    ),
-    ("int a[1 << 32]; int main() {}", None, Some(('N', 4, 1, 7))),
-    (
-        "int x;\n#pragma xmp nodes p[2]\nint main() {\n#pragma xmp task on p[x]\n;\n}",
-        None,
-        Some(('N', 4, 4, 23)),
-    ),
-    (
-        "int i, x;\n#pragma xmp nodes p[2]\n#pragma xmp template t[8]\n#pragma xmp distribute t[block] onto p\nint main() {\n#pragma xmp loop on t[i + x]\nfor (i = 0; i < 8; i++) ;\n}",
-        None,
-        Some(('N', 4, 6, 27)),
+        "N4 at 6:27",
+        &[
+            "int i, x;\n#pragma xmp nodes p[2]\n#pragma xmp template t[8]\n#pragma xmp distribute t[block] onto p\nint main() {\n#pragma xmp loop on t[i + x]\nfor (i = 0; i < 8; i++) ;\n}",
+        ],
     ),
 ];
 
 // What a function has, and which function is main.
-const FUNCTIONS: [Row; 22] = [
+const FUNCTIONS: [Alike; 16] = [
     // a function has what is its own, and earlier functions
     (
-        "int g;\nint f(int n) { return n + g; }\nint main() {}",
-        None,
-        Some(('N', 5, 2, 27)),
+        "",
+        &[
+            "int f() { return 0; } int g() { return f(); } int main() {}",
+            "int c[2]:[*]; int f() { return xmp_node_num(); } int main() { f(); }",
+        ],
     ),
     (
-        "int g; int f() { g = 1; return 0; } int main() {}",
-        None,
-        Some(('N', 5, 1, 18)),
+        "N5 at 1:11",
+        &["int f() { printf(\"%d\", 1); return 0; } int main() {}"],
+    ),
+    ("N5 at 1:14", &["int main() { main(); }"]),
+    (
+        "N5 at 1:15",
+        &["int f() { int a[2]; return 0; } int main() {}"],
     ),
     (
-        "int f() { return 0; } int g() { return f(); } int main() {}",
-        None,
-        None,
+        "N5 at 1:18",
+        &[
+            "int g; int f() { g = 1; return 0; } int main() {}",
+            "int f() { return f(); } int main() {}",
+            "int f() { int x; scanf(\"%d\", &x); return x; } int main() {}",
+        ],
     ),
     (
-        "int f() { return f(); } int main() {}",
-        None,
-        Some(('N', 5, 1, 18)),
+        "N5 at 1:28",
+        &["int a[2]; int f() { return a[0]; } int main() {}"],
     ),
     (
-        "int f() { int a[2]; return 0; } int main() {}",
-        None,
-        Some(('N', 5, 1, 15)),
+        "N5 at 1:32",
+        &["int c[2]:[*]; int f() { int x; xmp_sync_all(&x); return x; } int main() {}"],
     ),
     (
-        "int f() { printf(\"%d\", 1); return 0; } int main() {}",
-        None,
-        Some(('N', 5, 1, 11)),
+        "N5 at 2:13",
+        &[
+            "int f() {\n#pragma xmp barrier\nreturn 0; }\n#pragma xmp nodes p[1]\nint main() {}",
+            "int f() {\n#pragma xmp nodes p[1]\nreturn 0; } int main() {}",
+        ],
     ),
     (
-        "int f() { int x; scanf(\"%d\", &x); return x; } int main() {}",
-        None,
-        Some(('N', 5, 1, 18)),
-    ),
-    (
-        "int f() {\n#pragma xmp barrier\nreturn 0; }\n#pragma xmp nodes p[1]\nint main() {}",
-        None,
-        Some(('N', 5, 2, 13)),
-    ),
-    (
-        "int f() {\n#pragma xmp nodes p[1]\nreturn 0; } int main() {}",
-        None,
-        Some(('N', 5, 2, 13)),
-    ),
-    ("int main() { main(); }", None, Some(('N', 5, 1, 14))),
-    (
-        "int a[2]; int f() { return a[0]; } int main() {}",
-        None,
-        Some(('N', 5, 1, 28)),
-    ),
-    (
-        "int c[2]:[*]; int f() { int x; xmp_sync_all(&x); return x; } int main() {}",
-        None,
-        Some(('N', 5, 1, 32)),
-    ),
-    (
-        "int c[2]:[*]; int f() { return xmp_node_num(); } int main() { f(); }",
-        None,
-        None,
+        "N5 at 2:27",
+        &["int g;\nint f(int n) { return n + g; }\nint main() {}"],
     ),
     // main is the last function, and returns at its end
-    ("int f() { return 0; }", None, Some(('N', 7, 1, 5))),
-    ("long main() {}", None, Some(('N', 7, 1, 6))),
-    ("int main(int a) {}", None, Some(('N', 7, 1, 5))),
-    ("int main(void) { return 0; }", None, None),
-    ("int main() { return 0; ; }", None, Some(('N', 7, 1, 14))),
     (
-        "int main() { if (1) return 0; }",
-        None,
-        Some(('N', 7, 1, 21)),
+        "",
+        &[
+            "int main(void) { return 0; }",
+            "int f() { return 1; return 2; } int main() {}",
+        ],
     ),
-    ("int main() { { return 0; } }", None, Some(('N', 7, 1, 16))),
-    ("int f() { return 1; return 2; } int main() {}", None, None),
     (
-        "int main() {} int f() { return 0; }",
-        None,
-        Some(('N', 7, 1, 19)),
+        "N7 at 1:5",
+        &["int f() { return 0; }", "int main(int a) {}"],
     ),
+    ("N7 at 1:6", &["long main() {}"]),
+    ("N7 at 1:14", &["int main() { return 0; ; }"]),
+    ("N7 at 1:16", &["int main() { { return 0; } }"]),
+    ("N7 at 1:19", &["int main() {} int f() { return 0; }"]),
+    ("N7 at 1:21", &["int main() { if (1) return 0; }"]),
 ];
 
 // Formats, arrays, and the first of several breaks.
-const REST: [Row; 28] = [
+const FORMATS_AND_ARRAYS: [Alike; 15] = [
     // a format fits what it is given
     (
-        "int main() { printf(\"%d\"); }",
-        None,
-        Some(('N', 6, 1, 21)),
+        "",
+        &[
+            "int main() { printf(\"%5d%%\\n\", 1); printf(\"none\"); }",
+            "long x; int main() { scanf(\"%ld\", &x); }",
+        ],
     ),
     (
-        "int main() { printf(\"%ld\", 1); }",
-        None,
-        Some(('N', 6, 1, 21)),
+        "N6 at 1:21",
+        &[
+            "int main() { printf(\"%d\"); }",
+            "int main() { printf(\"%ld\", 1); }",
+            "int main() { printf(\"%x\", 1); }",
+            "int main() { printf(\"%\"); }",
+            "int main() { printf(\"%d\", 1, 2); }",
+        ],
     ),
     (
-        "int main() { printf(\"%x\", 1); }",
-        None,
-        Some(('N', 6, 1, 21)),
-    ),
-    ("int main() { printf(\"%\"); }", None, Some(('N', 6, 1, 21))),
-    (
-        "int main() { printf(\"%5d%%\\n\", 1); printf(\"none\"); }",
-        None,
-        None,
-    ),
-    (
-        "int x; int main() { scanf(\"%ld\", &x); }",
-        None,
-        Some(('N', 6, 1, 27)),
-    ),
-    (
-        "int x; int main() { scanf(\"%d \", &x); }",
-        None,
-        Some(('N', 6, 1, 27)),
-    ),
-    ("long x; int main() { scanf(\"%ld\", &x); }", None, None),
-    (
-        "int main() { printf(\"%d\", 1, 2); }",
-        None,
-        Some(('N', 6, 1, 21)),
+        "N6 at 1:27",
+        &[
+            "int x; int main() { scanf(\"%ld\", &x); }",
+            "int x; int main() { scanf(\"%d \", &x); }",
+        ],
     ),
     // where an array or a mapping stands, and how large an array is
-    ("int main() { { int a[2]; } }", None, Some(('N', 8, 1, 20))),
-    ("int main() { int a[2]; }", None, None),
-    ("int a[0]; int main() {}", None, Some(('N', 8, 1, 5))),
-    ("int a[-1]; int main() {}", None, Some(('N', 8, 1, 5))),
-    ("int a[4194304]; int main() {}", None, None),
-    ("int a[4194305]; int main() {}", None, Some(('N', 8, 1, 5))),
-    ("int a[1][1][1]; int main() {}", None, None),
     (
-        "int a[1][1][1][1]; int main() {}",
-        None,
-        Some(('N', 8, 1, 5)),
+        "",
+        &[
+            "int main() { int a[2]; }",
+            "int a[4194304]; int main() {}",
+            "int a[1][1][1]; int main() {}",
+            "int main() {\n#pragma xmp nodes p[2]\n}",
+        ],
     ),
     (
-        "int main() { {\n#pragma xmp nodes p[2]\n} }",
-        None,
-        Some(('N', 8, 2, 13)),
+        "N8 at 1:5",
+        &[
+            "int a[0]; int main() {}",
+            "int a[-1]; int main() {}",
+            "int a[4194305]; int main() {}",
+            "int a[1][1][1][1]; int main() {}",
+        ],
     ),
-    ("int main() {\n#pragma xmp nodes p[2]\n}", None, None),
+    ("N8 at 1:20", &["int main() { { int a[2]; } }"]),
     (
-        "int main() { for (int i = 0; i < 2; i++) int a[2]; }",
-        None,
-        Some(('S', 1, 1, 42)),
+        "N8 at 2:13",
+        &["int main() { {\n#pragma xmp nodes p[2]\n} }"],
+    ),
+    (
+        "S1 at 1:42",
+        &["int main() { for (int i = 0; i < 2; i++) int a[2]; }"],
     ),
     // of several the first, and at one place the least
+    ("N1 at 1:27", &["int main() { printf(\"%d\", y); }"]),
     (
-        "int x, x; int main() { y = 1; }",
-        None,
-        Some(('N', 2, 1, 8)),
+        "N1 at 2:14",
+        &["#pragma xmp nodes p[0]\nint main() { y = 1; }"],
+    ),
+    ("N2 at 1:8", &["int x, x; int main() { y = 1; }"]),
+    (
+        "N5 at 1:15",
+        &["int f() { int a[0]; return 0; } int main() {}"],
     ),
     (
-        "int f() { int a[0]; return 0; } int main() {}",
-        None,
-        Some(('N', 5, 1, 15)),
+        "N6 at 1:21",
+        &[
+            "int main() { printf(\"%x\", y); }",
+            "int main() { printf(\"%d %d\", y); }",
+        ],
     ),
     (
-        "int main() { printf(\"%x\", y); }",
-        None,
-        Some(('N', 6, 1, 21)),
+        "N8 at 1:5",
+        &["int a[9223372036854775807], b[2147483648]; int main() {}"],
     ),
-    (
-        "int main() { printf(\"%d\", y); }",
-        None,
-        Some(('N', 1, 1, 27)),
-    ),
-    (
-        "#pragma xmp nodes p[0]\nint main() { y = 1; }",
-        None,
-        Some(('N', 1, 2, 14)),
-    ),
-    (
-        "int a[2048][2048], x[0]; int main() {}",
-        None,
-        Some(('N', 8, 1, 20)),
-    ),
-    (
-        "int a[9223372036854775807], b[2147483648]; int main() {}",
-        None,
-        Some(('N', 8, 1, 5)),
-    ),
-    (
-        "int main() { printf(\"%d %d\", y); }",
-        None,
-        Some(('N', 6, 1, 21)),
-    ),
+    ("N8 at 1:20", &["int a[2048][2048], x[0]; int main() {}"]),
 ];
 
-// Chains of calls: the number of the last function, the statements of main, and what breaks.
-const CHAINS: [(u32, &str, Option<Breaks>); 5] = [
-    (31, "f31();", None),
-    (32, "f31();", None),
-    (32, "f32();", Some(('N', 10, 34, 14))),
-    (32, "int x = f32();", Some(('N', 10, 34, 22))),
-    (33, "f31();", Some(('N', 10, 34, 20))),
+// Chains of calls: the number of the last function, main, and what breaks.
+const CHAINS: [(u32, &str, &str); 5] = [
+    (31, "int main() { f31(); }", ""),
+    (32, "int main() { f31(); }", ""),
+    (32, "int main() { f32(); }", "N10 at 34:14"),
+    (32, "int main() { int x = f32(); }", "N10 at 34:22"),
+    (33, "int main() { f31(); }", "N10 at 34:20"),
 ];
 
 #[test]
@@ -411,31 +318,31 @@ fn functions_are_judged(rt: HostRuntime) -> Result<(), Fail> {
 
 #[test]
 fn formats_and_arrays_are_judged(rt: HostRuntime) -> Result<(), Fail> {
-    check(&rt, rt.alloc(), PROGRAM, &REST)
+    check(&rt, rt.alloc(), PROGRAM, &FORMATS_AND_ARRAYS)
 }
 
-// The functions `f0` to the one of this number, each of which calls the one before it, and main with these statements.
-fn chain(alloc: Global, last: u32, main: &str) -> Result<String, Fail> {
+// Appends a function of one number, which calls that of another.
+fn add_link(alloc: Global, text: &mut String, one: u32, other: u32) -> Result<(), Fail> {
+    let line = format!(in alloc; "int f{one}() {{ return f{other}(); }}\n")?;
+    text.push_str(line.as_str())?;
+    Ok(())
+}
+
+// The functions `f0` to the one of this number, each of which calls the one before it.
+fn chain(alloc: Global, last: u32) -> Result<String, Fail> {
     let mut text = String::new(alloc);
     text.push_str("int f0() { return 0; }\n")?;
     for k in 1..=last {
-        let line = format!(in alloc; "int f{k}() {{ return f{}(); }}\n", k - 1)?;
-        text.push_str(line.as_str())?;
+        add_link(alloc, &mut text, k, k - 1)?;
     }
-    let line = format!(in alloc; "int main() {{ {main} }}")?;
-    text.push_str(line.as_str())?;
     Ok(text)
 }
 
 #[test]
 fn calls_are_as_deep_as_32(rt: HostRuntime) -> Result<(), Fail> {
     for (last, main, expected) in CHAINS {
-        let text = chain(rt.alloc(), last, main)?;
-        assert_eq!(rt;
-            judged(rt.alloc(), text.as_str(), None),
-            expected,
-            "f{last}, {main}"
-        );
+        let functions = chain(rt.alloc(), last)?;
+        check_one(&rt, rt.alloc(), (functions.as_str(), main, ""), expected)?;
     }
     Ok(())
 }
@@ -448,51 +355,45 @@ fn repeat(text: &mut String, piece: &str, count: usize) -> Result<(), Fail> {
     Ok(())
 }
 
-// Pieces with a number in the middle, one for each number below a count, between a beginning and an end.
-fn numbered(
+// Appends, for each number below a count, the number between two pieces.
+fn add_numbered(
     alloc: Global,
-    begin: &str,
-    piece: (&str, &str),
+    text: &mut String,
+    pieces: (&str, &str),
     count: u32,
-    end: &str,
-) -> Result<String, Fail> {
-    let mut text = String::new(alloc);
-    text.push_str(begin)?;
+) -> Result<(), Fail> {
     for k in 0..count {
-        let one = format!(in alloc; "{}{k}{}", piece.0, piece.1)?;
+        let one = format!(in alloc; "{}{k}{}", pieces.0, pieces.1)?;
         text.push_str(one.as_str())?;
     }
-    text.push_str(end)?;
-    Ok(text)
+    Ok(())
 }
 
 #[test]
 fn large_programs_are_judged(rt: HostRuntime) -> Result<(), Fail> {
-    let names = numbered(
+    let mut names = String::new(rt.alloc());
+    add_numbered(rt.alloc(), &mut names, (",n", ""), 60000)?;
+    let rest = ";int main(){n0 = n59999;}";
+    check_one(&rt, rt.alloc(), ("int x", names.as_str(), rest), "")?;
+    let mut functions = String::new(rt.alloc());
+    add_numbered(
         rt.alloc(),
-        "int x",
-        (",n", ""),
-        60000,
-        ";int main(){n0 = n59999;}",
-    )?;
-    assert_eq!(rt; judged(rt.alloc(), names.as_str(), None), None);
-    let functions = numbered(
-        rt.alloc(),
-        "",
+        &mut functions,
         ("int f", "(){return 0;}"),
         20000,
-        "int main(){f19999();}",
     )?;
-    assert_eq!(rt; judged(rt.alloc(), functions.as_str(), None), None);
-    Ok(())
+    let main = "int main(){f19999();}";
+    check_one(&rt, rt.alloc(), ("", functions.as_str(), main), "")
 }
 
 #[test]
 fn deep_loops_are_judged(rt: HostRuntime) -> Result<(), Fail> {
-    let mut text = String::new(rt.alloc());
-    text.push_str("int i;int main(){")?;
-    repeat(&mut text, "for(i=0;i<9;i++)", 125)?;
-    text.push_str(";}")?;
-    assert_eq!(rt; judged(rt.alloc(), text.as_str(), None), None);
-    Ok(())
+    let mut heads = String::new(rt.alloc());
+    repeat(&mut heads, "for(i=0;i<9;i++)", 125)?;
+    check_one(
+        &rt,
+        rt.alloc(),
+        ("int i;int main(){", heads.as_str(), ";}"),
+        "",
+    )
 }

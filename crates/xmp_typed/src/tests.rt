@@ -6,7 +6,7 @@ use std::test::Fail;
 use xmp_base::Fault;
 use xmp_prog::{Kind, Prog};
 
-/// A program by its number of nodes and whether it has a coarray; a rule by its letter, its number, and the line and column where it breaks.
+// A program by its number of nodes and whether it has a coarray; a rule by its letter, its number, and the line and column where it breaks.
 #[derive(Clone, Copy, PartialEq, Eq, Debug)]
 enum Is {
     Program(u32, bool),
@@ -46,6 +46,16 @@ const TEXTS: [(&[u8], Option<u32>, Is); 14] = [
         Some(4),
         Is::Breaks('M', 1, 1, 13),
     ),
+    (
+        b"#pragma xmp nodes p[*]\nint main() {}",
+        Some(16),
+        Is::Program(16, false),
+    ),
+    (
+        b"#pragma xmp nodes p[*]\nint main() {}",
+        None,
+        Is::Program(1, false),
+    ),
     (b"int main() {}", Some(5), Is::Program(5, false)),
     (b"int main() {}", None, Is::Program(1, false)),
     (
@@ -54,24 +64,14 @@ const TEXTS: [(&[u8], Option<u32>, Is); 14] = [
         Is::Program(2, true),
     ),
     (
-        b"int f(int n) { return n + g; }\nint main() {}",
-        None,
-        Is::Breaks('N', 1, 1, 27),
+        b"int c[2097152]:[*], d[1]:[*];\nint main() {}",
+        Some(2),
+        Is::Breaks('M', 10, 1, 21),
     ),
     (
-        b"int g;\nint f(int n) { return n + g; }\nint main() {}",
+        b"int c[2097152]:[*], d[1]:[*];\nint main() {}",
         None,
-        Is::Breaks('N', 5, 2, 27),
-    ),
-    (
-        b"#pragma xmp nodes p[1]\n#pragma xmp template t[0]\nint main() {}",
-        None,
-        Is::Breaks('M', 2, 2, 13),
-    ),
-    (
-        b"int a[2048][2048], x[1];\nint main() {}",
-        None,
-        Is::Breaks('M', 10, 1, 20),
+        Is::Program(1, true),
     ),
     (b"int x = ;\nint main() {}", None, Is::Breaks('S', 1, 1, 9)),
     (

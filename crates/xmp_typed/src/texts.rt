@@ -8,24 +8,18 @@ use std::alloc::Global;
 use std::mem::drop;
 use std::process::Abort;
 use std::test::Fail;
-use xmp_base::{Fault, Phase, Refusal};
+use xmp_base::{Fault, Phase, Place, Refusal};
 use xmp_prog::Prog;
 use xmp_source::tree_of;
 
-/// A rule by its letter and its number, with the line and the column where it breaks.
-pub(crate) type Breaks = (char, u16, u32, u32);
-
-/// A text, the number of nodes or none, and what the text breaks, or nothing where it is a program.
-pub(crate) type Row = (&'static str, Option<u32>, Option<Breaks>);
+/// Texts that are judged alike: the rule that each breaks and where, as `N1 at 1:14`, or nothing where each is a program; and the texts.
+pub(crate) type Alike = (&'static str, &'static [&'static str]);
 
 /// What stands before and behind each text of a table.
 pub(crate) type Around = (&'static str, &'static str);
 
 /// Nothing: the texts are whole programs.
 pub(crate) const PROGRAM: Around = ("", "");
-
-// No memory; no program by its tokens.
-const NOTHING: Breaks = ('-', 0, 0, 0);
 
 /// The letter of the rules of a phase.
 pub(crate) fn letter(phase: Phase) -> char {
@@ -38,16 +32,6 @@ pub(crate) fn letter(phase: Phase) -> char {
         Phase::Flow => 'F',
         Phase::Coarray => 'C',
     }
-}
-
-// A refusal as the rows spell it.
-fn breaks(refusal: Refusal) -> Breaks {
-    (
-        letter(refusal.phase),
-        refusal.rule,
-        refusal.at.line,
-        refusal.at.column,
-    )
 }
 
 // Whether a number of nodes is missing or 1 to 16.
@@ -70,54 +54,61 @@ pub(crate) fn typed(alloc: Global, text: &[u8], given: Option<u32>) -> Result<Pr
     elaborate(alloc, &tree, given)
 }
 
-/// What a text breaks, for a number of nodes or none, or nothing where it is a program.
-pub(crate) fn judged(alloc: Global, text: &str, given: Option<u32>) -> Option<Breaks> {
-    match typed(alloc, text.as_bytes(), given) {
+// The rule that a refusal names, and where.
+fn spelled(alloc: Global, refusal: Refusal) -> Result<String, Fail> {
+    let letter = letter(refusal.phase);
+    let Place { line, column } = refusal.at;
+    Ok(format!(in alloc; "{letter}{} at {line}:{column}", refusal.rule)?)
+}
+
+// The rule that a text breaks and where, or nothing where it is a program, for no number of nodes.
+fn judged(alloc: Global, text: &str) -> Result<String, Fail> {
+    match typed(alloc, text.as_bytes(), None) {
         Ok(program) => {
             drop(program);
-            None
+            Ok(String::new(alloc))
         }
-        Err(Fault::NoMemory) => Some(NOTHING),
-        Err(Fault::Refused(refusal)) => Some(breaks(refusal)),
+        Err(Fault::NoMemory) => Ok(format!(in alloc; "no memory")?),
+        Err(Fault::Refused(refusal)) => spelled(alloc, refusal),
     }
 }
 
-// Asserts that a text is judged as expected.
-fn check_one(
+/// Asserts that a text in three pieces is judged as expected.
+pub(crate) fn check_one(
     rt: &impl Abort,
     alloc: Global,
     pieces: (&str, &str, &str),
-    given: Option<u32>,
-    expected: Option<Breaks>,
+    expected: &str,
 ) -> Result<(), Fail> {
     let text = format!(in alloc; "{}{}{}", pieces.0, pieces.1, pieces.2)?;
-    assert_eq!(rt; judged(alloc, text.as_str(), given), expected, "{text}");
+    let found = judged(alloc, text.as_str())?;
+    assert_eq!(rt; found.as_str(), expected, "{text}");
     Ok(())
 }
 
-/// Asserts that each text of a table, with what stands around it, is judged as its row says.
-pub(crate) fn check(
-    rt: &impl Abort,
-    alloc: Global,
-    around: Around,
-    rows: &[Row],
-) -> Result<(), Fail> {
-    for (text, given, expected) in rows {
-        check_one(rt, alloc, (around.0, text, around.1), *given, *expected)?;
-    }
-    Ok(())
-}
-
-/// Asserts that each of these texts, with what stands around it, is judged as expected, for no number of nodes.
-pub(crate) fn check_alike(
+// Asserts that each of these texts, with what stands around it, is judged as expected.
+fn check_alike(
     rt: &impl Abort,
     alloc: Global,
     around: Around,
     texts: &[&str],
-    expected: Option<Breaks>,
+    expected: &str,
 ) -> Result<(), Fail> {
     for text in texts {
-        check_one(rt, alloc, (around.0, text, around.1), None, expected)?;
+        check_one(rt, alloc, (around.0, text, around.1), expected)?;
+    }
+    Ok(())
+}
+
+/// Asserts that the texts of a table, with what stands around them, are judged as it says.
+pub(crate) fn check(
+    rt: &impl Abort,
+    alloc: Global,
+    around: Around,
+    table: &[Alike],
+) -> Result<(), Fail> {
+    for (expected, texts) in table {
+        check_alike(rt, alloc, around, texts, expected)?;
     }
     Ok(())
 }
