@@ -3,7 +3,7 @@ use crate::texts::{Alike, Around, PROGRAM, check};
 use std::test::Fail;
 
 // Whole programs: nodes, templates, forms over other grids, and cells.
-const MAPPINGS: [Alike; 11] = [
+const MAPPINGS: [Alike; 12] = [
     (
         "",
         &[
@@ -60,6 +60,12 @@ const MAPPINGS: [Alike; 11] = [
         ],
     ),
     (
+        "M5 at 5:13",
+        &[
+            "int a[8];\n#pragma xmp nodes p[2]\n#pragma xmp template t[8][8]\n#pragma xmp distribute t[block][*] onto p\n#pragma xmp align a[i] with t[i][i]\nint main() {}",
+        ],
+    ),
+    (
         "M5 at 6:13",
         &[
             "int c[4]:[*];\nint a[8];\n#pragma xmp nodes p[2]\n#pragma xmp template t[8]\n#pragma xmp distribute t[block] onto p\n#pragma xmp align a[i] with t[i]\nint main() {}",
@@ -84,7 +90,8 @@ const OVER_EIGHT: Around = (
     "\nint main() {}",
 );
 
-const DISTRIBUTIONS: [Alike; 6] = [
+// Forms, or none.
+const DISTRIBUTIONS: [Alike; 7] = [
     (
         "",
         &[
@@ -92,7 +99,14 @@ const DISTRIBUTIONS: [Alike; 6] = [
             "#pragma xmp distribute t[gblock({3, 5})] onto p",
         ],
     ),
-    ("N3 at 3:24", &["#pragma xmp distribute t[block][*] onto p"]),
+    (
+        "N3 at 3:24",
+        &[
+            "#pragma xmp distribute t[block][*] onto p",
+            "#pragma xmp distribute p[block] onto p",
+        ],
+    ),
+    ("N3 at 3:38", &["#pragma xmp distribute t[block] onto t"]),
     ("M3 at 2:13", &[""]),
     ("M3 at 3:13", &["#pragma xmp distribute t[*] onto p"]),
     (
@@ -194,6 +208,7 @@ const AMONG_LOOPS: Around = (
     "\n}",
 );
 
+// Loop directives with their nests.
 const LOOPS: [Alike; 5] = [
     (
         "",

@@ -1,6 +1,7 @@
 // The rules of names: texts that break each, and texts beside them that break none.
-use crate::texts::{Alike, PROGRAM, check, check_one};
+use crate::texts::{Alike, Around, PROGRAM, check, check_one};
 use std::alloc::Global;
+use std::process::Abort;
 use std::test::Fail;
 
 // Names that are known, and declared once.
@@ -328,21 +329,21 @@ fn add_link(alloc: Global, text: &mut String, one: u32, other: u32) -> Result<()
     Ok(())
 }
 
-// The functions `f0` to the one of this number, each of which calls the one before it.
-fn chain(alloc: Global, last: u32) -> Result<String, Fail> {
-    let mut text = String::new(alloc);
-    text.push_str("int f0() { return 0; }\n")?;
+// Appends the functions `f1` to the one of this number, each of which calls the one before it.
+fn add_chain(alloc: Global, text: &mut String, last: u32) -> Result<(), Fail> {
     for k in 1..=last {
-        add_link(alloc, &mut text, k, k - 1)?;
+        add_link(alloc, text, k, k - 1)?;
     }
-    Ok(text)
+    Ok(())
 }
 
 #[test]
 fn calls_are_as_deep_as_32(rt: HostRuntime) -> Result<(), Fail> {
+    let first = "int f0() { return 0; }\n";
     for (last, main, expected) in CHAINS {
-        let functions = chain(rt.alloc(), last)?;
-        check_one(&rt, rt.alloc(), (functions.as_str(), main, ""), expected)?;
+        let mut others = String::new(rt.alloc());
+        add_chain(rt.alloc(), &mut others, last)?;
+        check_one(&rt, rt.alloc(), (first, others.as_str(), main), expected)?;
     }
     Ok(())
 }
@@ -369,31 +370,32 @@ fn add_numbered(
     Ok(())
 }
 
+// Asserts that so many numbered pieces are a program with what stands around them.
+fn check_numbered(
+    rt: &impl Abort,
+    alloc: Global,
+    around: Around,
+    pieces: (&str, &str),
+    count: u32,
+) -> Result<(), Fail> {
+    let mut text = String::new(alloc);
+    add_numbered(alloc, &mut text, pieces, count)?;
+    check_one(rt, alloc, (around.0, text.as_str(), around.1), "")
+}
+
 #[test]
 fn large_programs_are_judged(rt: HostRuntime) -> Result<(), Fail> {
-    let mut names = String::new(rt.alloc());
-    add_numbered(rt.alloc(), &mut names, (",n", ""), 60000)?;
-    let rest = ";int main(){n0 = n59999;}";
-    check_one(&rt, rt.alloc(), ("int x", names.as_str(), rest), "")?;
-    let mut functions = String::new(rt.alloc());
-    add_numbered(
-        rt.alloc(),
-        &mut functions,
-        ("int f", "(){return 0;}"),
-        20000,
-    )?;
-    let main = "int main(){f19999();}";
-    check_one(&rt, rt.alloc(), ("", functions.as_str(), main), "")
+    let around = ("int x", ";int main(){n0 = n59999;}");
+    check_numbered(&rt, rt.alloc(), around, (",n", ""), 60000)?;
+    let around = ("", "int main(){f19999();}");
+    let pieces = ("int f", "(){return 0;}");
+    check_numbered(&rt, rt.alloc(), around, pieces, 20000)
 }
 
 #[test]
 fn deep_loops_are_judged(rt: HostRuntime) -> Result<(), Fail> {
     let mut heads = String::new(rt.alloc());
     repeat(&mut heads, "for(i=0;i<9;i++)", 125)?;
-    check_one(
-        &rt,
-        rt.alloc(),
-        ("int i;int main(){", heads.as_str(), ";}"),
-        "",
-    )
+    let pieces = ("int i;int main(){", heads.as_str(), ";}");
+    check_one(&rt, rt.alloc(), pieces, "")
 }

@@ -14,11 +14,13 @@ enum Is {
     NoMemory,
 }
 
+// A typed program by what the rows say of it.
 fn program(p: &Prog) -> Is {
     Is::Program(p.nodes(), p.kind() == Kind::Coarray)
 }
 
-fn judged(alloc: Global, text: &[u8], given: Option<u32>) -> Is {
+// What becomes of a text, as the rows say it.
+fn judged(alloc: Global, text: &str, given: Option<u32>) -> Is {
     match typed(alloc, text, given) {
         Ok(found) => {
             let is = program(&found);
@@ -30,62 +32,63 @@ fn judged(alloc: Global, text: &[u8], given: Option<u32>) -> Is {
     }
 }
 
-const TEXTS: [(&[u8], Option<u32>, Is); 14] = [
+// Texts for a number of nodes or none, and what becomes of each.
+const TEXTS: [(&str, Option<u32>, Is); 14] = [
     (
-        b"#pragma xmp nodes p[3]\nint main() {}",
+        "#pragma xmp nodes p[3]\nint main() {}",
         Some(3),
         Is::Program(3, false),
     ),
     (
-        b"#pragma xmp nodes p[3]\nint main() {}",
+        "#pragma xmp nodes p[3]\nint main() {}",
         None,
         Is::Program(3, false),
     ),
     (
-        b"#pragma xmp nodes p[3]\nint main() {}",
+        "#pragma xmp nodes p[3]\nint main() {}",
         Some(4),
         Is::Breaks('M', 1, 1, 13),
     ),
     (
-        b"#pragma xmp nodes p[*]\nint main() {}",
+        "#pragma xmp nodes p[*]\nint main() {}",
         Some(16),
         Is::Program(16, false),
     ),
     (
-        b"#pragma xmp nodes p[*]\nint main() {}",
+        "#pragma xmp nodes p[*]\nint main() {}",
         None,
         Is::Program(1, false),
     ),
-    (b"int main() {}", Some(5), Is::Program(5, false)),
-    (b"int main() {}", None, Is::Program(1, false)),
+    ("int main() {}", Some(5), Is::Program(5, false)),
+    ("int main() {}", None, Is::Program(1, false)),
     (
-        b"int c[4]:[*];\nint main() {}",
+        "int c[4]:[*];\nint main() {}",
         Some(2),
         Is::Program(2, true),
     ),
     (
-        b"int c[2097152]:[*], d[1]:[*];\nint main() {}",
+        "int c[2097152]:[*], d[1]:[*];\nint main() {}",
         Some(2),
         Is::Breaks('M', 10, 1, 21),
     ),
     (
-        b"int c[2097152]:[*], d[1]:[*];\nint main() {}",
+        "int c[2097152]:[*], d[1]:[*];\nint main() {}",
         None,
         Is::Program(1, true),
     ),
-    (b"int x = ;\nint main() {}", None, Is::Breaks('S', 1, 1, 9)),
+    ("int x = ;\nint main() {}", None, Is::Breaks('S', 1, 1, 9)),
     (
-        b"int x = 9223372036854775808;\nint main() {}",
+        "int x = 9223372036854775808;\nint main() {}",
         None,
         Is::Breaks('L', 4, 1, 9),
     ),
     (
-        b"int main() { long x; x = 9223372036854775807; x = 2147483648; }",
+        "int main() { long x; x = 9223372036854775807; x = 2147483648; }",
         None,
         Is::Program(1, false),
     ),
     (
-        b"#pragma xmp nodes p[4]\n#pragma xmp template t[8]\n#pragma xmp distribute t[block] onto p\nint a[8];\n#pragma xmp align a[i] with t[i]\n#pragma xmp shadow a[1:1]\nint main() {\nint i, s;\n#pragma xmp loop (i) on t[i] reduction(+:s)\nfor (i = 0; i < 8; i++) s += a[i];\nprintf(\"%d\\n\", s);\n}",
+        "#pragma xmp nodes p[4]\n#pragma xmp template t[8]\n#pragma xmp distribute t[block] onto p\nint a[8];\n#pragma xmp align a[i] with t[i]\n#pragma xmp shadow a[1:1]\nint main() {\nint i, s;\n#pragma xmp loop (i) on t[i] reduction(+:s)\nfor (i = 0; i < 8; i++) s += a[i];\nprintf(\"%d\\n\", s);\n}",
         Some(4),
         Is::Program(4, false),
     ),

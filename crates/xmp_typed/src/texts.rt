@@ -45,11 +45,11 @@ fn is_count(given: Option<u32>) -> bool
 }
 
 /// What becomes of a text, for a number of nodes or none.
-pub(crate) fn typed(alloc: Global, text: &[u8], given: Option<u32>) -> Result<Prog, Fault> {
+pub(crate) fn typed(alloc: Global, text: &str, given: Option<u32>) -> Result<Prog, Fault> {
     if text.len() > 1048576 || !is_count(given) {
         return Err(Fault::NoMemory);
     }
-    let tree = tree_of(alloc, text)?;
+    let tree = tree_of(alloc, text.as_bytes())?;
     text_numbers_lie();
     elaborate(alloc, &tree, given)
 }
@@ -63,7 +63,7 @@ fn spelled(alloc: Global, refusal: Refusal) -> Result<String, Fail> {
 
 // The rule that a text breaks and where, or nothing where it is a program, for no number of nodes.
 fn judged(alloc: Global, text: &str) -> Result<String, Fail> {
-    match typed(alloc, text.as_bytes(), None) {
+    match typed(alloc, text, None) {
         Ok(program) => {
             drop(program);
             Ok(String::new(alloc))
