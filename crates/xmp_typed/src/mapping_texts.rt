@@ -3,7 +3,7 @@ use crate::texts::{Alike, Around, PROGRAM, check};
 use std::test::Fail;
 
 // Whole programs: nodes, templates, forms over other grids, and cells.
-const MAPPINGS: [Alike; 12] = [
+const MAPPINGS: [Alike; 13] = [
     (
         "",
         &[
@@ -77,6 +77,7 @@ const MAPPINGS: [Alike; 12] = [
             "int a[8];\n#pragma xmp nodes p[2]\n#pragma xmp template t[8]\n#pragma xmp distribute t[cyclic] onto p\n#pragma xmp align a[i] with t[i]\n#pragma xmp shadow a[1]\nint main() {}",
         ],
     ),
+    ("M10 at 1:17", &["int a[4194304], b[1];\nint main() {}"]),
     ("M10 at 1:20", &["int a[2048][2048], x[1];\nint main() {}"]),
     (
         "M10 at 2:18",
