@@ -4,8 +4,16 @@
 
 mod laws;
 #[cfg(test)]
+mod mapping_texts;
+#[cfg(test)]
+mod name_texts;
+#[cfg(test)]
 mod tests;
+#[cfg(test)]
+mod texts;
 mod typed;
+#[cfg(test)]
+mod value_texts;
 
 pub use laws::text_numbers_lie;
 pub use typed::elaborate;

@@ -1,36 +1,12 @@
 // Texts of programs, and what becomes of them.
-ghost use Rattle.std.specs.Prelude.{◌≡◌};
-ghost use Rattle.xmp_elab.specs.Narrow.{is_count};
-
-use crate::laws::text_numbers_lie;
-use crate::typed::elaborate;
+use crate::texts::{letter, typed};
 use std::alloc::Global;
 use std::mem::drop;
 use std::test::Fail;
-use xmp_base::{Fault, Phase};
+use xmp_base::Fault;
 use xmp_prog::{Kind, Prog};
-use xmp_source::tree_of;
 
-fn is_count(given: Option<u32>) -> bool
-    ensures { result ≡ is_count given }
-{
-    match given {
-        Some(count) => 1 <= count && count <= 16,
-        None => true,
-    }
-}
-
-// What becomes of a text, for a number of nodes or none.
-fn typed(alloc: Global, text: &[u8], given: Option<u32>) -> Result<Prog, Fault> {
-    if text.len() > 1048576 || !is_count(given) {
-        return Err(Fault::NoMemory);
-    }
-    let tree = tree_of(alloc, text)?;
-    text_numbers_lie();
-    elaborate(alloc, &tree, given)
-}
-
-/// A program by its number of nodes and whether it has a coarray; a rule by its letter, its number, and the line and column where it breaks.
+// A program by its number of nodes and whether it has a coarray; a rule by its letter, its number, and the line and column where it breaks.
 #[derive(Clone, Copy, PartialEq, Eq, Debug)]
 enum Is {
     Program(u32, bool),
@@ -38,23 +14,13 @@ enum Is {
     NoMemory,
 }
 
-fn letter(phase: Phase) -> char {
-    match phase {
-        Phase::Lex => 'L',
-        Phase::Macro => 'E',
-        Phase::Syntax => 'S',
-        Phase::Names => 'N',
-        Phase::Mapping => 'M',
-        Phase::Flow => 'F',
-        Phase::Coarray => 'C',
-    }
-}
-
+// A typed program by what the rows say of it.
 fn program(p: &Prog) -> Is {
     Is::Program(p.nodes(), p.kind() == Kind::Coarray)
 }
 
-fn judged(alloc: Global, text: &[u8], given: Option<u32>) -> Is {
+// What becomes of a text, as the rows say it.
+fn judged(alloc: Global, text: &str, given: Option<u32>) -> Is {
     match typed(alloc, text, given) {
         Ok(found) => {
             let is = program(&found);
@@ -66,62 +32,63 @@ fn judged(alloc: Global, text: &[u8], given: Option<u32>) -> Is {
     }
 }
 
-const TEXTS: [(&[u8], Option<u32>, Is); 14] = [
+// Texts for a number of nodes or none, and what becomes of each.
+const TEXTS: [(&str, Option<u32>, Is); 14] = [
     (
-        b"#pragma xmp nodes p[3]\nint main() {}",
+        "#pragma xmp nodes p[3]\nint main() {}",
         Some(3),
         Is::Program(3, false),
     ),
     (
-        b"#pragma xmp nodes p[3]\nint main() {}",
+        "#pragma xmp nodes p[3]\nint main() {}",
         None,
         Is::Program(3, false),
     ),
     (
-        b"#pragma xmp nodes p[3]\nint main() {}",
+        "#pragma xmp nodes p[3]\nint main() {}",
         Some(4),
         Is::Breaks('M', 1, 1, 13),
     ),
-    (b"int main() {}", Some(5), Is::Program(5, false)),
-    (b"int main() {}", None, Is::Program(1, false)),
     (
-        b"int c[4]:[*];\nint main() {}",
+        "#pragma xmp nodes p[*]\nint main() {}",
+        Some(16),
+        Is::Program(16, false),
+    ),
+    (
+        "#pragma xmp nodes p[*]\nint main() {}",
+        None,
+        Is::Program(1, false),
+    ),
+    ("int main() {}", Some(5), Is::Program(5, false)),
+    ("int main() {}", None, Is::Program(1, false)),
+    (
+        "int c[4]:[*];\nint main() {}",
         Some(2),
         Is::Program(2, true),
     ),
     (
-        b"int f(int n) { return n + g; }\nint main() {}",
-        None,
-        Is::Breaks('N', 1, 1, 27),
+        "int c[2097152]:[*], d[1]:[*];\nint main() {}",
+        Some(2),
+        Is::Breaks('M', 10, 1, 21),
     ),
     (
-        b"int g;\nint f(int n) { return n + g; }\nint main() {}",
+        "int c[2097152]:[*], d[1]:[*];\nint main() {}",
         None,
-        Is::Breaks('N', 5, 2, 27),
+        Is::Program(1, true),
     ),
+    ("int x = ;\nint main() {}", None, Is::Breaks('S', 1, 1, 9)),
     (
-        b"#pragma xmp nodes p[1]\n#pragma xmp template t[0]\nint main() {}",
-        None,
-        Is::Breaks('M', 2, 2, 13),
-    ),
-    (
-        b"int a[2048][2048], x[1];\nint main() {}",
-        None,
-        Is::Breaks('M', 10, 1, 20),
-    ),
-    (b"int x = ;\nint main() {}", None, Is::Breaks('S', 1, 1, 9)),
-    (
-        b"int x = 9223372036854775808;\nint main() {}",
+        "int x = 9223372036854775808;\nint main() {}",
         None,
         Is::Breaks('L', 4, 1, 9),
     ),
     (
-        b"int main() { long x; x = 9223372036854775807; x = 2147483648; }",
+        "int main() { long x; x = 9223372036854775807; x = 2147483648; }",
         None,
         Is::Program(1, false),
     ),
     (
-        b"#pragma xmp nodes p[4]\n#pragma xmp template t[8]\n#pragma xmp distribute t[block] onto p\nint a[8];\n#pragma xmp align a[i] with t[i]\n#pragma xmp shadow a[1:1]\nint main() {\nint i, s;\n#pragma xmp loop (i) on t[i] reduction(+:s)\nfor (i = 0; i < 8; i++) s += a[i];\nprintf(\"%d\\n\", s);\n}",
+        "#pragma xmp nodes p[4]\n#pragma xmp template t[8]\n#pragma xmp distribute t[block] onto p\nint a[8];\n#pragma xmp align a[i] with t[i]\n#pragma xmp shadow a[1:1]\nint main() {\nint i, s;\n#pragma xmp loop (i) on t[i] reduction(+:s)\nfor (i = 0; i < 8; i++) s += a[i];\nprintf(\"%d\\n\", s);\n}",
         Some(4),
         Is::Program(4, false),
     ),
