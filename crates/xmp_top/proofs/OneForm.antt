@@ -1,10 +1,10 @@
 -- Words spell one form.
-use Rattle.std.proofs.Common.{◌≡◌, ◌∙◌, ◌++◌, ℕ, List, [], ◌∷◌, map, sym, ap, refl, subst}
+use Rattle.std.proofs.Common.{◌≡◌, ◌∙◌, ◌++◌, ◌==◌, get_or, if◌then◌else◌, ℕ, List, [], ◌∷◌, map, sym, ap, refl, subst}
 use Rattle.std.proofs.lemmas.List.{map-append}
 use Rattle.xmp_top.specs.Settings.{Settings, Sets}
 use Rattle.xmp_top.specs.Forms.{Form, SpellsForm, Takes, word_of}
 use Rattle.xmp_top.specs.declared.forms.Command.{Command}
-use Rattle.xmp_top.specs.declared.forms.Command.TheVariants.{Run}
+use Rattle.xmp_top.specs.declared.forms.Command.TheVariants.{Check, Serial, Run}
 use Rattle.xmp_top.proofs.Unique.{sets_one}
 
 not_empty : {A : Type 0} (xs : List A) (x : A) → [] ≡ xs ++ x ∷ [] → ⊥
@@ -23,8 +23,17 @@ snoc_one (a ∷ xs) (b ∷ ys) x y e =
     let r0 : xs ≡ ys = r.0 in
     (cc, r.1)
 
+-- the command that a word can be: its first byte tells
+abbrev command_in : List ℕ → Command
+command_in word = if get_or word 0 0 == 99 then Check else (if get_or word 0 0 == 115 then Serial else Run)
+
+command_is : (command : Command) → command_in (word_of command) ≡ command
+command_is Check = refl
+command_is Serial = refl
+command_is Run = refl
+
 same_command : (a b : Command) → word_of a ≡ word_of b → a ≡ b
-same_command Run Run e = refl
+same_command a b e = sym (command_is a) ∙ (ap command_in e ∙ command_is b)
 
 pub parts_one : (a b : Command) (xs ys : List (List ℕ)) (x y : List ℕ) → word_of a ∷ (xs ++ x ∷ []) ≡ word_of b ∷ (ys ++ y ∷ []) → (a ≡ b) × (xs ≡ ys) × (x ≡ y)
 parts_one a b xs ys x y e =

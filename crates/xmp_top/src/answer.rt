@@ -132,8 +132,8 @@ fn answer_run(alloc: Global, text: &[u8]) -> Result<Prepared, NoMemory>
 
 // The number of nodes that is asked for.
 fn nodes_of(options: &Options<'_>) -> Option<u32>
-    ensures nodes { result ≡ options.now.nodes }
-    ensures count { IsTrue (is_count result) }
+    requires { IsTrue (is_count options.now.nodes) }
+    ensures { result ≡ options.now.nodes }
 {
     match options.nodes {
         Some(n) => Some(n as u32),
@@ -143,6 +143,7 @@ fn nodes_of(options: &Options<'_>) -> Option<u32>
 
 fn answer_check(alloc: Global, options: &Options<'_>, text: &[u8]) -> Result<Prepared, NoMemory>
     requires size { length text.now ≤ SOURCE_LIMIT }
+    requires count { IsTrue (is_count options.now.nodes) }
     ensures { IfOk result (λ due. AnswersCheck (settings_of options.now) text.now (record { out = due.out; err = due.err; status = due.status })) }
 {
     match compile(alloc, text, nodes_of(options)) {
@@ -231,6 +232,7 @@ fn answer_serial<F: Files>(
     files: &mut F,
 ) -> Result<Prepared, NoMemory>
     requires size { length text.now ≤ SOURCE_LIMIT }
+    requires count { IsTrue (is_count options.now.nodes) }
     ensures { IfOk result (λ due. AnswersSerial
         (record { told = F.told files.old; faults_before = F.faults files.old; faults_now = F.faults files.new })
         (settings_of options.now) text.now
@@ -258,6 +260,7 @@ fn answer_text<F: Files>(
     files: &mut F,
 ) -> Result<Prepared, NoMemory>
     requires size { length text.now ≤ SOURCE_LIMIT }
+    requires count { IsTrue (is_count options.now.nodes) }
     ensures { IfOk result (λ due. AnswersText
         (record { told = F.told files.old; faults_before = F.faults files.old; faults_now = F.faults files.new })
         command (settings_of options.now) text.now
@@ -276,6 +279,7 @@ fn answer_form<F: Files>(
     line: &CommandLine<'_>,
     files: &mut F,
 ) -> Result<Prepared, NoMemory>
+    requires { IsTrue (is_count line.now.options.nodes) }
     ensures { IfOk result (λ due. AnswersForm
         (record { told = F.told files.old; faults_before = F.faults files.old; faults_now = F.faults files.new })
         (form_of line.now)

@@ -1,6 +1,4 @@
 // The options of a command line, as types.
-ghost use Rattle.std.specs.Prelude.{IsTrue};
-ghost use Rattle.xmp_elab.specs.Narrow.{is_count};
 
 /// The options that there are. All but `Report` have a value.
 #[derive(Clone, Copy, Debug, PartialEq, Eq)]
@@ -28,5 +26,4 @@ pub struct Options<'a> {
     pub node: Option<u64>,
     /// Whether a report is asked for.
     pub report: bool,
-    ghost counts: { IsTrue (is_count nodes) },
 }

@@ -1,7 +1,8 @@
 // Reads a command line.
-ghost use Rattle.std.specs.Prelude.{◌≡◌, ◌↔◌, List, ℕ, IsTrue, map, string_bytes, codes, IfSome, IfNone};
+ghost use Rattle.std.specs.Prelude.{◌≡◌, ◌↔◌, List, ℕ, IsTrue, map, string_bytes, codes, IfSome, IfNone, None, false};
 ghost use Rattle.xmp_top.specs.declared.forms.Command.{Command};
-ghost use Rattle.xmp_top.specs.Settings.{settings_of, unset};
+ghost use Rattle.xmp_top.specs.Settings.{settings_of};
+ghost use Rattle.xmp_elab.specs.Narrow.{is_count};
 ghost use Rattle.xmp_top.specs.Forms.{SpellsForm, SpellsNoForm, Takes, form_of, word_of};
 
 use crate::forms::{Command, CommandLine};
@@ -60,6 +61,7 @@ fn takes(command: Command, options: &Options<'_>) -> bool
 pub fn command_line(words: &[String]) -> Option<CommandLine<'_>>
     ensures form { IfSome result (λ line. SpellsForm (form_of line) (map (λ w. string_bytes w) words.now)) }
     ensures none { IfNone result (SpellsNoForm (map (λ w. string_bytes w) words.now)) }
+    ensures count { IfSome result (λ line. IsTrue (is_count line.options.nodes)) }
 {
     let (first, rest) = words.split_first()?;
     let command = command_of(first.as_str())?;

@@ -1,6 +1,7 @@
 use Rattle.std.proofs.Common.{◌≡◌, ◌∙◌, ◌∷◌, ◌++◌, [], List, ℕ, map, string_bytes, sym, ap, true}
 use Rattle.xmp_top.specs.Settings.{settings_of}
 use Rattle.xmp_top.specs.Forms.{word_of}
+use Rattle.xmp_top.proofs.Counts.{sets_count}
 use Rattle.xmp_top.proofs.OneForm.{takes_as, words_of}
 use Rattle.xmp_top.proofs.words.command_line.Goals as goal
 
@@ -13,3 +14,6 @@ returns-then-not-takes-clause-none c = λ form h.
     let yes : c.takes.result ≡ true = c.takes.ensures.1 taken in
     let no = c.if-not-takes.true in
     absurd (cc)
+
+pub returns-clause-count : goal.returns-clause-count
+returns-clause-count c = sets_count (map (λ w. string_bytes w) c.in_ok-file.middle.now) (settings_of c.in_ok-options.options) c.in_ok-options.ensures.some
