@@ -1,18 +1,18 @@
 -- What follows from an answer.
-use Rattle.std.proofs.Common.{◌≡◌, ◌≢◌, ◌⊎◌, ◌∙◌, ℕ, List, Option, Some, inl, inr, refl, sym, ap, subst, codes}
+use Rattle.std.proofs.Common.{◌≡◌, ◌≢◌, ◌⊎◌, ◌∙◌, ℕ, List, inl, inr, refl, sym, ap, subst, codes}
 use Rattle.xmp_base.specs.declared.refusal.Refusal.{Refusal}
 use Rattle.xmp_base.specs.declared.status.Status.{Status}
 use Rattle.xmp_base.specs.declared.status.Status.TheVariants.{Ended, Trapped, OutOfSteps, Refused, Usage, ReadFault, WriteFault, NoMemory, TooLarge}
-use Rattle.xmp_top.specs.Forms.{Form, SpellsForm, SpellsNoForm}
+use Rattle.xmp_top.specs.Forms.{SpellsNoForm}
 use Rattle.xmp_top.specs.Lines.{refused_text}
-use Rattle.xmp_top.specs.Delivery.{SinkCall, TookNothing, Due, AllWritten, OutFailed, ErrFailed, Delivered, SinkFailed}
+use Rattle.xmp_top.specs.Delivery.{SinkCall, TookNothing, Due, AllWritten, OutFailed, ErrFailed, SinkFailed}
 use Rattle.xmp_top.specs.Answer as a
 use Rattle.xmp_top.specs.Answer.{FilesCall, ReadFailed, IsDue, IsAnswer, says_usage, says_read_fault, says_too_large, says_refused}
 use Rattle.xmp_top.specs.Causes as cause
-use Rattle.xmp_top.specs.Causes.{HasCauses, HasEnded, NothingFailed, OrNoMemory, ReadFaulted, SaysOnly, WasRefused, WasRun, WasTooLarge, Wrote}
+use Rattle.xmp_top.specs.Causes.{HasCauses, HasEnded, IsEnd, NothingFailed, OrNoMemory, ReadFaulted, SaysOnly, WasRefused, WasRun, WasTooLarge, Wrote}
 use Rattle.xmp_top.proofs.Written.{says_only, some_due, wrote}
 use Rattle.xmp_top.proofs.DueKinds as kind
-use Rattle.xmp_top.proofs.DueKinds.{IsEnd, Kind, kind_of, status_is}
+use Rattle.xmp_top.proofs.DueKinds.{Kind, kind_of, status_is}
 use Rattle.xmp_top.proofs.OneDue.{Laws, OrFault, accepted_due, input_due, none_due, printed_due, refused_due, run_due, source_due}
 
 -- no read failed, where nothing did
@@ -98,7 +98,13 @@ usage_due words files due (a.of_form form s t) none = absurd (none form s)
 exactly : (words : List (List ℕ)) (files : FilesCall) (out err : SinkCall) (status : Status) (due wanted : Due) → AllWritten due out err status
     → NothingFailed words files out err → OrFault words files wanted due → OrNoMemory wanted out err status
 exactly words files out err status due wanted all n (inl e) = inl (wrote due wanted out err status all e)
-exactly words files out err status due wanted all n (inr f) = absurd (no_fault words files out err n f)
+exactly words files out err status due wanted all n (inr (f, e)) = absurd (no_fault words files out err n f)
+
+-- what is due was, where a run came to an end
+at_end : (words : List (List ℕ)) (files : FilesCall) (out err : SinkCall) (status : Status) (due wanted : Due) → AllWritten due out err status → IsEnd status
+    → OrFault words files wanted due → Wrote wanted out err status
+at_end words files out err status due wanted all i (inl e) = wrote due wanted out err status all e
+at_end words files out err status due wanted all i (inr (f, e)) = absurd (subst IsEnd (all.status_is ∙ status_is due says_read_fault e) i)
 
 from_written : Laws → (words : List (List ℕ)) (files : FilesCall) (out err : SinkCall) (status : Status) (due : Due) → IsDue files words due → AllWritten due out err status
     → HasCauses words files out err status
@@ -115,6 +121,8 @@ from_written laws words files out err status due d all =
       out_of_steps = λ u. (due, out_of_steps_of words files due k (same ∙ u), wrote due due out err status all refl);
       write_fault = λ u. absurd (alone.0 (same ∙ u));
       no_memory = λ u. absurd (alone.1 (same ∙ u));
+      headline = λ form text p input t c b h i. at_end words files out err status due _ all i (run_due laws words files form text p input due t c b h d);
+      run_headline = λ form text bytes t c b i. at_end words files out err status due _ all i (printed_due words files form text bytes due t c b d);
       usage_exactly = λ none held. inl (wrote due says_usage out err status all (usage_due words files due d none));
       source_exactly = λ form s m n. exactly words files out err status due _ all n (source_due words files form due s m d);
       refused_exactly = λ form text r t c b n. exactly words files out err status due _ all n (refused_due laws words files form text r due t c b d);
@@ -143,6 +151,8 @@ from_failed words files out err status due d w failed sinks usage = record {
   out_of_steps = λ u. absurd (cc);
   write_fault = λ _. record { due = due; is_due = d; failed = failed };
   no_memory = λ u. absurd (cc);
+  headline = λ _ _ _ _ _ _ _ _ i. absurd (subst IsEnd w i);
+  run_headline = λ _ _ _ _ _ _ i. absurd (subst IsEnd w i);
   usage_exactly = λ none held. absurd (held (usage none));
   source_exactly = λ _ _ _ n. absurd (no_sink words files out err n sinks);
   refused_exactly = λ _ _ _ _ _ _ n. absurd (no_sink words files out err n sinks);
@@ -166,6 +176,8 @@ from_nothing words files out err status n o e = record {
   out_of_steps = λ u. absurd (cc);
   write_fault = λ u. absurd (cc);
   no_memory = λ _. (o, e);
+  headline = λ _ _ _ _ _ _ _ _ i. absurd (subst IsEnd n i);
+  run_headline = λ _ _ _ _ _ _ i. absurd (subst IsEnd n i);
   usage_exactly = λ _ _. inr n;
   source_exactly = λ _ _ _ _. inr n;
   refused_exactly = λ _ _ _ _ _ _ _. inr n;

@@ -1,32 +1,20 @@
 -- What is due, by its status.
-use Rattle.std.proofs.Common.{◌≡◌, ◌≢◌, ◌≤◌, ◌<◌, ◌∙◌, ℕ, List, [], length, Option, Some, None, refl, sym, ap, subst, codes}
-use Rattle.std.specs.Bool.{⊤}
+use Rattle.std.proofs.Common.{◌≡◌, ◌≢◌, ◌∙◌, ℕ, List, [], Option, Some, None, refl, sym, ap, subst, codes}
 use Rattle.xmp_base.specs.declared.refusal.Refusal.{Refusal}
-use Rattle.xmp_base.specs.declared.status.Status.{Status}
-use Rattle.xmp_base.specs.declared.status.Status.TheVariants.{Ended, Trapped, OutOfSteps, Refused, Usage, ReadFault, WriteFault, NoMemory, TooLarge}
+use Rattle.xmp_base.specs.declared.status.Status.TheVariants.{Ended}
 use Rattle.xmp_prog.specs.declared.parts.ProgParts.{ProgParts}
 use Rattle.xmp_meaning.specs.declared.outcome.Outcome.{Outcome}
 use Rattle.xmp_meaning.specs.declared.outcome.Outcome.TheVariants as outcome
 use Rattle.xmp_meaning.specs.Programs.{serial}
-use Rattle.xmp_drive.specs.Verdict.{IsAccepted}
-use Rattle.xmp_top.specs.declared.TheConstants.{SOURCE_LIMIT, INPUT_LIMIT}
 use Rattle.xmp_top.specs.declared.forms.Command.{Command}
 use Rattle.xmp_top.specs.declared.forms.Command.TheVariants.{Check, Serial, Run}
-use Rattle.xmp_top.specs.Settings.{Settings}
 use Rattle.xmp_top.specs.Forms.{Form, SpellsForm, SpellsNoForm}
 use Rattle.xmp_top.specs.Lines.{line}
 use Rattle.xmp_top.specs.Delivery.{Due}
 use Rattle.xmp_top.specs.Answer as a
 use Rattle.xmp_top.specs.Answer.{FilesCall, AnswersText, AnswersForm, AnswersInput, AnswersRead, IsDue, IsRead, due_of, run_on, says_usage, says_read_fault, says_too_large, says_refused, steps_in}
 use Rattle.xmp_top.specs.Causes as cause
-use Rattle.xmp_top.specs.Causes.{ReadSource, ReadProgram, ReadFaulted, WasTooLarge, WasRefused, WasRun, HasEnded, IsInput}
-
--- the statuses of a program that ran
-abbrev pub IsEnd : Status → Type 0
-IsEnd Ended = ⊤
-IsEnd Trapped = ⊤
-IsEnd OutOfSteps = ⊤
-IsEnd _ = ⊥
+use Rattle.xmp_top.specs.Causes.{ReadSource, ReadProgram, ReadFaulted, WasTooLarge, WasRefused, WasRun, HasEnded, IsEnd, IsInput}
 
 ends : (o : Outcome) → IsEnd (due_of o).status
 ends (outcome.Ended out arrays) = tt

@@ -1,5 +1,5 @@
 -- A call of the files within another, whose reads before it have changed nothing that is told.
-use Rattle.std.proofs.Common.{◌≡◌, ◌≤◌, ◌+◌, ◌-◌, ◌^◌, ◌∙◌, ℕ, List, length, take, Option, Some, None, IfSome, sym, subst, min, arith}
+use Rattle.std.proofs.Common.{◌≡◌, ◌≤◌, ◌+◌, ℕ, List, take, Option, Some, None, IfSome, subst, arith}
 use Rattle.xmp_base.specs.Causes.{Rose}
 use Rattle.xmp_prog.specs.declared.parts.ProgParts.{ProgParts}
 use Rattle.xmp_top.specs.declared.forms.Command.{Command}

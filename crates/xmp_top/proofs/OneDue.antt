@@ -1,5 +1,5 @@
 -- What is due for a text, and an input, that the files tell: one thing, unless a read failed.
-use Rattle.std.proofs.Common.{◌≡◌, ◌≢◌, ◌≤◌, ◌<◌, ◌+◌, ◌⊎◌, ◌∙◌, ℕ, List, [], length, take, Option, Some, None, IfSome, inl, inr, refl, sym, ap, subst, arith, codes}
+use Rattle.std.proofs.Common.{◌≡◌, ◌≢◌, ◌≤◌, ◌<◌, ◌+◌, ◌⊎◌, ◌∙◌, ℕ, List, length, take, Option, Some, None, IfSome, inl, inr, refl, sym, ap, subst, arith, codes}
 use Rattle.std.proofs.lemmas.List.{take_all, length-take}
 use Rattle.xmp_base.specs.declared.refusal.Refusal.{Refusal}
 use Rattle.xmp_prog.specs.declared.parts.ProgParts.{ProgParts}
@@ -10,7 +10,7 @@ use Rattle.xmp_top.specs.declared.TheConstants.{SOURCE_LIMIT, INPUT_LIMIT}
 use Rattle.xmp_top.specs.declared.forms.Command.{Command}
 use Rattle.xmp_top.specs.declared.forms.Command.TheVariants.{Check, Serial, Run}
 use Rattle.xmp_top.specs.Settings.{Settings}
-use Rattle.xmp_top.specs.Forms.{Form, SpellsForm, SpellsNoForm}
+use Rattle.xmp_top.specs.Forms.{Form, SpellsForm}
 use Rattle.xmp_top.specs.Lines.{line}
 use Rattle.xmp_top.specs.Delivery.{Due}
 use Rattle.xmp_top.specs.Answer as a
@@ -27,7 +27,7 @@ pub record Laws : Type 0 where
 
 -- This is due, unless a read failed.
 abbrev pub OrFault : List (List ℕ) → FilesCall → Due → Due → Type 0
-OrFault words files wanted due = (due ≡ wanted) ⊎ ReadFaulted words files
+OrFault words files wanted due = (due ≡ wanted) ⊎ (ReadFaulted words files × (due ≡ says_read_fault))
 
 -- ---- what was read of a file that is told
 
@@ -50,7 +50,7 @@ read_more files limit name bytes all r t more =
 -- what a form answers to a text that is told and within the limit, where its command answers one thing to it
 by_text : (words : List (List ℕ)) (files : FilesCall) (form : Form) (text : List ℕ) (wanted due : Due) → HasText words files form text → AnswersForm files form due
     → (ReadSource words files form text → AnswersText files form.command form.settings text due → OrFault words files wanted due) → OrFault words files wanted due
-by_text words files form text wanted due t (a.source_unread f e) by = inr (cause.of_source form t.spells f)
+by_text words files form text wanted due t (a.source_unread f e) by = inr (cause.of_source form t.spells f, e)
 by_text words files form text wanted due t (a.source_too_large read r l e) by =
     let n : length read ≡ length text = ap length (read_whole files SOURCE_LIMIT form.file read text r t.told t.small) in
     let small = t.small in
@@ -58,7 +58,7 @@ by_text words files form text wanted due t (a.source_too_large read r l e) by =
 by_text words files form text wanted due t (a.answered read r l u) by =
     let same = read_whole files SOURCE_LIMIT form.file read text r t.told t.small in
     by (record { spells = t.spells; read = subst (λ x. IsRead files SOURCE_LIMIT form.file x) same r; fits = t.small })
-        (subst (λ x. AnswersText files form.command form.settings x due) same u)
+    (subst (λ x. AnswersText files form.command form.settings x due) same u)
 
 by_due : (words : List (List ℕ)) (files : FilesCall) (form : Form) (wanted due : Due) → SpellsForm form words → IsDue files words due
     → (AnswersForm files form due → OrFault words files wanted due) → OrFault words files wanted due
@@ -116,7 +116,7 @@ by_serial laws words files form text p wanted due t c b d by =
 run_input : (words : List (List ℕ)) (files : FilesCall) (form : Form) (p : ProgParts) (input : List ℕ) (due : Due) (named : Option (List ℕ)) → form.settings.input ≡ named
     → ReadProgram words files form p → HasInput files named input → AnswersInput files form.settings p named due → OrFault words files (run_on form.settings p input) due
 run_input words files form p input due None n program h e = inl (e ∙ ap (run_on form.settings p) (sym h))
-run_input words files form p input due (Some name) n program h (a.input_unread f e) = inr (cause.of_input form p program name n f)
+run_input words files form p input due (Some name) n program h (a.input_unread f e) = inr (cause.of_input form p program name n f, e)
 run_input words files form p input due (Some name) n program h (a.input_too_large read r l e) =
     let k : length read ≡ length input = ap length (read_whole files INPUT_LIMIT name read input r h.0 h.1) in
     let small = h.1 in
@@ -134,7 +134,7 @@ run_due laws words files form text p input due t c b h d =
 -- on an input above it
 more_input : (words : List (List ℕ)) (files : FilesCall) (form : Form) (p : ProgParts) (name : List ℕ) (due : Due) → form.settings.input ≡ Some name
     → ReadProgram words files form p → HasMore files INPUT_LIMIT name → AnswersRead files form.settings p name due → OrFault words files says_too_large due
-more_input words files form p name due n program h (a.input_unread f e) = inr (cause.of_input form p program name n f)
+more_input words files form p name due n program h (a.input_unread f e) = inr (cause.of_input form p program name n f, e)
 more_input words files form p name due n program h (a.input_too_large read r l e) = inl e
 more_input words files form p name due n program h (a.runs read r l e) =
     let m = read_more files INPUT_LIMIT name read h.0 r h.1 h.2 in
@@ -150,7 +150,7 @@ input_due laws words files form text p name due t c b n h d =
 -- a source above its limit
 more_source : (words : List (List ℕ)) (files : FilesCall) (form : Form) (due : Due) → SpellsForm form words → HasMore files SOURCE_LIMIT form.file → AnswersForm files form due
     → OrFault words files says_too_large due
-more_source words files form due s h (a.source_unread f e) = inr (cause.of_source form s f)
+more_source words files form due s h (a.source_unread f e) = inr (cause.of_source form s f, e)
 more_source words files form due s h (a.source_too_large read r l e) = inl e
 more_source words files form due s h (a.answered read r l u) =
     let m = read_more files SOURCE_LIMIT form.file read h.0 r h.1 h.2 in

@@ -1,11 +1,11 @@
 -- What was written where no write fault is answered, and what isn't due.
-use Rattle.std.proofs.Common.{◌≡◌, ◌≢◌, ◌<◌, ◌⊎◌, ◌∙◌, ℕ, List, [], length, inl, inr, refl, sym, ap, arith}
+use Rattle.std.proofs.Common.{◌≡◌, ◌≢◌, ◌<◌, ◌∙◌, ℕ, List, [], length, inl, inr, ap, arith}
 use Rattle.xmp_base.specs.Told.{added}
 use Rattle.xmp_base.proofs.Taken.{added-nil}
 use Rattle.xmp_base.specs.declared.status.Status.{Status}
 use Rattle.xmp_base.specs.declared.status.Status.TheVariants.{WriteFault}
 use Rattle.xmp_top.specs.Lines.{line}
-use Rattle.xmp_top.specs.Delivery.{SinkCall, Took, TookNothing, Due, AllWritten, OutFailed, ErrFailed, Delivered}
+use Rattle.xmp_top.specs.Delivery.{SinkCall, Took, TookNothing, Due, AllWritten, Delivered}
 use Rattle.xmp_top.specs.Answer.{only_line}
 use Rattle.xmp_top.specs.Causes.{SaysOnly, Wrote}
 

@@ -1,7 +1,7 @@
 -- The answer to a command line, in three layers: what the words ask for (Forms), what is due (here), and how it was
 -- delivered (Delivery). What is due is looked at in this order: the words, the read of the source, its size, the verdict on it, the read of
 -- the input, its size, the run.
-use Rattle.std.specs.Prelude.{◌≡◌, ◌≤◌, ◌<◌, ◌+◌, ◌⊎◌, ℕ, List, [], ◌∷◌, ◌++◌, length, take, Option, Some, None, IfSome, codes}
+use Rattle.std.specs.Prelude.{◌≡◌, ◌≤◌, ◌<◌, ◌+◌, ◌⊎◌, ℕ, List, [], length, take, Option, Some, None, IfSome, codes}
 use Rattle.xmp_base.specs.Causes.{Rose}
 use Rattle.xmp_base.specs.declared.refusal.Refusal.{Refusal}
 use Rattle.xmp_base.specs.declared.refusal.Phase.TheVariants as phase

@@ -1,20 +1,15 @@
 -- What follows from an answer for each status: when it comes, and what was written.
 use Rattle.std.specs.Prelude.{◌≡◌, ◌≢◌, ◌≤◌, ◌<◌, ◌⊎◌, ⊤, ℕ, List, [], length, Option, Some, None, codes}
-use Rattle.xmp_base.specs.declared.place.Place.{Place}
 use Rattle.xmp_base.specs.declared.refusal.Refusal.{Refusal}
 use Rattle.xmp_base.specs.declared.status.Status.{Status}
 use Rattle.xmp_base.specs.declared.status.Status.TheVariants.{Ended, Trapped, OutOfSteps, Refused, Usage, ReadFault, WriteFault, NoMemory, TooLarge}
-use Rattle.xmp_num.specs.declared.types.TrapKind.{TrapKind}
 use Rattle.xmp_prog.specs.declared.parts.ProgParts.{ProgParts}
-use Rattle.xmp_meaning.specs.declared.outcome.Outcome.TheVariants as outcome
-use Rattle.xmp_meaning.specs.Programs.{serial}
 use Rattle.xmp_drive.specs.Verdict.{IsAccepted, IsRefused}
 use Rattle.xmp_first.specs.Accepts.{Accepts}
 use Rattle.xmp_top.specs.declared.TheConstants.{SOURCE_LIMIT, INPUT_LIMIT}
 use Rattle.xmp_top.specs.declared.forms.Command.TheVariants.{Check, Serial, Run}
-use Rattle.xmp_top.specs.Settings.{Settings}
 use Rattle.xmp_top.specs.Forms.{Form, SpellsForm, SpellsNoForm}
-use Rattle.xmp_top.specs.Lines.{line, refused_text, trapped_text}
+use Rattle.xmp_top.specs.Lines.{line, refused_text}
 use Rattle.xmp_top.specs.Delivery.{Due, SinkCall, SinkFailed, Took, TookNothing, OutFailed, ErrFailed}
 use Rattle.xmp_top.specs.Answer.{FilesCall, IsRead, ReadFailed, IsNone, IsDue, first_refusal, says_usage, says_refused, says_too_large, prints, run_on}
 
@@ -122,6 +117,13 @@ HasInput files (Some name) input = (files.told name ≡ Some input) × (length i
 abbrev pub HasMore : FilesCall → ℕ → List ℕ → Type 0
 HasMore files limit name = (all : List ℕ) × (files.told name ≡ Some all) × (limit < length all)
 
+-- a program's run came to an end of its own, to a trap, or to the end of its steps
+abbrev pub IsEnd : Status → Type 0
+IsEnd Ended = ⊤
+IsEnd Trapped = ⊤
+IsEnd OutOfSteps = ⊤
+IsEnd _ = ⊥
+
 pub record HasCauses (words : List (List ℕ)) (files : FilesCall) (out err : SinkCall) (status : Status) : Type 0 where
   -- when each answer comes, and what was written with it
   pub usage : status ≡ Usage → SpellsNoForm words × SaysOnly (codes "usage") out err
@@ -133,24 +135,31 @@ pub record HasCauses (words : List (List ℕ)) (files : FilesCall) (out err : Si
   pub out_of_steps : status ≡ OutOfSteps → (due : Due) × WasRun words files due × Wrote due out err status
   pub write_fault : status ≡ WriteFault → WriteFaulted words files out err status
   pub no_memory : status ≡ NoMemory → TookNothing out × TookNothing err
+  -- the headline of `serial`, whatever failed: a run that came to an end, a trap or the end of its steps wrote exactly the output of the program with its
+  -- directives erased, and the line of its end
+  pub headline : (form : Form) (text : List ℕ) (p : ProgParts) (input : List ℕ) → HasText words files form text → form.command ≡ Serial
+      → IsAccepted text form.settings.nodes p → HasInput files form.settings.input input → IsEnd status → Wrote (run_on form.settings p input) out err status
+  -- the same of `run`
+  pub run_headline : (form : Form) (text bytes : List ℕ) → HasText words files form text → form.command ≡ Run → Accepts text bytes → IsEnd status
+      → Wrote (prints bytes) out err status
   -- words of no form have no other answer, but where the line can't be written
   pub usage_exactly : SpellsNoForm words → (SinkFailed err → ⊥) → OrNoMemory says_usage out err status
   -- where nothing failed: a source that is too large
   pub source_exactly : (form : Form) → SpellsForm form words → HasMore files SOURCE_LIMIT form.file → NothingFailed words files out err
       → OrNoMemory says_too_large out err status
-  -- the headline of `check` and `serial`: a text that breaks a rule is refused by the first, and nothing is written but that
+  -- `check` and `serial`: a text that breaks a rule is refused by the first, and nothing is written but that
   pub refused_exactly : (form : Form) (text : List ℕ) (r : Refusal) → HasText words files form text → form.command ≢ Run → IsRefused text form.settings.nodes r
       → NothingFailed words files out err → OrNoMemory (says_refused r) out err status
   pub accepted_exactly : (form : Form) (text : List ℕ) (p : ProgParts) → HasText words files form text → form.command ≡ Check → IsAccepted text form.settings.nodes p
       → NothingFailed words files out err → OrNoMemory (prints (line (codes "accepted"))) out err status
-  -- the headline of `serial`: the output and the end of the program with its directives erased
+  -- `serial`: the output and the end of the program with its directives erased
   pub run_exactly : (form : Form) (text : List ℕ) (p : ProgParts) (input : List ℕ) → HasText words files form text → form.command ≡ Serial
       → IsAccepted text form.settings.nodes p → HasInput files form.settings.input input → NothingFailed words files out err
       → OrNoMemory (run_on form.settings p input) out err status
   pub input_exactly : (form : Form) (text : List ℕ) (p : ProgParts) (name : List ℕ) → HasText words files form text → form.command ≡ Serial
       → IsAccepted text form.settings.nodes p → form.settings.input ≡ Some name → HasMore files INPUT_LIMIT name → NothingFailed words files out err
       → OrNoMemory says_too_large out err status
-  -- the headline of `run`: what a program of its form prints with its directives erased, and any other text is refused
+  -- `run`: what a program of its form prints with its directives erased, and any other text is refused
   pub printed_exactly : (form : Form) (text bytes : List ℕ) → HasText words files form text → form.command ≡ Run → Accepts text bytes
       → NothingFailed words files out err → OrNoMemory (prints bytes) out err status
   pub no_program_exactly : (form : Form) (text : List ℕ) → HasText words files form text → form.command ≡ Run → IsNone text

@@ -6,6 +6,7 @@
 mod answer;
 mod delivery;
 mod forms;
+mod laws;
 mod lines;
 mod numbers;
 mod options;
@@ -16,6 +17,7 @@ mod words;
 pub use answer::prepare;
 pub use delivery::deliver;
 pub use forms::{Command, CommandLine};
+pub use laws::answers_have_causes;
 pub use numbers::number;
 pub use options::{Name, Options};
 pub use prepared::Prepared;

@@ -12,7 +12,7 @@ use std::env;
 use std::io::Write;
 use std::process::ExitCode;
 use xmp_base::{Files, HostFiles, HostSink, NoMemory, Sink, Status};
-use xmp_top::{deliver, prepare};
+use xmp_top::{answers_have_causes, deliver, prepare};
 
 /// A whole run of the program: the words are those after its name, and it reads `files` and writes `out` and `err`.
 ///
@@ -36,6 +36,7 @@ pub fn xmpc<F: Files, K: Sink, L: Sink>(
         (record { before = L.told err.old; now = L.told err.new; faults_before = L.faults err.old; faults_now = L.faults err.new })
         result }
 {
+    answers_have_causes();
     answer(alloc, words, files, out, err)
 }
 
