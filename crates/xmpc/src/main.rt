@@ -78,4 +78,8 @@ fn main(rt: HostRuntime) -> ExitCode {
 }
 
 #[cfg(test)]
+mod cases;
+#[cfg(test)]
+mod rows;
+#[cfg(test)]
 mod tests;
