@@ -1,4 +1,5 @@
 use super::*;
+use std::alloc::Global;
 use std::test::Fail;
 
 // The words of options, and what they set of nodes, steps, order and node, and the length of the input's name; or none.
@@ -43,14 +44,18 @@ const CASES: [Case; 8] = [
     },
 ];
 
+fn words_of(alloc: Global, words: &[&str]) -> Result<Vec<String>, Fail> {
+    let mut all = Vec::new(alloc);
+    for word in words {
+        all.push(String::from_str(alloc, word)?)?;
+    }
+    Ok(all)
+}
+
 #[test]
 fn options_come_in_any_order_and_once(rt: HostRuntime) -> Result<(), Fail> {
-    let alloc = rt.alloc();
     for case in &CASES {
-        let mut words = Vec::new(alloc);
-        for word in case.words {
-            words.push(String::from_str(alloc, word)?)?;
-        }
+        let words = words_of(rt.alloc(), case.words)?;
         let set = match options_of(words.as_slice()) {
             Some(o) => {
                 let input = o.input.map(|name| name.len() as u64);
@@ -59,6 +64,58 @@ fn options_come_in_any_order_and_once(rt: HostRuntime) -> Result<(), Fail> {
             None => None,
         };
         assert_eq!(rt; set, case.set);
+    }
+    Ok(())
+}
+
+// A command line by its command, its numbers of nodes and of steps, and the lengths of the names of its input and its file.
+type Line = (Command, Option<u64>, Option<u64>, Option<usize>, usize);
+
+// Words, and the command line that they are, or none where they are of no form.
+const LINES: [(&[&str], Option<Line>); 14] = [
+    (&["check", "f"], Some((Command::Check, None, None, None, 1))),
+    (
+        &["check", "--nodes=4", "f.c"],
+        Some((Command::Check, Some(4), None, None, 3)),
+    ),
+    (
+        &["serial", "--steps=0", "--input=in", "--nodes=16", "f"],
+        Some((Command::Serial, Some(16), Some(0), Some(2), 1)),
+    ),
+    (
+        &["serial", "--input=", "-"],
+        Some((Command::Serial, None, None, Some(0), 1)),
+    ),
+    (&["run", ""], Some((Command::Run, None, None, None, 0))),
+    (&[], None),
+    (&["check"], None),
+    (&["serial", "--nodes=4"], None),
+    (&["f", "check"], None),
+    (&["check", "--steps=1", "f"], None),
+    (&["serial", "--order=1", "f"], None),
+    (&["serial", "--report", "f"], None),
+    (&["serial", "--node=0", "f"], None),
+    (&["run", "--nodes=1", "f"], None),
+];
+
+#[test]
+fn words_are_forms(rt: HostRuntime) -> Result<(), Fail> {
+    for (words, expected) in LINES {
+        let words = words_of(rt.alloc(), words)?;
+        let line = match command_line(words.as_slice()) {
+            Some(l) => {
+                let input = l.options.input.map(|name| name.len());
+                Some((
+                    l.command,
+                    l.options.nodes,
+                    l.options.steps,
+                    input,
+                    l.file.len(),
+                ))
+            }
+            None => None,
+        };
+        assert_eq!(rt; line, expected);
     }
     Ok(())
 }

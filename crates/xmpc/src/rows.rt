@@ -11,15 +11,22 @@ const GIVEN: &[&str] = &["serial", "--input=g", "f"];
 // the cells, and its end.
 const TOP: &str = "int a[10], i, s;\n#pragma xmp nodes p[4]\n#pragma xmp template t[10]\n\
 #pragma xmp distribute t[block] onto p\n#pragma xmp align a[k] with t[k]\nint main(void) {\n";
+
 const FILL: &str = "#pragma xmp loop (i) on t[i]\n  for (i = 0; i < 10; i++) a[i] = i * i;\n";
+
 const SUM: &str = "#pragma xmp loop (i) on t[i] reduction(+:s)\n";
+
 const ADD: &str = "  for (i = 0; i < 10; i++) s += a[i];\n";
+
 const END: &str = "#pragma xmp task on p[0]\n  printf(\"%d\\n\", s);\n  return 0;\n}\n";
 
 // The sum of neighbours, in three pieces: what stands before the form of its distribution, that form, and the rest.
-const BEFORE: &str = "#define N 8\nint a[N], b[N], i, s;\n#pragma xmp nodes p[4]\n#pragma xmp template t[N]\n\
+const BEFORE: &str =
+    "#define N 8\nint a[N], b[N], i, s;\n#pragma xmp nodes p[4]\n#pragma xmp template t[N]\n\
 #pragma xmp distribute t";
+
 const BLOCK: &str = "[block]";
+
 const BEHIND: &str = " onto p\n#pragma xmp align a[k] with t[k]\n#pragma xmp align b[k] with t[k]\n\
 #pragma xmp shadow a[1]\nint main() {\n#pragma xmp loop (i) on t[i]\n  for (i = 0; i < N; i++) a[i] = i;\n\
 #pragma xmp reflect (a)\n#pragma xmp loop (i) on t[i] reduction(+:s)\n\
@@ -33,30 +40,36 @@ const GREATEST: &str = "int a[7], i, s;\n#pragma xmp nodes p[3]\n#pragma xmp tem
 #pragma xmp loop (i) on t[i] reduction(max:s)\n  for (i = 0; i < 7; i++) if (s < a[i]) s = a[i];\n";
 
 // A task that prints and then divides by zero, before one that prints.
-const TASKS: &str = "int z;\n#pragma xmp nodes p[2]\nint main() {\n#pragma xmp tasks\n{\n#pragma xmp task on p[1]\n\
+const TASKS: &str =
+    "int z;\n#pragma xmp nodes p[2]\nint main() {\n#pragma xmp tasks\n{\n#pragma xmp task on p[1]\n\
 { printf(\"A\"); z = 1 / z; }\n#pragma xmp task on p[0]\nprintf(\"B\");\n}\n}\n";
 
 // A number that one node reads and another prints.
-const READS: &str = "int n;\n#pragma xmp nodes p[2]\nint main() {\n#pragma xmp task on p[0]\nscanf(\"%d\", &n);\n\
+const READS: &str =
+    "int n;\n#pragma xmp nodes p[2]\nint main() {\n#pragma xmp task on p[0]\nscanf(\"%d\", &n);\n\
 #pragma xmp bcast (n) from p[0]\n#pragma xmp task on p[1]\nprintf(\"%d\\n\", n);\n}\n";
 
 // A loop of ten turns.
 const TURNS: &str = "int i;\nint main() { while (i < 10) i++; printf(\"%d\\n\", i); }\n";
 
 // A grid with its corners, in two pieces round the set of the node that prints.
-const GRID: &str = "int a[4][4], i, j, s;\n#pragma xmp nodes p[2][2]\n#pragma xmp template t[4][4]\n\
+const GRID: &str =
+    "int a[4][4], i, j, s;\n#pragma xmp nodes p[2][2]\n#pragma xmp template t[4][4]\n\
 #pragma xmp distribute t[block][block] onto p\n#pragma xmp align a[x][y] with t[x][y]\n\
 #pragma xmp shadow a[1][1]\nint main() {\n#pragma xmp loop (i, j) on t[i][j]\n\
 for (i = 0; i < 4; i++) for (j = 0; j < 4; j++) a[i][j] = 4 * i + j;\n#pragma xmp reflect (a)\n\
 #pragma xmp loop (i, j) on t[i][j] reduction(+:s)\n\
 for (i = 0; i < 3; i++) for (j = 0; j < 3; j++) s += a[i+1][j+1];\n#pragma xmp task on ";
+
 const PRINTS: &str = "\nprintf(\"%d\\n\", s);\n}\n";
 
 // A move of a section of an array onto another of it, in two pieces round the section that is read.
 const MOVES: &str = "int a[8], i, s;\n#pragma xmp nodes p[3]\n#pragma xmp template t[8]\n\
 #pragma xmp distribute t[block] onto p\n#pragma xmp align a[k] with t[k]\nint main(void) {\n\
 #pragma xmp loop (i) on t[i]\n  for (i = 0; i < 8; i++) a[i] = i;\n#pragma xmp gmove\n  a[1:7] = ";
-const MOVED: &str = ";\n#pragma xmp loop (i) on t[i] reduction(+:s)\n  for (i = 0; i < 8; i++) s += a[i];\n";
+
+const MOVED: &str =
+    ";\n#pragma xmp loop (i) on t[i] reduction(+:s)\n  for (i = 0; i < 8; i++) s += a[i];\n";
 
 // A sum that leaves the range of its type.
 const WRAPS: &str = "int a[2], i, s;\n#pragma xmp nodes p[2]\n#pragma xmp template t[2]\n\
@@ -67,11 +80,13 @@ const WRAPS: &str = "int a[2], i, s;\n#pragma xmp nodes p[2]\n#pragma xmp templa
 // The greatest of no cells, from 7 on.
 const NONE: &str = "int a[10], i, s = 7;\n#pragma xmp nodes p[4]\n#pragma xmp template t[10]\n\
 #pragma xmp distribute t[block] onto p\n#pragma xmp align a[k] with t[k]\nint main(void) {\n";
+
 const OVER_NONE: &str = "#pragma xmp loop (i) on t[i] reduction(max:s)\n\
   for (i = 0; i < 0; i++) if (a[i] > s) s = a[i];\n";
 
 // Each node writes its number to the next one's image.
-const IMAGES: &str = "int x[1]:[*], st;\nint main() {\nint me = xmp_node_num(), n = xmp_num_nodes();\n\
+const IMAGES: &str =
+    "int x[1]:[*], st;\nint main() {\nint me = xmp_node_num(), n = xmp_num_nodes();\n\
 x[0]:[(me + 1) % n] = me;\nxmp_sync_all(&st);\nprintf(\"%d\\n\", x[0]);\n}\n";
 
 // Programs that come to an end of their own.
