@@ -90,7 +90,7 @@ const IMAGES: &str =
 x[0]:[(me + 1) % n] = me;\nxmp_sync_all(&st);\nprintf(\"%d\\n\", x[0]);\n}\n";
 
 // Programs that come to an end of their own.
-const ENDS: [Case; 14] = [
+const ENDS: [Case; 15] = [
     Case {
         text: &[TOP, FILL, SUM, ADD, END],
         out: "285\n",
@@ -135,6 +135,12 @@ const ENDS: [Case; 14] = [
         words: &["serial", "--steps=10", "f"],
         text: &[TURNS],
         out: "10\n",
+        ..ROW
+    },
+    // a million steps, where no number of them is given
+    Case {
+        text: &["int i;\nint main() { while (i < 1000000) i++; printf(\"%d\\n\", i); }\n"],
+        out: "1000000\n",
         ..ROW
     },
     Case {
@@ -219,9 +225,8 @@ const STOPS: [Case; 6] = [
         err: "out of steps\n",
         ..ROW
     },
-    // a million turns, where no number of steps is given
     Case {
-        text: &["int main() { for (;;) ; }"],
+        text: &["int i;\nint main() { while (i < 1000001) i++; printf(\"%d\\n\", i); }\n"],
         status: Status::OutOfSteps,
         err: "out of steps\n",
         ..ROW
