@@ -42,7 +42,7 @@ none_made w ts k [] made each e = refl
 none_made w ts k (a ∷ more) [] each e = absurd each
 none_made w ts k (a ∷ more) (m ∷ made) each e =
     none_here a more (not_coarray w ts k a.extents a.coarray m.home each.0.home (left_false _ _ e))
-        (none_made w ts (k + 1) more made each.1 (right_false _ _ e))
+    (none_made w ts (k + 1) more made each.1 (right_false _ _ e))
 
 none_after : (s : Step Stmt) (p : ProgParts) → MadeAfter s p → list_any (λ a. is_image a.home) p.arrays ≡ false → first_coarray (world_after s).names.arrays ≡ None
 none_after (Gave main w) p made e = none_made w p.templates 0 w.names.arrays p.arrays made.arrays e
