@@ -192,20 +192,20 @@ agrees_step D K ts as' E M us es (no_token k vs q v n h) g x front bad after p d
     let b : k ≡ x = cc in
     let c : vs ≡ front ++ bad ∷ after = cc in
     let silent : (f rest : List Token) → vs ≡ f ++ rest → step rule (reading D K (k ∷ f)) ≡ goes [] (reading E M (k ∷ f)) =
-        (λ f rest z. subst (λ (l : List ℕ). step rule (reading D K (k ∷ f)) ≡ goes l (reading E M (k ∷ f))) n (h f rest z)) in
+    (λ f rest z. subst (λ (l : List ℕ). step rule (reading D K (k ∷ f)) ≡ goes l (reading E M (k ∷ f))) n (h f rest z)) in
     let here' : Reads rule (reading D K (k ∷ front)) ds (reading F L []) =
-        subst (λ (y : Token). Reads rule (reading D K (y ∷ front)) ds (reading F L [])) (sym b) r in
+    subst (λ (y : Token). Reads rule (reading D K (y ∷ front)) ds (reading F L [])) (sym b) r in
     let w = first_step _ _ (reading E M (k ∷ front)) ds [] here' (silent front (bad ∷ after) c) (some_left D F K L k front) in
     let t : Agrees D K (k ∷ front) bad after ds es =
-        agrees_silent D K k vs E M front bad after ds w.0 es silent c w.1
-        (g (k ∷ front) bad after (v ∙ ap (λ (l : List Token). k ∷ l) c) w.0 F L w.2) in
+    agrees_silent D K k vs E M front bad after ds w.0 es silent c w.1
+    (g (k ∷ front) bad after (v ∙ ap (λ (l : List Token). k ∷ l) c) w.0 F L w.2) in
     subst (λ (l : List ℕ). Agrees D K (x ∷ front) bad after ds (l ++ es)) (sym n) (subst (λ (y : Token). Agrees D K (y ∷ front) bad after ds es) b t)
 agrees_step D K ts as' E M us es (one_token k d q n h) g x front bad after p ds F L r =
     let a : k ∷ us ≡ x ∷ front ++ bad ∷ after = sym q ∙ p in
     let b : k ≡ x = cc in
     let c : us ≡ front ++ bad ∷ after = cc in
     let here' : Reads rule (reading D K (k ∷ front)) ds (reading F L []) =
-        subst (λ (y : Token). Reads rule (reading D K (y ∷ front)) ds (reading F L [])) (sym b) r in
+    subst (λ (y : Token). Reads rule (reading D K (y ∷ front)) ds (reading F L [])) (sym b) r in
     let w = first_step _ _ (reading E M front) ds as' here' (h front) (some_left D F K L k front) in
     subst (λ (y : Token). Agrees D K (y ∷ front) bad after ds (as' ++ es)) b
     (agrees_one D K k as' E M front bad after ds w.0 es h w.1 (g front bad after c w.0 F L w.2))
@@ -221,8 +221,8 @@ agrees_step D K ts as' E M us es (two_tokens k j d e q n h) g x (y ∷ front) ba
     let c : j ≡ y = cc in
     let o : us ≡ front ++ bad ∷ after = cc in
     let here' : Reads rule (reading D K (k ∷ j ∷ front)) ds (reading F L []) =
-        subst (λ (v : Token). Reads rule (reading D K (v ∷ j ∷ front)) ds (reading F L [])) (sym b)
-        (subst (λ (v : Token). Reads rule (reading D K (x ∷ v ∷ front)) ds (reading F L [])) (sym c) r) in
+    subst (λ (v : Token). Reads rule (reading D K (v ∷ j ∷ front)) ds (reading F L [])) (sym b)
+    (subst (λ (v : Token). Reads rule (reading D K (x ∷ v ∷ front)) ds (reading F L [])) (sym c) r) in
     let w = first_step _ _ (reading E M front) ds as' here' (h front) (some_left D F K L k (j ∷ front)) in
     subst (λ (v : Token). Agrees D K (v ∷ y ∷ front) bad after ds (as' ++ es)) b (subst (λ (v : Token). Agrees D K (k ∷ v ∷ front) bad after ds (as' ++ es)) c
     (agrees_two D K k j as' E M front bad after ds w.0 es h w.1 (g front bad after o w.0 F L w.2)))

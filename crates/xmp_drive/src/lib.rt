@@ -4,6 +4,8 @@
 mod accepted;
 mod coarrays;
 mod laws;
+#[cfg(test)]
+mod tests;
 mod verdict;
 
 pub use accepted::Accepted;

@@ -1,5 +1,5 @@
 // The verdict on a text.
-ghost use Rattle.std.specs.Prelude.{◌≡◌, ◌≤◌, ℕ, Option, IfOk, IfErr, IsTrue, None, Some, length, option_map, true};
+ghost use Rattle.std.specs.Prelude.{◌≡◌, ◌≢◌, ◌≤◌, ℕ, Option, IfOk, IfErr, IsTrue, None, Some, length, option_map, true};
 ghost use Rattle.xmp_base.specs.declared.refusal.Refusal.{Refusal};
 ghost use Rattle.xmp_base.specs.declared.refusal.Fault.TheVariants as fault;
 ghost use Rattle.xmp_prog.specs.declared.parts.ProgParts.{ProgParts};
@@ -8,7 +8,7 @@ ghost use Rattle.xmp_elab.specs.Narrow.{is_count};
 ghost use Rattle.xmp_elab.specs.Parts.{IsParts, RefusedBy};
 ghost use Rattle.xmp_elab.specs.Verdict.{verdict};
 ghost use Rattle.xmp_fits.specs.NumbersLie.{tree_lies};
-ghost use Rattle.xmp_drive.specs.Verdict.{IsAccepted, IsRefused, IsVerdictFault, tree_verdict};
+ghost use Rattle.xmp_drive.specs.Verdict.{IsAccepted, IsRefused, IsVerdictFault, arrays_of, first_coarray, tree_verdict};
 
 use crate::accepted::Accepted;
 use crate::coarrays::coarray_of;
@@ -23,6 +23,7 @@ use xmp_typed::{elaborate, text_numbers_lie};
 // What the tree of a program with a coarray is refused for.
 fn coarray_fault(alloc: Global, t: &Tree, given: Option<u32>) -> Fault
     requires named { verdict t.now given ≡ None }
+    requires coarray { first_coarray (arrays_of t.now given) ≢ None }
     ensures { RefusedBy (tree_verdict t.now given) result }
 {
     match coarray_of(alloc, t, given) {
@@ -31,7 +32,8 @@ fn coarray_fault(alloc: Global, t: &Tree, given: Option<u32>) -> Fault
             rule: 9,
             at,
         }),
-        _ => Fault::NoMemory,
+        Ok(None) => unreachable!(),
+        Err(_) => Fault::NoMemory,
     }
 }
 

@@ -4,7 +4,7 @@ use Rattle.xmp_base.specs.Causes.{Rose}
 use Rattle.xmp_prog.specs.declared.parts.ProgParts.{ProgParts}
 use Rattle.xmp_top.specs.declared.forms.Command.{Command}
 use Rattle.xmp_top.specs.declared.forms.Command.TheVariants.{Check, Serial, Run}
-use Rattle.xmp_top.specs.declared.TheConstants.{INPUT_LIMIT}
+use Rattle.xmp_top.specs.Limits.{input_limit}
 use Rattle.xmp_top.specs.Settings.{Settings}
 use Rattle.xmp_top.specs.Delivery.{Due}
 use Rattle.xmp_top.specs.Answer as a
@@ -29,8 +29,8 @@ by_input : (inner outer : FilesCall) (settings : Settings) (p : ProgParts) (due 
     → AnswersInput outer settings p named due
 by_input inner outer settings p due None w e = e
 by_input inner outer settings p due (Some name) w (a.input_unread f e) = a.input_unread (failed inner outer name w f) e
-by_input inner outer settings p due (Some name) w (a.input_too_large input r l e) = a.input_too_large input (read inner outer INPUT_LIMIT name input w r) l e
-by_input inner outer settings p due (Some name) w (a.runs input r l e) = a.runs input (read inner outer INPUT_LIMIT name input w r) l e
+by_input inner outer settings p due (Some name) w (a.input_too_large input r l e) = a.input_too_large input (read inner outer input_limit name input w r) l e
+by_input inner outer settings p due (Some name) w (a.runs input r l e) = a.runs input (read inner outer input_limit name input w r) l e
 
 by_serial : (inner outer : FilesCall) (settings : Settings) (text : List ℕ) (due : Due) → Within inner outer → AnswersSerial inner settings text due → AnswersSerial outer settings text due
 by_serial inner outer settings text due w (a.breaks r b e) = a.breaks r b e

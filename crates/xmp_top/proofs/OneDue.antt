@@ -6,7 +6,7 @@ use Rattle.xmp_prog.specs.declared.parts.ProgParts.{ProgParts}
 use Rattle.xmp_drive.specs.Verdict.{IsAccepted, IsRefused}
 use Rattle.xmp_first.specs.Accepts.{Accepts}
 use Rattle.xmp_first.proofs.Unique.{accepts_one}
-use Rattle.xmp_top.specs.declared.TheConstants.{SOURCE_LIMIT, INPUT_LIMIT}
+use Rattle.xmp_top.specs.Limits.{source_limit, input_limit}
 use Rattle.xmp_top.specs.declared.forms.Command.{Command}
 use Rattle.xmp_top.specs.declared.forms.Command.TheVariants.{Check, Serial, Run}
 use Rattle.xmp_top.specs.Settings.{Settings}
@@ -52,12 +52,12 @@ by_text : (words : List (List ℕ)) (files : FilesCall) (form : Form) (text : Li
     → (ReadSource words files form text → AnswersText files form.command form.settings text due → OrFault words files wanted due) → OrFault words files wanted due
 by_text words files form text wanted due t (a.source_unread f e) by = inr (cause.of_source form t.spells f, e)
 by_text words files form text wanted due t (a.source_too_large read r l e) by =
-    let n : length read ≡ length text = ap length (read_whole files SOURCE_LIMIT form.file read text r t.told t.small) in
+    let n : length read ≡ length text = ap length (read_whole files source_limit form.file read text r t.told t.small) in
     let small = t.small in
     absurd (omega arith)
 by_text words files form text wanted due t (a.answered read r l u) by =
-    let same = read_whole files SOURCE_LIMIT form.file read text r t.told t.small in
-    by (record { spells = t.spells; read = subst (λ x. IsRead files SOURCE_LIMIT form.file x) same r; fits = t.small })
+    let same = read_whole files source_limit form.file read text r t.told t.small in
+    by (record { spells = t.spells; read = subst (λ x. IsRead files source_limit form.file x) same r; fits = t.small })
     (subst (λ x. AnswersText files form.command form.settings x due) same u)
 
 by_due : (words : List (List ℕ)) (files : FilesCall) (form : Form) (wanted due : Due) → SpellsForm form words → IsDue files words due
@@ -118,11 +118,11 @@ run_input : (words : List (List ℕ)) (files : FilesCall) (form : Form) (p : Pro
 run_input words files form p input due None n program h e = inl (e ∙ ap (run_on form.settings p) (sym h))
 run_input words files form p input due (Some name) n program h (a.input_unread f e) = inr (cause.of_input form p program name n f, e)
 run_input words files form p input due (Some name) n program h (a.input_too_large read r l e) =
-    let k : length read ≡ length input = ap length (read_whole files INPUT_LIMIT name read input r h.0 h.1) in
+    let k : length read ≡ length input = ap length (read_whole files input_limit name read input r h.0 h.1) in
     let small = h.1 in
     absurd (omega arith)
 run_input words files form p input due (Some name) n program h (a.runs read r l e) =
-    inl (e ∙ ap (run_on form.settings p) (read_whole files INPUT_LIMIT name read input r h.0 h.1))
+    inl (e ∙ ap (run_on form.settings p) (read_whole files input_limit name read input r h.0 h.1))
 
 pub run_due : Laws → (words : List (List ℕ)) (files : FilesCall) (form : Form) (text : List ℕ) (p : ProgParts) (input : List ℕ) (due : Due) → HasText words files form text
     → form.command ≡ Serial → IsAccepted text form.settings.nodes p → HasInput files form.settings.input input → IsDue files words due
@@ -133,30 +133,30 @@ run_due laws words files form text p input due t c b h d =
 
 -- on an input above it
 more_input : (words : List (List ℕ)) (files : FilesCall) (form : Form) (p : ProgParts) (name : List ℕ) (due : Due) → form.settings.input ≡ Some name
-    → ReadProgram words files form p → HasMore files INPUT_LIMIT name → AnswersRead files form.settings p name due → OrFault words files says_too_large due
+    → ReadProgram words files form p → HasMore files input_limit name → AnswersRead files form.settings p name due → OrFault words files says_too_large due
 more_input words files form p name due n program h (a.input_unread f e) = inr (cause.of_input form p program name n f, e)
 more_input words files form p name due n program h (a.input_too_large read r l e) = inl e
 more_input words files form p name due n program h (a.runs read r l e) =
-    let m = read_more files INPUT_LIMIT name read h.0 r h.1 h.2 in
+    let m = read_more files input_limit name read h.0 r h.1 h.2 in
     absurd (omega arith)
 
 pub input_due : Laws → (words : List (List ℕ)) (files : FilesCall) (form : Form) (text : List ℕ) (p : ProgParts) (name : List ℕ) (due : Due) → HasText words files form text
-    → form.command ≡ Serial → IsAccepted text form.settings.nodes p → form.settings.input ≡ Some name → HasMore files INPUT_LIMIT name → IsDue files words due
+    → form.command ≡ Serial → IsAccepted text form.settings.nodes p → form.settings.input ≡ Some name → HasMore files input_limit name → IsDue files words due
     → OrFault words files says_too_large due
 input_due laws words files form text p name due t c b n h d =
     by_serial laws words files form text p says_too_large due t c b d
     (λ program i. more_input words files form p name due n program h (subst (λ o. AnswersInput files form.settings p o due) n i))
 
 -- a source above its limit
-more_source : (words : List (List ℕ)) (files : FilesCall) (form : Form) (due : Due) → SpellsForm form words → HasMore files SOURCE_LIMIT form.file → AnswersForm files form due
+more_source : (words : List (List ℕ)) (files : FilesCall) (form : Form) (due : Due) → SpellsForm form words → HasMore files source_limit form.file → AnswersForm files form due
     → OrFault words files says_too_large due
 more_source words files form due s h (a.source_unread f e) = inr (cause.of_source form s f, e)
 more_source words files form due s h (a.source_too_large read r l e) = inl e
 more_source words files form due s h (a.answered read r l u) =
-    let m = read_more files SOURCE_LIMIT form.file read h.0 r h.1 h.2 in
+    let m = read_more files source_limit form.file read h.0 r h.1 h.2 in
     absurd (omega arith)
 
-pub source_due : (words : List (List ℕ)) (files : FilesCall) (form : Form) (due : Due) → SpellsForm form words → HasMore files SOURCE_LIMIT form.file → IsDue files words due
+pub source_due : (words : List (List ℕ)) (files : FilesCall) (form : Form) (due : Due) → SpellsForm form words → HasMore files source_limit form.file → IsDue files words due
     → OrFault words files says_too_large due
 source_due words files form due s h d = by_due words files form says_too_large due s d (λ u. more_source words files form due s h u)
 

@@ -13,7 +13,7 @@ use Rattle.xmp_meaning.specs.declared.outcome.Outcome.TheVariants as outcome
 use Rattle.xmp_meaning.specs.Programs.{serial}
 use Rattle.xmp_drive.specs.Verdict.{IsAccepted, IsRefused}
 use Rattle.xmp_first.specs.Accepts.{Accepts}
-use Rattle.xmp_top.specs.declared.TheConstants.{SOURCE_LIMIT, INPUT_LIMIT, DEFAULT_STEPS}
+use Rattle.xmp_top.specs.Limits.{source_limit, input_limit, default_steps}
 use Rattle.xmp_top.specs.declared.forms.Command.{Command}
 use Rattle.xmp_top.specs.declared.forms.Command.TheVariants.{Check, Serial, Run}
 use Rattle.xmp_top.specs.Settings.{Settings}
@@ -88,7 +88,7 @@ pub data AnswersCheck (settings : Settings) (text : List ℕ) (due : Due) : Type
 
 -- the steps of a run, where no number of them is given
 abbrev pub steps_in : Option ℕ → ℕ
-steps_in None = DEFAULT_STEPS
+steps_in None = default_steps
 steps_in (Some n) = n
 
 -- the program with its directives erased, run on an input
@@ -98,8 +98,8 @@ run_on settings p input = due_of (serial p input (steps_in settings.steps))
 -- The input of a file that is named is read; it is too large, or the program runs on it.
 pub data AnswersRead (files : FilesCall) (settings : Settings) (p : ProgParts) (name : List ℕ) (due : Due) : Type 0 where
   input_unread : ReadFailed files name → due ≡ says_read_fault → AnswersRead files settings p name due
-  input_too_large : (input : List ℕ) → IsRead files INPUT_LIMIT name input → INPUT_LIMIT < length input → due ≡ says_too_large → AnswersRead files settings p name due
-  runs : (input : List ℕ) → IsRead files INPUT_LIMIT name input → length input ≤ INPUT_LIMIT → due ≡ run_on settings p input → AnswersRead files settings p name due
+  input_too_large : (input : List ℕ) → IsRead files input_limit name input → input_limit < length input → due ≡ says_too_large → AnswersRead files settings p name due
+  runs : (input : List ℕ) → IsRead files input_limit name input → length input ≤ input_limit → due ≡ run_on settings p input → AnswersRead files settings p name due
 
 -- Where none is named, the program runs on an empty input.
 abbrev pub AnswersInput : FilesCall → Settings → ProgParts → Option (List ℕ) → Due → Type 0
@@ -121,8 +121,8 @@ AnswersText files Run settings text due = AnswersRun text due
 -- What a form answers: its file could not be read, or is too large, or its text is answered to.
 pub data AnswersForm (files : FilesCall) (form : Form) (due : Due) : Type 0 where
   source_unread : ReadFailed files form.file → due ≡ says_read_fault → AnswersForm files form due
-  source_too_large : (text : List ℕ) → IsRead files SOURCE_LIMIT form.file text → SOURCE_LIMIT < length text → due ≡ says_too_large → AnswersForm files form due
-  answered : (text : List ℕ) → IsRead files SOURCE_LIMIT form.file text → length text ≤ SOURCE_LIMIT → AnswersText files form.command form.settings text due
+  source_too_large : (text : List ℕ) → IsRead files source_limit form.file text → source_limit < length text → due ≡ says_too_large → AnswersForm files form due
+  answered : (text : List ℕ) → IsRead files source_limit form.file text → length text ≤ source_limit → AnswersText files form.command form.settings text due
       → AnswersForm files form due
 
 -- What is due for these words.

@@ -6,7 +6,7 @@ use Rattle.xmp_base.specs.declared.status.Status.TheVariants.{Ended, Trapped, Ou
 use Rattle.xmp_prog.specs.declared.parts.ProgParts.{ProgParts}
 use Rattle.xmp_drive.specs.Verdict.{IsAccepted, IsRefused}
 use Rattle.xmp_first.specs.Accepts.{Accepts}
-use Rattle.xmp_top.specs.declared.TheConstants.{SOURCE_LIMIT, INPUT_LIMIT}
+use Rattle.xmp_top.specs.Limits.{source_limit, input_limit}
 use Rattle.xmp_top.specs.declared.forms.Command.TheVariants.{Check, Serial, Run}
 use Rattle.xmp_top.specs.Forms.{Form, SpellsForm, SpellsNoForm}
 use Rattle.xmp_top.specs.Lines.{line, refused_text}
@@ -31,8 +31,8 @@ pub record Wrote (due : Due) (out err : SinkCall) (status : Status) : Type 0 whe
 -- The words are a form whose file was read, and its text is within the limit.
 pub record ReadSource (words : List (List ℕ)) (files : FilesCall) (form : Form) (text : List ℕ) : Type 0 where
   pub spells : SpellsForm form words
-  pub read : IsRead files SOURCE_LIMIT form.file text
-  pub fits : length text ≤ SOURCE_LIMIT
+  pub read : IsRead files source_limit form.file text
+  pub fits : length text ≤ source_limit
 
 -- The words are `serial`, and the text of its file is accepted.
 pub record ReadProgram (words : List (List ℕ)) (files : FilesCall) (form : Form) (p : ProgParts) : Type 0 where
@@ -44,7 +44,7 @@ pub record ReadProgram (words : List (List ℕ)) (files : FilesCall) (form : For
 -- what was read as the input: nothing where no file is named
 abbrev pub IsInput : FilesCall → Option (List ℕ) → List ℕ → Type 0
 IsInput files None input = input ≡ []
-IsInput files (Some name) input = IsRead files INPUT_LIMIT name input × (length input ≤ INPUT_LIMIT)
+IsInput files (Some name) input = IsRead files input_limit name input × (length input ≤ input_limit)
 
 -- ---- when each answer comes
 
@@ -56,10 +56,10 @@ pub data ReadFaulted (words : List (List ℕ)) (files : FilesCall) : Type 0 wher
 
 -- The file of the form is too large; or its text is accepted, and the file of the input is too large.
 pub data WasTooLarge (words : List (List ℕ)) (files : FilesCall) : Type 0 where
-  of_source : (form : Form) → SpellsForm form words → (text : List ℕ) → IsRead files SOURCE_LIMIT form.file text → SOURCE_LIMIT < length text
+  of_source : (form : Form) → SpellsForm form words → (text : List ℕ) → IsRead files source_limit form.file text → source_limit < length text
       → WasTooLarge words files
   of_input : (form : Form) (p : ProgParts) → ReadProgram words files form p → (name : List ℕ) → form.settings.input ≡ Some name
-      → (input : List ℕ) → IsRead files INPUT_LIMIT name input → INPUT_LIMIT < length input → WasTooLarge words files
+      → (input : List ℕ) → IsRead files input_limit name input → input_limit < length input → WasTooLarge words files
 
 -- The text that was read breaks a rule; under `run` it is none of its programs.
 pub data WasRefused (words : List (List ℕ)) (files : FilesCall) (r : Refusal) : Type 0 where
@@ -106,12 +106,12 @@ OrNoMemory due out err status = Wrote due out err status ⊎ (status ≡ NoMemor
 pub record HasText (words : List (List ℕ)) (files : FilesCall) (form : Form) (text : List ℕ) : Type 0 where
   pub spells : SpellsForm form words
   pub told : files.told form.file ≡ Some text
-  pub small : length text ≤ SOURCE_LIMIT
+  pub small : length text ≤ source_limit
 
 -- The input is told and not larger than its limit, or none is named and it is empty.
 abbrev pub HasInput : FilesCall → Option (List ℕ) → List ℕ → Type 0
 HasInput files None input = input ≡ []
-HasInput files (Some name) input = (files.told name ≡ Some input) × (length input ≤ INPUT_LIMIT)
+HasInput files (Some name) input = (files.told name ≡ Some input) × (length input ≤ input_limit)
 
 -- The file of this name is told, and has more bytes than the limit.
 abbrev pub HasMore : FilesCall → ℕ → List ℕ → Type 0
@@ -145,7 +145,7 @@ pub record HasCauses (words : List (List ℕ)) (files : FilesCall) (out err : Si
   -- words of no form have no other answer, but where the line can't be written
   pub usage_exactly : SpellsNoForm words → (SinkFailed err → ⊥) → OrNoMemory says_usage out err status
   -- where nothing failed: a source that is too large
-  pub source_exactly : (form : Form) → SpellsForm form words → HasMore files SOURCE_LIMIT form.file → NothingFailed words files out err
+  pub source_exactly : (form : Form) → SpellsForm form words → HasMore files source_limit form.file → NothingFailed words files out err
       → OrNoMemory says_too_large out err status
   -- `check` and `serial`: a text that breaks a rule is refused by the first, and nothing is written but that
   pub refused_exactly : (form : Form) (text : List ℕ) (r : Refusal) → HasText words files form text → form.command ≢ Run → IsRefused text form.settings.nodes r
@@ -157,7 +157,7 @@ pub record HasCauses (words : List (List ℕ)) (files : FilesCall) (out err : Si
       → IsAccepted text form.settings.nodes p → HasInput files form.settings.input input → NothingFailed words files out err
       → OrNoMemory (run_on form.settings p input) out err status
   pub input_exactly : (form : Form) (text : List ℕ) (p : ProgParts) (name : List ℕ) → HasText words files form text → form.command ≡ Serial
-      → IsAccepted text form.settings.nodes p → form.settings.input ≡ Some name → HasMore files INPUT_LIMIT name → NothingFailed words files out err
+      → IsAccepted text form.settings.nodes p → form.settings.input ≡ Some name → HasMore files input_limit name → NothingFailed words files out err
       → OrNoMemory says_too_large out err status
   -- `run`: what a program of its form prints with its directives erased, and any other text is refused
   pub printed_exactly : (form : Form) (text bytes : List ℕ) → HasText words files form text → form.command ≡ Run → Accepts text bytes

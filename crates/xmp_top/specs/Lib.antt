@@ -1,4 +1,5 @@
 pub mod Numbers
+pub mod Limits
 pub mod Settings
 pub mod Forms
 pub mod Delivery

@@ -4,7 +4,7 @@ ghost use Rattle.xmp_elab.specs.Narrow.{is_count};
 ghost use Rattle.xmp_prog.specs.declared.parts.ProgParts.{ProgParts};
 ghost use Rattle.xmp_meaning.specs.Programs.{serial};
 ghost use Rattle.xmp_first.specs.Accepts.{Accepts};
-ghost use Rattle.xmp_top.specs.declared.TheConstants.{SOURCE_LIMIT};
+ghost use Rattle.xmp_top.specs.Limits.{source_limit};
 ghost use Rattle.xmp_top.specs.Settings.{settings_of};
 ghost use Rattle.xmp_top.specs.Forms.{form_of};
 ghost use Rattle.xmp_top.specs.Answer.{AnswersCheck, AnswersForm, AnswersInput, AnswersRead, AnswersRun, AnswersSerial, AnswersText, IsDue, IsNone, due_of, only_line, prints, run_on, says_refused, steps_in};
@@ -142,7 +142,7 @@ fn nodes_of(options: &Options<'_>) -> Option<u32>
 }
 
 fn answer_check(alloc: Global, options: &Options<'_>, text: &[u8]) -> Result<Prepared, NoMemory>
-    requires size { length text.now ≤ SOURCE_LIMIT }
+    requires size { length text.now ≤ source_limit }
     requires count { IsTrue (is_count options.now.nodes) }
     ensures { IfOk result (λ due. AnswersCheck (settings_of options.now) text.now (record { out = due.out; err = due.err; status = due.status })) }
 {
@@ -231,7 +231,7 @@ fn answer_serial<F: Files>(
     text: &[u8],
     files: &mut F,
 ) -> Result<Prepared, NoMemory>
-    requires size { length text.now ≤ SOURCE_LIMIT }
+    requires size { length text.now ≤ source_limit }
     requires count { IsTrue (is_count options.now.nodes) }
     ensures { IfOk result (λ due. AnswersSerial
         (record { told = F.told files.old; faults_before = F.faults files.old; faults_now = F.faults files.new })
@@ -259,7 +259,7 @@ fn answer_text<F: Files>(
     text: &[u8],
     files: &mut F,
 ) -> Result<Prepared, NoMemory>
-    requires size { length text.now ≤ SOURCE_LIMIT }
+    requires size { length text.now ≤ source_limit }
     requires count { IsTrue (is_count options.now.nodes) }
     ensures { IfOk result (λ due. AnswersText
         (record { told = F.told files.old; faults_before = F.faults files.old; faults_now = F.faults files.new })
