@@ -1,10 +1,11 @@
 -- The faults of the phases are those of the verdict.
-use Rattle.std.proofs.Common.{◌≡◌, refl, ℕ, List, Option}
-use Rattle.std.specs.Prelude.{IfErr, Result, Ok, Err}
+use Rattle.std.proofs.Common.{◌≡◌, refl, ℕ, List, Option, ◌⊎◌, inl, inr, ap}
+use Rattle.std.specs.Prelude.{IfErr, IfOk, OnOk, Result, Ok, Err}
 use Rattle.xmp_base.specs.declared.refusal.Fault.{Fault}
 use Rattle.xmp_base.specs.declared.refusal.Fault.TheVariants as fault
 use Rattle.xmp_base.specs.declared.refusal.Refusal.{Refusal}
 use Rattle.xmp_tree.specs.declared.program.Tree.{Tree}
+use Rattle.xmp_prog.specs.declared.parts.ProgParts.{ProgParts}
 use Rattle.xmp_source.specs.Source.{IsTreeOf, IsSourceFault}
 use Rattle.xmp_elab.specs.Parts.{RefusedBy}
 use Rattle.xmp_drive.specs.Verdict.{IsRefused, in_source, in_tree, IsVerdictFault, tree_verdict}
@@ -27,3 +28,13 @@ tree_fault text given t is fault.NoMemory b = tt
 pub only_memory : (text : List ℕ) (given : Option ℕ) → ((r : Refusal) → IsRefused text given r → ⊥) → (e : Fault) → IsVerdictFault text given e → e ≡ fault.NoMemory
 only_memory text given never (fault.Refused r) b = absurd (never r b)
 only_memory text given never fault.NoMemory b = refl
+
+-- a text that is refused is not accepted, and has no other refusal
+pub no_program : {P : ProgParts → Type 0} (result : Result ProgParts Fault) → IfOk result P → ((p : ProgParts) → P p → ⊥) → OnOk result ⊥
+no_program (Ok p) a never = never p a
+no_program (Err e) a never = tt
+
+pub this_refusal : (text : List ℕ) (given : Option ℕ) (r : Refusal) → ((s : Refusal) → IsRefused text given s → s ≡ r) → (e : Fault) → IsVerdictFault text given e
+    → (e ≡ fault.Refused r) ⊎ (e ≡ fault.NoMemory)
+this_refusal text given r one (fault.Refused s) b = inl (ap fault.Refused (one s b))
+this_refusal text given r one fault.NoMemory b = inr refl

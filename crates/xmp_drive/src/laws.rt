@@ -1,4 +1,4 @@
-// Laws of the verdict: a text has one, want of memory aside.
+// Laws of the verdict: a text has at most one.
 ghost use Rattle.std.specs.Prelude.{◌≡◌, ℕ, List, Option};
 ghost use Rattle.xmp_base.specs.declared.refusal.Refusal.{Refusal};
 ghost use Rattle.xmp_prog.specs.declared.parts.ProgParts.{ProgParts};

@@ -1,5 +1,5 @@
 // The verdict on a text.
-ghost use Rattle.std.specs.Prelude.{◌≡◌, ◌≢◌, ◌≤◌, ℕ, Option, IfOk, IfErr, IsTrue, None, Some, length, option_map, true};
+ghost use Rattle.std.specs.Prelude.{◌≡◌, ◌≢◌, ◌≤◌, ◌⊎◌, ℕ, OnOk, Option, IfOk, IfErr, IsTrue, None, Some, length, option_map, true};
 ghost use Rattle.xmp_base.specs.declared.refusal.Refusal.{Refusal};
 ghost use Rattle.xmp_base.specs.declared.refusal.Fault.TheVariants as fault;
 ghost use Rattle.xmp_prog.specs.declared.parts.ProgParts.{ProgParts};
@@ -12,7 +12,7 @@ ghost use Rattle.xmp_drive.specs.Verdict.{IsAccepted, IsRefused, IsVerdictFault,
 
 use crate::accepted::Accepted;
 use crate::coarrays::coarray_of;
-use crate::laws::accepted_or_refused;
+use crate::laws::{accepted_or_refused, one_refusal};
 use std::alloc::Global;
 use xmp_base::{Fault, Phase, Refusal};
 use xmp_prog::{Kind, Prog};
@@ -74,7 +74,10 @@ pub fn compile(alloc: Global, text: &[u8], nodes: Option<u32>) -> Result<Accepte
     ensures accepted { IfOk result (λ p. IsAccepted text.now nodes p) }
     ensures refused { IfErr result (λ e. IsVerdictFault text.now nodes e) }
     ensures accepted_alone { (p : ProgParts) → IsAccepted text.now nodes p → IfErr result (λ e. e ≡ fault.NoMemory) }
+    ensures refused_alone { (r : Refusal) → IsRefused text.now nodes r
+        → OnOk result ⊥ × IfErr result (λ e. (e ≡ fault.Refused r) ⊎ (e ≡ fault.NoMemory)) }
 {
     accepted_or_refused();
+    one_refusal();
     judged(alloc, text, nodes)
 }
