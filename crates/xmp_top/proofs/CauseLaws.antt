@@ -1,24 +1,19 @@
 -- What follows from an answer.
-use Rattle.std.proofs.Common.{◌≡◌, ◌≢◌, ◌⊎◌, ◌∙◌, ℕ, List, inl, inr, refl, sym, ap, subst, codes}
+use Rattle.std.proofs.Common.{◌≡◌, ◌≢◌, ◌<◌, ◌⊎◌, ◌∙◌, ℕ, List, length, inl, inr, sym, subst, codes}
 use Rattle.xmp_base.specs.declared.refusal.Refusal.{Refusal}
 use Rattle.xmp_base.specs.declared.status.Status.{Status}
 use Rattle.xmp_base.specs.declared.status.Status.TheVariants.{Ended, Trapped, OutOfSteps, Refused, Usage, ReadFault, WriteFault, NoMemory, TooLarge}
-use Rattle.xmp_top.specs.Forms.{SpellsNoForm}
+use Rattle.xmp_top.specs.Forms.{SpellsNoForm, Form}
 use Rattle.xmp_top.specs.Lines.{refused_text}
-use Rattle.xmp_top.specs.Delivery.{SinkCall, TookNothing, Due, AllWritten, OutFailed, ErrFailed, SinkFailed}
+use Rattle.xmp_top.specs.Delivery.{SinkCall, TookNothing, Due, AllWritten, OutFailed, ErrFailed, Delivered}
 use Rattle.xmp_top.specs.Answer as a
 use Rattle.xmp_top.specs.Answer.{FilesCall, ReadFailed, IsDue, IsAnswer, says_usage, says_read_fault, says_too_large, says_refused}
 use Rattle.xmp_top.specs.Causes as cause
-use Rattle.xmp_top.specs.Causes.{HasCauses, HasEnded, IsEnd, NothingFailed, OrNoMemory, ReadFaulted, SaysOnly, WasRefused, WasRun, WasTooLarge, Wrote}
-use Rattle.xmp_top.proofs.Written.{says_only, some_due, wrote}
+use Rattle.xmp_top.specs.Causes.{HasCauses, HasEnded, InputHeld, IsEnd, OrNoMemory, ReadFaulted, ReadHeld, SinksHeld, WasRefused, WasRun, WasTooLarge}
+use Rattle.xmp_top.proofs.Written.{says_only, written, wrote}
 use Rattle.xmp_top.proofs.DueKinds as kind
 use Rattle.xmp_top.proofs.DueKinds.{Kind, kind_of, status_is}
-use Rattle.xmp_top.proofs.OneDue.{Laws, OrFault, accepted_due, input_due, none_due, printed_due, refused_due, run_due, source_due}
-
--- no read failed, where nothing did
-no_fault : (words : List (List ℕ)) (files : FilesCall) (out err : SinkCall) → NothingFailed words files out err → ReadFaulted words files → ⊥
-no_fault words files out err n (cause.of_source form s f) = n.source form s f
-no_fault words files out err n (cause.of_input form p program name e f) = n.input form name program.source.spells e f
+use Rattle.xmp_top.proofs.OneDue.{Laws, OneFailed, OrFault, SourceFailed, accepted_due, input_due, none_due, printed_due, refused_due, run_due, source_due}
 
 -- ---- each status
 
@@ -92,76 +87,76 @@ usage_due : (words : List (List ℕ)) (files : FilesCall) (due : Due) → IsDue 
 usage_due words files due (a.no_form n e) none = e
 usage_due words files due (a.of_form form s t) none = absurd (none form s)
 
--- ---- where all was written
+-- ---- what follows
 
--- what is due was, where no read failed
-exactly : (words : List (List ℕ)) (files : FilesCall) (out err : SinkCall) (status : Status) (due wanted : Due) → AllWritten due out err status
-    → NothingFailed words files out err → OrFault words files wanted due → OrNoMemory wanted out err status
-exactly words files out err status due wanted all n (inl e) = inl (wrote due wanted out err status all e)
-exactly words files out err status due wanted all n (inr (f, e)) = absurd (no_fault words files out err n f)
+is_end : (due : Due) (out err : SinkCall) (status wanted : Status) → Delivered due out err status → status ≡ wanted → wanted ≢ WriteFault → AllWritten due out err status
+is_end due out err status wanted d e n = written due out err status d (λ w. n (sym e ∙ w))
 
--- what is due was, where a run came to an end
-at_end : (words : List (List ℕ)) (files : FilesCall) (out err : SinkCall) (status : Status) (due wanted : Due) → AllWritten due out err status → IsEnd status
-    → OrFault words files wanted due → Wrote wanted out err status
-at_end words files out err status due wanted all i (inl e) = wrote due wanted out err status all e
-at_end words files out err status due wanted all i (inr (f, e)) = absurd (subst IsEnd (all.status_is ∙ status_is due says_read_fault e) i)
+-- what is due was written, where no read failed, and no sink on which bytes are due
+exactly : (F : Type 0) (out err : SinkCall) (status : Status) (due wanted : Due) → Delivered due out err status → OrFault F wanted due → (F → ⊥)
+    → SinksHeld wanted out err → OrNoMemory wanted out err status
+exactly F out err status due wanted d (inr (f, e)) n h = absurd (n f)
+exactly F out err status due wanted (inl all) (inl e) n h = inl (wrote due wanted out err status all e)
+exactly F out err status due wanted (inr (inl f)) (inl e) n h =
+    absurd (h.out_held (subst (λ (x : Due). 0 < length x.out) e f.out_failed.due) f.out_failed.rose)
+exactly F out err status due wanted (inr (inr f)) (inl e) n h =
+    absurd (h.err_held (subst (λ (x : Due). 0 < length x.err) e f.err_failed.due) f.err_failed.rose)
 
-from_written : Laws → (words : List (List ℕ)) (files : FilesCall) (out err : SinkCall) (status : Status) (due : Due) → IsDue files words due → AllWritten due out err status
+one_held : (files : FilesCall) (form : Form) → ReadHeld files form.file → InputHeld files form.settings.input → OneFailed files form → ⊥
+one_held files form s i (inl f) = s f
+one_held files form s i (inr (name, e, f)) = subst (InputHeld files) e i f
+
+-- what is due was written, where a run came to an end
+at_end : (F : Type 0) (out err : SinkCall) (status : Status) (due wanted : Due) → Delivered due out err status → IsEnd status → OrFault F wanted due
+    → AllWritten wanted out err status
+at_end F out err status due wanted d i o = by (written due out err status d (λ w. subst IsEnd w i)) o
+  where
+    by : AllWritten due out err status → OrFault F wanted due → AllWritten wanted out err status
+    by all (inl e) = wrote due wanted out err status all e
+    by all (inr (f, e)) = absurd (subst IsEnd (all.status_is ∙ status_is due says_read_fault e) i)
+
+failing : (due : Due) (out err : SinkCall) (status : Status) → due.status ≢ WriteFault → Delivered due out err status → status ≡ WriteFault
+    → OutFailed due out err status ⊎ ErrFailed due out err status
+failing due out err status n (inl all) w = absurd (n (sym all.status_is ∙ w))
+failing due out err status n (inr f) w = f
+
+not_memory : (due : Due) (out err : SinkCall) (status : Status) → due.status ≢ NoMemory → Delivered due out err status → status ≡ NoMemory → ⊥
+not_memory due out err status n (inl all) u = n (sym all.status_is ∙ u)
+not_memory due out err status n (inr (inl f)) u = let w = f.status_is in cc
+not_memory due out err status n (inr (inr f)) u = let w = f.status_is in cc
+
+from_due : Laws → (words : List (List ℕ)) (files : FilesCall) (out err : SinkCall) (status : Status) (due : Due) → IsDue files words due → Delivered due out err status
     → HasCauses words files out err status
-from_written laws words files out err status due d all =
+from_due laws words files out err status due d to =
     let k = kind_of words files due d in
-    let alone = due_alone words files due k in
-    let same = sym all.status_is in record {
-      usage = λ u. let x = usage_of words files due k (same ∙ u) in (x.0, says_only due (codes "usage") Usage out err status all x.1);
-      read_fault = λ u. let x = read_fault_of words files due k (same ∙ u) in (x.0, says_only due (codes "read fault") ReadFault out err status all x.1);
-      too_large = λ u. let x = too_large_of words files due k (same ∙ u) in (x.0, says_only due (codes "too large") TooLarge out err status all x.1);
-      refused = λ u. let x = refused_of words files due k (same ∙ u) in (x.0, x.1, says_only due (refused_text x.0) Refused out err status all x.2);
-      ended = λ u. (due, ended_of words files due k (same ∙ u), wrote due due out err status all refl);
-      trapped = λ u. (due, trapped_of words files due k (same ∙ u), wrote due due out err status all refl);
-      out_of_steps = λ u. (due, out_of_steps_of words files due k (same ∙ u), wrote due due out err status all refl);
-      write_fault = λ u. absurd (alone.0 (same ∙ u));
-      no_memory = λ u. absurd (alone.1 (same ∙ u));
-      headline = λ form text p input t c b h i. at_end words files out err status due _ all i (run_due laws words files form text p input due t c b h d);
-      run_headline = λ form text bytes t c b i. at_end words files out err status due _ all i (printed_due words files form text bytes due t c b d);
-      usage_exactly = λ none held. inl (wrote due says_usage out err status all (usage_due words files due d none));
-      source_exactly = λ form s m n. exactly words files out err status due _ all n (source_due words files form due s m d);
-      refused_exactly = λ form text r t c b n. exactly words files out err status due _ all n (refused_due laws words files form text r due t c b d);
-      accepted_exactly = λ form text p t c b n. exactly words files out err status due _ all n (accepted_due laws words files form text p due t c b d);
-      run_exactly = λ form text p input t c b h n. exactly words files out err status due _ all n (run_due laws words files form text p input due t c b h d);
-      input_exactly = λ form text p name t c b e m n. exactly words files out err status due _ all n (input_due laws words files form text p name due t c b e m d);
-      printed_exactly = λ form text bytes t c b n. exactly words files out err status due _ all n (printed_due words files form text bytes due t c b d);
-      no_program_exactly = λ form text t c m n. exactly words files out err status due _ all n (none_due words files form text due t c m d);
+    let alone = due_alone words files due k in record {
+      usage = λ u. let all = is_end due out err status Usage to u (λ w. cc) in let x = usage_of words files due k (sym all.status_is ∙ u) in
+          (x.0, says_only due (codes "usage") Usage out err status all x.1);
+      read_fault = λ u. let all = is_end due out err status ReadFault to u (λ w. cc) in let x = read_fault_of words files due k (sym all.status_is ∙ u) in
+          (x.0, says_only due (codes "read fault") ReadFault out err status all x.1);
+      too_large = λ u. let all = is_end due out err status TooLarge to u (λ w. cc) in let x = too_large_of words files due k (sym all.status_is ∙ u) in
+          (x.0, says_only due (codes "too large") TooLarge out err status all x.1);
+      refused = λ u. let all = is_end due out err status Refused to u (λ w. cc) in let x = refused_of words files due k (sym all.status_is ∙ u) in
+          (x.0, x.1, says_only due (refused_text x.0) Refused out err status all x.2);
+      ended = λ u. let all = is_end due out err status Ended to u (λ w. cc) in (due, ended_of words files due k (sym all.status_is ∙ u), all);
+      trapped = λ u. let all = is_end due out err status Trapped to u (λ w. cc) in (due, trapped_of words files due k (sym all.status_is ∙ u), all);
+      out_of_steps = λ u. let all = is_end due out err status OutOfSteps to u (λ w. cc) in (due, out_of_steps_of words files due k (sym all.status_is ∙ u), all);
+      write_fault = λ u. record { due = due; is_due = d; failed = failing due out err status alone.0 to u };
+      no_memory = λ u. absurd (not_memory due out err status alone.1 to u);
+      headline = λ form text p input t c b h i. at_end (OneFailed files form) out err status due _ to i (run_due laws words files form text p input due t c b h d);
+      run_headline = λ form text bytes t c b i. at_end (SourceFailed files form) out err status due _ to i (printed_due words files form text bytes due t c b d);
+      usage_exactly = λ none h. exactly ⊥ out err status due _ to (inl (usage_due words files due d none)) (λ f. f) h;
+      source_exactly = λ form s m r h. exactly (SourceFailed files form) out err status due _ to (source_due words files form due s m d) r h;
+      refused_exactly = λ form text r t c b f h. exactly (SourceFailed files form) out err status due _ to (refused_due laws words files form text r due t c b d) f h;
+      accepted_exactly = λ form text p t c b f h. exactly (SourceFailed files form) out err status due _ to (accepted_due laws words files form text p due t c b d) f h;
+      run_exactly = λ form text p input t c b i f g h.
+          exactly (OneFailed files form) out err status due _ to (run_due laws words files form text p input due t c b i d) (one_held files form f g) h;
+      input_exactly = λ form text p name t c b e m f g h.
+          exactly (OneFailed files form) out err status due _ to (input_due laws words files form text p name due t c b e m d)
+          (one_held files form f (subst (InputHeld files) (sym e) g)) h;
+      printed_exactly = λ form text bytes t c b f h. exactly (SourceFailed files form) out err status due _ to (printed_due words files form text bytes due t c b d) f h;
+      no_program_exactly = λ form text t c m f h. exactly (SourceFailed files form) out err status due _ to (none_due words files form text due t c m d) f h;
     }
-
--- ---- where a write failed
-
-no_sink : (words : List (List ℕ)) (files : FilesCall) (out err : SinkCall) → NothingFailed words files out err → SinkFailed out ⊎ SinkFailed err → ⊥
-no_sink words files out err n (inl f) = n.out_held f
-no_sink words files out err n (inr f) = n.err_held f
-
-from_failed : (words : List (List ℕ)) (files : FilesCall) (out err : SinkCall) (status : Status) (due : Due) → IsDue files words due → status ≡ WriteFault
-    → OutFailed due out err status ⊎ ErrFailed due out err status → SinkFailed out ⊎ SinkFailed err → (SpellsNoForm words → SinkFailed err) → HasCauses words files out err status
-from_failed words files out err status due d w failed sinks usage = record {
-  usage = λ u. absurd (cc);
-  read_fault = λ u. absurd (cc);
-  too_large = λ u. absurd (cc);
-  refused = λ u. absurd (cc);
-  ended = λ u. absurd (cc);
-  trapped = λ u. absurd (cc);
-  out_of_steps = λ u. absurd (cc);
-  write_fault = λ _. record { due = due; is_due = d; failed = failed };
-  no_memory = λ u. absurd (cc);
-  headline = λ _ _ _ _ _ _ _ _ i. absurd (subst IsEnd w i);
-  run_headline = λ _ _ _ _ _ _ i. absurd (subst IsEnd w i);
-  usage_exactly = λ none held. absurd (held (usage none));
-  source_exactly = λ _ _ _ n. absurd (no_sink words files out err n sinks);
-  refused_exactly = λ _ _ _ _ _ _ n. absurd (no_sink words files out err n sinks);
-  accepted_exactly = λ _ _ _ _ _ _ n. absurd (no_sink words files out err n sinks);
-  run_exactly = λ _ _ _ _ _ _ _ _ n. absurd (no_sink words files out err n sinks);
-  input_exactly = λ _ _ _ _ _ _ _ _ _ n. absurd (no_sink words files out err n sinks);
-  printed_exactly = λ _ _ _ _ _ _ n. absurd (no_sink words files out err n sinks);
-  no_program_exactly = λ _ _ _ _ _ n. absurd (no_sink words files out err n sinks);
-}
 
 -- ---- where memory ran out
 
@@ -179,21 +174,16 @@ from_nothing words files out err status n o e = record {
   headline = λ _ _ _ _ _ _ _ _ i. absurd (subst IsEnd n i);
   run_headline = λ _ _ _ _ _ _ i. absurd (subst IsEnd n i);
   usage_exactly = λ _ _. inr n;
-  source_exactly = λ _ _ _ _. inr n;
-  refused_exactly = λ _ _ _ _ _ _ _. inr n;
-  accepted_exactly = λ _ _ _ _ _ _ _. inr n;
-  run_exactly = λ _ _ _ _ _ _ _ _ _. inr n;
-  input_exactly = λ _ _ _ _ _ _ _ _ _ _. inr n;
-  printed_exactly = λ _ _ _ _ _ _ _. inr n;
-  no_program_exactly = λ _ _ _ _ _ _. inr n;
+  source_exactly = λ _ _ _ _ _. inr n;
+  refused_exactly = λ _ _ _ _ _ _ _ _. inr n;
+  accepted_exactly = λ _ _ _ _ _ _ _ _. inr n;
+  run_exactly = λ _ _ _ _ _ _ _ _ _ _ _. inr n;
+  input_exactly = λ _ _ _ _ _ _ _ _ _ _ _ _. inr n;
+  printed_exactly = λ _ _ _ _ _ _ _ _. inr n;
+  no_program_exactly = λ _ _ _ _ _ _ _. inr n;
 }
 
 -- everything follows from the answer
 pub follows : Laws → (words : List (List ℕ)) (files : FilesCall) (out err : SinkCall) (status : Status) → IsAnswer words files out err status → HasCauses words files out err status
 follows laws words files out err status (inl (n, o, e)) = from_nothing words files out err status n o e
-follows laws words files out err status (inr (due, d, inl all)) = from_written laws words files out err status due d all
-follows laws words files out err status (inr (due, d, inr (inl f))) =
-    from_failed words files out err status due d f.status_is (inl f) (inl f.out_failed.rose)
-    (λ none. absurd (some_due due.out f.out_failed.due (ap (λ (x : Due). x.out) (usage_due words files due d none))))
-follows laws words files out err status (inr (due, d, inr (inr f))) =
-    from_failed words files out err status due d f.status_is (inr f) (inr f.err_failed.rose) (λ _. f.err_failed.rose)
+follows laws words files out err status (inr (due, d, to)) = from_due laws words files out err status due d to

@@ -1,5 +1,5 @@
 -- What is due, by its status.
-use Rattle.std.proofs.Common.{◌≡◌, ◌≢◌, ◌∙◌, ℕ, List, [], Option, Some, None, refl, sym, ap, subst, codes}
+use Rattle.std.proofs.Common.{◌≡◌, ◌≢◌, ◌∙◌, ℕ, List, [], Option, Some, None, refl, sym, ap, subst}
 use Rattle.xmp_base.specs.declared.refusal.Refusal.{Refusal}
 use Rattle.xmp_base.specs.declared.status.Status.TheVariants.{Ended}
 use Rattle.xmp_prog.specs.declared.parts.ProgParts.{ProgParts}
@@ -9,7 +9,6 @@ use Rattle.xmp_meaning.specs.Programs.{serial}
 use Rattle.xmp_top.specs.declared.forms.Command.{Command}
 use Rattle.xmp_top.specs.declared.forms.Command.TheVariants.{Check, Serial, Run}
 use Rattle.xmp_top.specs.Forms.{Form, SpellsForm, SpellsNoForm}
-use Rattle.xmp_top.specs.Lines.{line}
 use Rattle.xmp_top.specs.Delivery.{Due}
 use Rattle.xmp_top.specs.Answer as a
 use Rattle.xmp_top.specs.Answer.{FilesCall, AnswersText, AnswersForm, AnswersInput, AnswersRead, IsDue, IsRead, due_of, run_on, says_usage, says_read_fault, says_too_large, says_refused, steps_in}
@@ -58,7 +57,7 @@ serial_apart e = cc
 by_command : (words : List (List ℕ)) (files : FilesCall) (due : Due) (form : Form) (text : List ℕ) → ReadSource words files form text → (c : Command)
     → form.command ≡ c → AnswersText files c form.settings text due → Kind words files due
 by_command words files due form text s Check c (a.breaks r b e) = refused r (cause.by_rule form text s (not_run Check check_apart form.command c) b) e
-by_command words files due form text s Check c (a.accepted p b e) = ended (cause.by_check form text s c p b e) (status_is due (a.prints (line (codes "accepted"))) e)
+by_command words files due form text s Check c (a.accepted p b e) = ended (cause.by_check form text s c p b e) (status_is due a.says_accepted e)
 by_command words files due form text s Serial c (a.breaks r b e) = refused r (cause.by_rule form text s (not_run Serial serial_apart form.command c) b) e
 by_command words files due form text s Serial c (a.accepted p b i) =
     by_input words files due form p form.settings.input refl (record { text = text; source = s; serial = c; accepted = b }) i

@@ -1,5 +1,5 @@
 -- What is due for a text, and an input, that the files tell: one thing, unless a read failed.
-use Rattle.std.proofs.Common.{◌≡◌, ◌≢◌, ◌≤◌, ◌<◌, ◌+◌, ◌⊎◌, ◌∙◌, ℕ, List, length, take, Option, Some, None, IfSome, inl, inr, refl, sym, ap, subst, arith, codes}
+use Rattle.std.proofs.Common.{◌≡◌, ◌≢◌, ◌≤◌, ◌<◌, ◌+◌, ◌⊎◌, ◌∙◌, ℕ, List, length, take, Option, Some, None, IfSome, inl, inr, refl, sym, ap, subst, arith}
 use Rattle.std.proofs.lemmas.List.{take_all, length-take}
 use Rattle.xmp_base.specs.declared.refusal.Refusal.{Refusal}
 use Rattle.xmp_prog.specs.declared.parts.ProgParts.{ProgParts}
@@ -11,12 +11,10 @@ use Rattle.xmp_top.specs.declared.forms.Command.{Command}
 use Rattle.xmp_top.specs.declared.forms.Command.TheVariants.{Check, Serial, Run}
 use Rattle.xmp_top.specs.Settings.{Settings}
 use Rattle.xmp_top.specs.Forms.{Form, SpellsForm}
-use Rattle.xmp_top.specs.Lines.{line}
 use Rattle.xmp_top.specs.Delivery.{Due}
 use Rattle.xmp_top.specs.Answer as a
-use Rattle.xmp_top.specs.Answer.{FilesCall, AnswersText, AnswersForm, AnswersInput, AnswersRead, AnswersCheck, AnswersSerial, AnswersRun, IsDue, IsNone, IsRead, first_refusal, prints, run_on, says_read_fault, says_too_large, says_refused}
-use Rattle.xmp_top.specs.Causes as cause
-use Rattle.xmp_top.specs.Causes.{HasText, HasInput, HasMore, ReadFaulted, ReadProgram, ReadSource}
+use Rattle.xmp_top.specs.Answer.{FilesCall, AnswersText, AnswersForm, AnswersInput, AnswersRead, AnswersCheck, AnswersSerial, AnswersRun, IsDue, IsNone, IsRead, ReadFailed, first_refusal, prints, run_on, says_read_fault, says_too_large, says_refused, says_accepted}
+use Rattle.xmp_top.specs.Causes.{HasText, HasInput, HasMore, ReadSource}
 use Rattle.xmp_top.proofs.OneForm.{spells_one}
 
 -- The laws of the verdict that are used here.
@@ -26,8 +24,18 @@ pub record Laws : Type 0 where
   pub one_program : (text : List ℕ) (given : Option ℕ) (p q : ProgParts) → IsAccepted text given p → IsAccepted text given q → p ≡ q
 
 -- This is due, unless a read failed.
-abbrev pub OrFault : List (List ℕ) → FilesCall → Due → Due → Type 0
-OrFault words files wanted due = (due ≡ wanted) ⊎ (ReadFaulted words files × (due ≡ says_read_fault))
+abbrev pub OrFault : Type 0 → Due → Due → Type 0
+OrFault F wanted due = (due ≡ wanted) ⊎ (F × (due ≡ says_read_fault))
+
+-- The read of the form's file failed; or that of the file of its input did.
+abbrev pub SourceFailed : FilesCall → Form → Type 0
+SourceFailed files form = ReadFailed files form.file
+
+abbrev pub InputFailed : FilesCall → Form → Type 0
+InputFailed files form = (name : List ℕ) × (form.settings.input ≡ Some name) × ReadFailed files name
+
+abbrev pub OneFailed : FilesCall → Form → Type 0
+OneFailed files form = SourceFailed files form ⊎ InputFailed files form
 
 -- ---- what was read of a file that is told
 
@@ -48,22 +56,30 @@ read_more files limit name bytes all r t more =
 -- ---- one form
 
 -- what a form answers to a text that is told and within the limit, where its command answers one thing to it
-by_text : (words : List (List ℕ)) (files : FilesCall) (form : Form) (text : List ℕ) (wanted due : Due) → HasText words files form text → AnswersForm files form due
-    → (ReadSource words files form text → AnswersText files form.command form.settings text due → OrFault words files wanted due) → OrFault words files wanted due
-by_text words files form text wanted due t (a.source_unread f e) by = inr (cause.of_source form t.spells f, e)
-by_text words files form text wanted due t (a.source_too_large read r l e) by =
+by_text : (F : Type 0) (words : List (List ℕ)) (files : FilesCall) (form : Form) (text : List ℕ) (wanted due : Due) → (SourceFailed files form → F)
+    → HasText words files form text → AnswersForm files form due
+    → (ReadSource words files form text → AnswersText files form.command form.settings text due → OrFault F wanted due) → OrFault F wanted due
+by_text F words files form text wanted due failed t (a.source_unread f e) by = inr (failed f, e)
+by_text F words files form text wanted due failed t (a.source_too_large read r l e) by =
     let n : length read ≡ length text = ap length (read_whole files source_limit form.file read text r t.told t.small) in
     let small = t.small in
     absurd (omega arith)
-by_text words files form text wanted due t (a.answered read r l u) by =
+by_text F words files form text wanted due failed t (a.answered read r l u) by =
     let same = read_whole files source_limit form.file read text r t.told t.small in
     by (record { spells = t.spells; read = subst (λ x. IsRead files source_limit form.file x) same r; fits = t.small })
     (subst (λ x. AnswersText files form.command form.settings x due) same u)
 
-by_due : (words : List (List ℕ)) (files : FilesCall) (form : Form) (wanted due : Due) → SpellsForm form words → IsDue files words due
-    → (AnswersForm files form due → OrFault words files wanted due) → OrFault words files wanted due
-by_due words files form wanted due s (a.no_form n e) by = absurd (n form s)
-by_due words files form wanted due s (a.of_form g t u) by = by (subst (λ f. AnswersForm files f due) (spells_one g form words t s) u)
+by_due : (F : Type 0) (words : List (List ℕ)) (files : FilesCall) (form : Form) (wanted due : Due) → SpellsForm form words → IsDue files words due
+    → (AnswersForm files form due → OrFault F wanted due) → OrFault F wanted due
+by_due F words files form wanted due s (a.no_form n e) by = absurd (n form s)
+by_due F words files form wanted due s (a.of_form g t u) by = by (subst (λ f. AnswersForm files f due) (spells_one g form words t s) u)
+
+-- both
+on_text : (F : Type 0) (words : List (List ℕ)) (files : FilesCall) (form : Form) (text : List ℕ) (wanted due : Due) → (SourceFailed files form → F)
+    → HasText words files form text → IsDue files words due
+    → (ReadSource words files form text → AnswersText files form.command form.settings text due → OrFault F wanted due) → OrFault F wanted due
+on_text F words files form text wanted due failed t d by =
+    by_due F words files form wanted due t.spells d (λ u. by_text F words files form text wanted due failed t u by)
 
 -- ---- commands
 
@@ -72,111 +88,111 @@ commanded : (files : FilesCall) (form : Form) (text : List ℕ) (due : Due) (c :
 commanded files form text due c e u = subst (λ x. AnswersText files x form.settings text due) e u
 
 -- a text that breaks a rule
-refused_text : Laws → (words : List (List ℕ)) (files : FilesCall) (settings : Settings) (text : List ℕ) (r : Refusal) (due : Due) (c : Command) → c ≢ Run
-    → IsRefused text settings.nodes r → AnswersText files c settings text due → OrFault words files (says_refused r) due
-refused_text laws words files settings text r due Check n b (a.breaks s d e) = inl (e ∙ ap says_refused (laws.one_refusal text settings.nodes s r d b))
-refused_text laws words files settings text r due Check n b (a.accepted p d e) = absurd (laws.apart text settings.nodes p r d b)
-refused_text laws words files settings text r due Serial n b (a.breaks s d e) = inl (e ∙ ap says_refused (laws.one_refusal text settings.nodes s r d b))
-refused_text laws words files settings text r due Serial n b (a.accepted p d e) = absurd (laws.apart text settings.nodes p r d b)
-refused_text laws words files settings text r due Run n b u = absurd (n refl)
+refused_text : Laws → (files : FilesCall) (settings : Settings) (text : List ℕ) (r : Refusal) (due : Due) (c : Command) → c ≢ Run
+    → IsRefused text settings.nodes r → AnswersText files c settings text due → due ≡ says_refused r
+refused_text laws files settings text r due Check n b (a.breaks s d e) = e ∙ ap says_refused (laws.one_refusal text settings.nodes s r d b)
+refused_text laws files settings text r due Check n b (a.accepted p d e) = absurd (laws.apart text settings.nodes p r d b)
+refused_text laws files settings text r due Serial n b (a.breaks s d e) = e ∙ ap says_refused (laws.one_refusal text settings.nodes s r d b)
+refused_text laws files settings text r due Serial n b (a.accepted p d e) = absurd (laws.apart text settings.nodes p r d b)
+refused_text laws files settings text r due Run n b u = absurd (n refl)
 
-pub refused_due : Laws → (words : List (List ℕ)) (files : FilesCall) (form : Form) (text : List ℕ) (r : Refusal) (due : Due) → HasText words files form text → form.command ≢ Run
-    → IsRefused text form.settings.nodes r → IsDue files words due → OrFault words files (says_refused r) due
+pub refused_due : Laws → (words : List (List ℕ)) (files : FilesCall) (form : Form) (text : List ℕ) (r : Refusal) (due : Due) → HasText words files form text
+    → form.command ≢ Run → IsRefused text form.settings.nodes r → IsDue files words due → OrFault (SourceFailed files form) (says_refused r) due
 refused_due laws words files form text r due t n b d =
-    by_due words files form (says_refused r) due t.spells d (λ u. by_text words files form text (says_refused r) due t u
-    (λ s v. refused_text laws words files form.settings text r due form.command n b v))
+    on_text (SourceFailed files form) words files form text (says_refused r) due (λ f. f) t d
+    (λ s v. inl (refused_text laws files form.settings text r due form.command n b v))
 
 -- an accepted text under `check`
-checked : Laws → (settings : Settings) (text : List ℕ) (p : ProgParts) (due : Due) → IsAccepted text settings.nodes p → AnswersCheck settings text due → due ≡ prints (line (codes "accepted"))
+checked : Laws → (settings : Settings) (text : List ℕ) (p : ProgParts) (due : Due) → IsAccepted text settings.nodes p → AnswersCheck settings text due → due ≡ says_accepted
 checked laws settings text p due b (a.breaks r d e) = absurd (laws.apart text settings.nodes p r b d)
 checked laws settings text p due b (a.accepted q d e) = e
 
-pub accepted_due : Laws → (words : List (List ℕ)) (files : FilesCall) (form : Form) (text : List ℕ) (p : ProgParts) (due : Due) → HasText words files form text → form.command ≡ Check
-    → IsAccepted text form.settings.nodes p → IsDue files words due → OrFault words files (prints (line (codes "accepted"))) due
+pub accepted_due : Laws → (words : List (List ℕ)) (files : FilesCall) (form : Form) (text : List ℕ) (p : ProgParts) (due : Due) → HasText words files form text
+    → form.command ≡ Check → IsAccepted text form.settings.nodes p → IsDue files words due → OrFault (SourceFailed files form) says_accepted due
 accepted_due laws words files form text p due t c b d =
-    by_due words files form (prints (line (codes "accepted"))) due t.spells d (λ u. by_text words files form text (prints (line (codes "accepted"))) due t u
-    (λ s v. inl (checked laws form.settings text p due b (commanded files form text due Check c v))))
+    on_text (SourceFailed files form) words files form text says_accepted due (λ f. f) t d
+    (λ s v. inl (checked laws form.settings text p due b (commanded files form text due Check c v)))
 
 -- an accepted text under `serial`
-by_program : Laws → (words : List (List ℕ)) (files : FilesCall) (settings : Settings) (text : List ℕ) (p : ProgParts) (wanted due : Due) → IsAccepted text settings.nodes p
-    → AnswersSerial files settings text due → (AnswersInput files settings p settings.input due → OrFault words files wanted due) → OrFault words files wanted due
-by_program laws words files settings text p wanted due b (a.breaks r d e) by = absurd (laws.apart text settings.nodes p r b d)
-by_program laws words files settings text p wanted due b (a.accepted q d i) by =
+by_program : Laws → (F : Type 0) (files : FilesCall) (settings : Settings) (text : List ℕ) (p : ProgParts) (wanted due : Due) → IsAccepted text settings.nodes p
+    → AnswersSerial files settings text due → (AnswersInput files settings p settings.input due → OrFault F wanted due) → OrFault F wanted due
+by_program laws F files settings text p wanted due b (a.breaks r d e) by = absurd (laws.apart text settings.nodes p r b d)
+by_program laws F files settings text p wanted due b (a.accepted q d i) by =
     by (subst (λ x. AnswersInput files settings x settings.input due) (laws.one_program text settings.nodes q p d b) i)
 
-by_serial : Laws → (words : List (List ℕ)) (files : FilesCall) (form : Form) (text : List ℕ) (p : ProgParts) (wanted due : Due) → HasText words files form text → form.command ≡ Serial
-    → IsAccepted text form.settings.nodes p → IsDue files words due
-    → (ReadProgram words files form p → AnswersInput files form.settings p form.settings.input due → OrFault words files wanted due) → OrFault words files wanted due
+by_serial : Laws → (words : List (List ℕ)) (files : FilesCall) (form : Form) (text : List ℕ) (p : ProgParts) (wanted due : Due) → HasText words files form text
+    → form.command ≡ Serial → IsAccepted text form.settings.nodes p → IsDue files words due
+    → (AnswersInput files form.settings p form.settings.input due → OrFault (OneFailed files form) wanted due) → OrFault (OneFailed files form) wanted due
 by_serial laws words files form text p wanted due t c b d by =
-    by_due words files form wanted due t.spells d (λ u. by_text words files form text wanted due t u
-    (λ s v. by_program laws words files form.settings text p wanted due b (commanded files form text due Serial c v)
-    (λ i. by (record { text = text; source = s; serial = c; accepted = b }) i)))
+    on_text (OneFailed files form) words files form text wanted due (λ f. inl f) t d
+    (λ s v. by_program laws (OneFailed files form) files form.settings text p wanted due b (commanded files form text due Serial c v) by)
 
 -- on an input within its limit
-run_input : (words : List (List ℕ)) (files : FilesCall) (form : Form) (p : ProgParts) (input : List ℕ) (due : Due) (named : Option (List ℕ)) → form.settings.input ≡ named
-    → ReadProgram words files form p → HasInput files named input → AnswersInput files form.settings p named due → OrFault words files (run_on form.settings p input) due
-run_input words files form p input due None n program h e = inl (e ∙ ap (run_on form.settings p) (sym h))
-run_input words files form p input due (Some name) n program h (a.input_unread f e) = inr (cause.of_input form p program name n f, e)
-run_input words files form p input due (Some name) n program h (a.input_too_large read r l e) =
+run_input : (files : FilesCall) (form : Form) (p : ProgParts) (input : List ℕ) (due : Due) (named : Option (List ℕ)) → form.settings.input ≡ named
+    → HasInput files named input → AnswersInput files form.settings p named due → OrFault (OneFailed files form) (run_on form.settings p input) due
+run_input files form p input due None n h e = inl (e ∙ ap (run_on form.settings p) (sym h))
+run_input files form p input due (Some name) n h (a.input_unread f e) = inr (inr (name, n, f), e)
+run_input files form p input due (Some name) n h (a.input_too_large read r l e) =
     let k : length read ≡ length input = ap length (read_whole files input_limit name read input r h.0 h.1) in
     let small = h.1 in
     absurd (omega arith)
-run_input words files form p input due (Some name) n program h (a.runs read r l e) =
+run_input files form p input due (Some name) n h (a.runs read r l e) =
     inl (e ∙ ap (run_on form.settings p) (read_whole files input_limit name read input r h.0 h.1))
 
-pub run_due : Laws → (words : List (List ℕ)) (files : FilesCall) (form : Form) (text : List ℕ) (p : ProgParts) (input : List ℕ) (due : Due) → HasText words files form text
-    → form.command ≡ Serial → IsAccepted text form.settings.nodes p → HasInput files form.settings.input input → IsDue files words due
-    → OrFault words files (run_on form.settings p input) due
+pub run_due : Laws → (words : List (List ℕ)) (files : FilesCall) (form : Form) (text : List ℕ) (p : ProgParts) (input : List ℕ) (due : Due)
+    → HasText words files form text → form.command ≡ Serial → IsAccepted text form.settings.nodes p → HasInput files form.settings.input input
+    → IsDue files words due → OrFault (OneFailed files form) (run_on form.settings p input) due
 run_due laws words files form text p input due t c b h d =
     by_serial laws words files form text p (run_on form.settings p input) due t c b d
-    (λ program i. run_input words files form p input due form.settings.input refl program h i)
+    (λ i. run_input files form p input due form.settings.input refl h i)
 
 -- on an input above it
-more_input : (words : List (List ℕ)) (files : FilesCall) (form : Form) (p : ProgParts) (name : List ℕ) (due : Due) → form.settings.input ≡ Some name
-    → ReadProgram words files form p → HasMore files input_limit name → AnswersRead files form.settings p name due → OrFault words files says_too_large due
-more_input words files form p name due n program h (a.input_unread f e) = inr (cause.of_input form p program name n f, e)
-more_input words files form p name due n program h (a.input_too_large read r l e) = inl e
-more_input words files form p name due n program h (a.runs read r l e) =
+more_input : (files : FilesCall) (form : Form) (p : ProgParts) (name : List ℕ) (due : Due) → form.settings.input ≡ Some name → HasMore files input_limit name
+    → AnswersRead files form.settings p name due → OrFault (OneFailed files form) says_too_large due
+more_input files form p name due n h (a.input_unread f e) = inr (inr (name, n, f), e)
+more_input files form p name due n h (a.input_too_large read r l e) = inl e
+more_input files form p name due n h (a.runs read r l e) =
     let m = read_more files input_limit name read h.0 r h.1 h.2 in
     absurd (omega arith)
 
-pub input_due : Laws → (words : List (List ℕ)) (files : FilesCall) (form : Form) (text : List ℕ) (p : ProgParts) (name : List ℕ) (due : Due) → HasText words files form text
-    → form.command ≡ Serial → IsAccepted text form.settings.nodes p → form.settings.input ≡ Some name → HasMore files input_limit name → IsDue files words due
-    → OrFault words files says_too_large due
+pub input_due : Laws → (words : List (List ℕ)) (files : FilesCall) (form : Form) (text : List ℕ) (p : ProgParts) (name : List ℕ) (due : Due)
+    → HasText words files form text → form.command ≡ Serial → IsAccepted text form.settings.nodes p → form.settings.input ≡ Some name
+    → HasMore files input_limit name → IsDue files words due → OrFault (OneFailed files form) says_too_large due
 input_due laws words files form text p name due t c b n h d =
     by_serial laws words files form text p says_too_large due t c b d
-    (λ program i. more_input words files form p name due n program h (subst (λ o. AnswersInput files form.settings p o due) n i))
+    (λ i. more_input files form p name due n h (subst (λ o. AnswersInput files form.settings p o due) n i))
 
 -- a source above its limit
-more_source : (words : List (List ℕ)) (files : FilesCall) (form : Form) (due : Due) → SpellsForm form words → HasMore files source_limit form.file → AnswersForm files form due
-    → OrFault words files says_too_large due
-more_source words files form due s h (a.source_unread f e) = inr (cause.of_source form s f, e)
-more_source words files form due s h (a.source_too_large read r l e) = inl e
-more_source words files form due s h (a.answered read r l u) =
+more_source : (files : FilesCall) (form : Form) (due : Due) → HasMore files source_limit form.file → AnswersForm files form due
+    → OrFault (SourceFailed files form) says_too_large due
+more_source files form due h (a.source_unread f e) = inr (f, e)
+more_source files form due h (a.source_too_large read r l e) = inl e
+more_source files form due h (a.answered read r l u) =
     let m = read_more files source_limit form.file read h.0 r h.1 h.2 in
     absurd (omega arith)
 
-pub source_due : (words : List (List ℕ)) (files : FilesCall) (form : Form) (due : Due) → SpellsForm form words → HasMore files source_limit form.file → IsDue files words due
-    → OrFault words files says_too_large due
-source_due words files form due s h d = by_due words files form says_too_large due s d (λ u. more_source words files form due s h u)
+pub source_due : (words : List (List ℕ)) (files : FilesCall) (form : Form) (due : Due) → SpellsForm form words → HasMore files source_limit form.file
+    → IsDue files words due → OrFault (SourceFailed files form) says_too_large due
+source_due words files form due s h d =
+    by_due (SourceFailed files form) words files form says_too_large due s d (λ u. more_source files form due h u)
 
 -- a text under `run`
 ran_text : (text bytes : List ℕ) (due : Due) → Accepts text bytes → AnswersRun text due → due ≡ prints bytes
 ran_text text bytes due b (a.no_program n e) = absurd (n bytes b)
 ran_text text bytes due b (a.printed out d e) = e ∙ ap prints (accepts_one text out bytes d b)
 
-pub printed_due : (words : List (List ℕ)) (files : FilesCall) (form : Form) (text bytes : List ℕ) (due : Due) → HasText words files form text → form.command ≡ Run → Accepts text bytes
-    → IsDue files words due → OrFault words files (prints bytes) due
+pub printed_due : (words : List (List ℕ)) (files : FilesCall) (form : Form) (text bytes : List ℕ) (due : Due) → HasText words files form text → form.command ≡ Run
+    → Accepts text bytes → IsDue files words due → OrFault (SourceFailed files form) (prints bytes) due
 printed_due words files form text bytes due t c b d =
-    by_due words files form (prints bytes) due t.spells d (λ u. by_text words files form text (prints bytes) due t u
-    (λ s v. inl (ran_text text bytes due b (commanded files form text due Run c v))))
+    on_text (SourceFailed files form) words files form text (prints bytes) due (λ f. f) t d
+    (λ s v. inl (ran_text text bytes due b (commanded files form text due Run c v)))
 
 none_text : (text : List ℕ) (due : Due) → IsNone text → AnswersRun text due → due ≡ says_refused first_refusal
 none_text text due n (a.no_program m e) = e
 none_text text due n (a.printed out d e) = absurd (n out d)
 
 pub none_due : (words : List (List ℕ)) (files : FilesCall) (form : Form) (text : List ℕ) (due : Due) → HasText words files form text → form.command ≡ Run → IsNone text
-    → IsDue files words due → OrFault words files (says_refused first_refusal) due
+    → IsDue files words due → OrFault (SourceFailed files form) (says_refused first_refusal) due
 none_due words files form text due t c n d =
-    by_due words files form (says_refused first_refusal) due t.spells d (λ u. by_text words files form text (says_refused first_refusal) due t u
-    (λ s v. inl (none_text text due n (commanded files form text due Run c v))))
+    on_text (SourceFailed files form) words files form text (says_refused first_refusal) due (λ f. f) t d
+    (λ s v. inl (none_text text due n (commanded files form text due Run c v)))

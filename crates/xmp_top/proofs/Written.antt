@@ -1,5 +1,5 @@
 -- What was written where no write fault is answered, and what isn't due.
-use Rattle.std.proofs.Common.{◌≡◌, ◌≢◌, ◌<◌, ◌∙◌, ℕ, List, [], length, inl, inr, ap, arith}
+use Rattle.std.proofs.Common.{◌≡◌, ◌≢◌, ◌∙◌, ℕ, List, [], inl, inr, ap}
 use Rattle.xmp_base.specs.Told.{added}
 use Rattle.xmp_base.proofs.Taken.{added-nil}
 use Rattle.xmp_base.specs.declared.status.Status.{Status}
@@ -7,7 +7,7 @@ use Rattle.xmp_base.specs.declared.status.Status.TheVariants.{WriteFault}
 use Rattle.xmp_top.specs.Lines.{line}
 use Rattle.xmp_top.specs.Delivery.{SinkCall, Took, TookNothing, Due, AllWritten, Delivered}
 use Rattle.xmp_top.specs.Answer.{only_line}
-use Rattle.xmp_top.specs.Causes.{SaysOnly, Wrote}
+use Rattle.xmp_top.specs.Causes.{SaysOnly}
 
 -- all was written, where no write fault is answered
 pub written : (due : Due) (out err : SinkCall) (status : Status) → Delivered due out err status → status ≢ WriteFault → AllWritten due out err status
@@ -29,13 +29,9 @@ says_only due text kind out err status all d = record {
 }
 
 -- what is due was written, and so was what equals it
-pub wrote : (due wanted : Due) (out err : SinkCall) (status : Status) → AllWritten due out err status → due ≡ wanted → Wrote wanted out err status
+pub wrote : (due wanted : Due) (out err : SinkCall) (status : Status) → AllWritten due out err status → due ≡ wanted → AllWritten wanted out err status
 wrote due wanted out err status all d = record {
   status_is = all.status_is ∙ ap (λ (x : Due). x.status) d;
   out_took = took_other out due.out wanted.out all.out_took (ap (λ (x : Due). x.out) d);
   err_took = took_other err due.err wanted.err all.err_took (ap (λ (x : Due). x.err) d);
 }
-
--- bytes of which one is due are not none
-pub some_due : (bytes : List ℕ) → 0 < length bytes → bytes ≡ [] → ⊥
-some_due bytes h e = let n : length bytes ≡ 0 = ap length e in omega arith

@@ -49,6 +49,9 @@ says_refused r = only_line (refused_text r) Refused
 abbrev pub prints : List ℕ → Due
 prints out = record { out = out; err = []; status = Ended }
 
+abbrev pub says_accepted : Due
+says_accepted = prints (line (codes "accepted"))
+
 -- what a run comes to: its output, and a line where it doesn't end by itself
 abbrev pub due_of : Outcome → Due
 due_of (outcome.Ended out arrays) = prints out
@@ -57,7 +60,7 @@ due_of (outcome.OutOfSteps out) = record { out = out; err = line (codes "out of 
 
 -- ---- reads
 
--- The bytes were read where the file is told: all of it, or its front with one byte more than the limit.
+-- The bytes that were read: of a file that is told all of them, or its front with one byte more than the limit. Of a file that isn't told this says nothing.
 abbrev pub IsRead : FilesCall → ℕ → List ℕ → List ℕ → Type 0
 IsRead files limit name bytes = IfSome (files.told name) (λ all. bytes ≡ take (limit + 1) all)
 
@@ -82,7 +85,7 @@ pub data AnswersRun (text : List ℕ) (due : Due) : Type 0 where
 
 pub data AnswersCheck (settings : Settings) (text : List ℕ) (due : Due) : Type 0 where
   breaks : (r : Refusal) → IsRefused text settings.nodes r → due ≡ says_refused r → AnswersCheck settings text due
-  accepted : (p : ProgParts) → IsAccepted text settings.nodes p → due ≡ prints (line (codes "accepted")) → AnswersCheck settings text due
+  accepted : (p : ProgParts) → IsAccepted text settings.nodes p → due ≡ says_accepted → AnswersCheck settings text due
 
 -- ---- `serial`
 

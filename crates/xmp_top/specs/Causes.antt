@@ -10,8 +10,8 @@ use Rattle.xmp_top.specs.Limits.{source_limit, input_limit}
 use Rattle.xmp_top.specs.declared.forms.Command.TheVariants.{Check, Serial, Run}
 use Rattle.xmp_top.specs.Forms.{Form, SpellsForm, SpellsNoForm}
 use Rattle.xmp_top.specs.Lines.{line, refused_text}
-use Rattle.xmp_top.specs.Delivery.{Due, SinkCall, SinkFailed, Took, TookNothing, OutFailed, ErrFailed}
-use Rattle.xmp_top.specs.Answer.{FilesCall, IsRead, ReadFailed, IsNone, IsDue, first_refusal, says_usage, says_refused, says_too_large, prints, run_on}
+use Rattle.xmp_top.specs.Delivery.{Due, SinkCall, SinkFailed, Took, TookNothing, AllWritten, OutFailed, ErrFailed}
+use Rattle.xmp_top.specs.Answer.{FilesCall, IsRead, ReadFailed, IsNone, IsDue, first_refusal, says_usage, says_refused, says_too_large, says_accepted, prints, run_on}
 
 -- ---- what was written
 
@@ -19,12 +19,6 @@ use Rattle.xmp_top.specs.Answer.{FilesCall, IsRead, ReadFailed, IsNone, IsDue, f
 pub record SaysOnly (text : List ℕ) (out err : SinkCall) : Type 0 where
   pub out_took : TookNothing out
   pub err_took : Took err (line text)
-
--- All that is due was written.
-pub record Wrote (due : Due) (out err : SinkCall) (status : Status) : Type 0 where
-  pub status_is : status ≡ due.status
-  pub out_took : Took out due.out
-  pub err_took : Took err due.err
 
 -- ---- what was read
 
@@ -78,7 +72,7 @@ pub record WasRun (words : List (List ℕ)) (files : FilesCall) (due : Due) : Ty
 -- The program was accepted by `check`, or run by `serial` or `run`, and this is due for what it came to.
 pub data HasEnded (words : List (List ℕ)) (files : FilesCall) (due : Due) : Type 0 where
   by_check : (form : Form) (text : List ℕ) → ReadSource words files form text → form.command ≡ Check → (p : ProgParts) → IsAccepted text form.settings.nodes p
-      → due ≡ prints (line (codes "accepted")) → HasEnded words files due
+      → due ≡ says_accepted → HasEnded words files due
   by_serial : WasRun words files due → HasEnded words files due
   by_run : (form : Form) (text : List ℕ) → ReadSource words files form text → form.command ≡ Run → (bytes : List ℕ) → Accepts text bytes → due ≡ prints bytes
       → HasEnded words files due
@@ -91,16 +85,23 @@ pub record WriteFaulted (words : List (List ℕ)) (files : FilesCall) (out err :
 
 -- ---- exactly when
 
--- Of the files that the words name none failed to be read in the call, and no sink failed.
-pub record NothingFailed (words : List (List ℕ)) (files : FilesCall) (out err : SinkCall) : Type 0 where
-  pub source : (form : Form) → SpellsForm form words → ReadFailed files form.file → ⊥
-  pub input : (form : Form) (name : List ℕ) → SpellsForm form words → form.settings.input ≡ Some name → ReadFailed files name → ⊥
-  pub out_held : SinkFailed out → ⊥
-  pub err_held : SinkFailed err → ⊥
+-- The read of this name didn't fail in the call.
+abbrev pub ReadHeld : FilesCall → List ℕ → Type 0
+ReadHeld files name = ReadFailed files name → ⊥
+
+-- Nor did that of the input, where one is named.
+abbrev pub InputHeld : FilesCall → Option (List ℕ) → Type 0
+InputHeld files None = ⊤
+InputHeld files (Some name) = ReadHeld files name
+
+-- No sink failed on which bytes are due.
+pub record SinksHeld (due : Due) (out err : SinkCall) : Type 0 where
+  pub out_held : 0 < length due.out → SinkFailed out → ⊥
+  pub err_held : 0 < length due.err → SinkFailed err → ⊥
 
 -- This was answered, or memory ran out before the first write.
 abbrev pub OrNoMemory : Due → SinkCall → SinkCall → Status → Type 0
-OrNoMemory due out err status = Wrote due out err status ⊎ (status ≡ NoMemory)
+OrNoMemory due out err status = AllWritten due out err status ⊎ (status ≡ NoMemory)
 
 -- The words are a form whose file is told and not larger than the limit: its text is this one.
 pub record HasText (words : List (List ℕ)) (files : FilesCall) (form : Form) (text : List ℕ) : Type 0 where
@@ -130,37 +131,45 @@ pub record HasCauses (words : List (List ℕ)) (files : FilesCall) (out err : Si
   pub read_fault : status ≡ ReadFault → ReadFaulted words files × SaysOnly (codes "read fault") out err
   pub too_large : status ≡ TooLarge → WasTooLarge words files × SaysOnly (codes "too large") out err
   pub refused : status ≡ Refused → (r : Refusal) × WasRefused words files r × SaysOnly (refused_text r) out err
-  pub ended : status ≡ Ended → (due : Due) × HasEnded words files due × Wrote due out err status
-  pub trapped : status ≡ Trapped → (due : Due) × WasRun words files due × Wrote due out err status
-  pub out_of_steps : status ≡ OutOfSteps → (due : Due) × WasRun words files due × Wrote due out err status
+  pub ended : status ≡ Ended → (due : Due) × HasEnded words files due × AllWritten due out err status
+  pub trapped : status ≡ Trapped → (due : Due) × WasRun words files due × AllWritten due out err status
+  pub out_of_steps : status ≡ OutOfSteps → (due : Due) × WasRun words files due × AllWritten due out err status
   pub write_fault : status ≡ WriteFault → WriteFaulted words files out err status
   pub no_memory : status ≡ NoMemory → TookNothing out × TookNothing err
-  -- the headline of `serial`, whatever failed: a run that came to an end, a trap or the end of its steps wrote exactly the output of the program with its
+  -- the headline of `serial`, whatever else failed: a run that came to an end, a trap or the end of its steps wrote exactly the output of the program with its
   -- directives erased, and the line of its end
   pub headline : (form : Form) (text : List ℕ) (p : ProgParts) (input : List ℕ) → HasText words files form text → form.command ≡ Serial
-      → IsAccepted text form.settings.nodes p → HasInput files form.settings.input input → IsEnd status → Wrote (run_on form.settings p input) out err status
+      → IsAccepted text form.settings.nodes p → HasInput files form.settings.input input → IsEnd status → AllWritten (run_on form.settings p input) out err status
   -- the same of `run`
   pub run_headline : (form : Form) (text bytes : List ℕ) → HasText words files form text → form.command ≡ Run → Accepts text bytes → IsEnd status
-      → Wrote (prints bytes) out err status
-  -- words of no form have no other answer, but where the line can't be written
-  pub usage_exactly : SpellsNoForm words → (SinkFailed err → ⊥) → OrNoMemory says_usage out err status
-  -- where nothing failed: a source that is too large
-  pub source_exactly : (form : Form) → SpellsForm form words → HasMore files source_limit form.file → NothingFailed words files out err
-      → OrNoMemory says_too_large out err status
-  -- `check` and `serial`: a text that breaks a rule is refused by the first, and nothing is written but that
-  pub refused_exactly : (form : Form) (text : List ℕ) (r : Refusal) → HasText words files form text → form.command ≢ Run → IsRefused text form.settings.nodes r
-      → NothingFailed words files out err → OrNoMemory (says_refused r) out err status
-  pub accepted_exactly : (form : Form) (text : List ℕ) (p : ProgParts) → HasText words files form text → form.command ≡ Check → IsAccepted text form.settings.nodes p
-      → NothingFailed words files out err → OrNoMemory (prints (line (codes "accepted"))) out err status
+      → AllWritten (prints bytes) out err status
+  -- the other direction: where no read and no sink failed that the answer needs, it is this, or want of memory. Words of no form:
+  pub usage_exactly : SpellsNoForm words
+      → SinksHeld says_usage out err → OrNoMemory says_usage out err status
+  -- a source that is too large
+  pub source_exactly : (form : Form) → SpellsForm form words → HasMore files source_limit form.file
+      → ReadHeld files form.file → SinksHeld says_too_large out err → OrNoMemory says_too_large out err status
+  -- `check` and `serial`: a text that breaks a rule
+  pub refused_exactly : (form : Form) (text : List ℕ) (r : Refusal) → HasText words files form text
+      → form.command ≢ Run → IsRefused text form.settings.nodes r
+      → ReadHeld files form.file → SinksHeld (says_refused r) out err → OrNoMemory (says_refused r) out err status
+  -- `check`: a text that is accepted
+  pub accepted_exactly : (form : Form) (text : List ℕ) (p : ProgParts) → HasText words files form text
+      → form.command ≡ Check → IsAccepted text form.settings.nodes p
+      → ReadHeld files form.file → SinksHeld says_accepted out err → OrNoMemory says_accepted out err status
   -- `serial`: the output and the end of the program with its directives erased
-  pub run_exactly : (form : Form) (text : List ℕ) (p : ProgParts) (input : List ℕ) → HasText words files form text → form.command ≡ Serial
-      → IsAccepted text form.settings.nodes p → HasInput files form.settings.input input → NothingFailed words files out err
+  pub run_exactly : (form : Form) (text : List ℕ) (p : ProgParts) (input : List ℕ) → HasText words files form text
+      → form.command ≡ Serial → IsAccepted text form.settings.nodes p → HasInput files form.settings.input input
+      → ReadHeld files form.file → InputHeld files form.settings.input → SinksHeld (run_on form.settings p input) out err
       → OrNoMemory (run_on form.settings p input) out err status
-  pub input_exactly : (form : Form) (text : List ℕ) (p : ProgParts) (name : List ℕ) → HasText words files form text → form.command ≡ Serial
-      → IsAccepted text form.settings.nodes p → form.settings.input ≡ Some name → HasMore files input_limit name → NothingFailed words files out err
-      → OrNoMemory says_too_large out err status
+  -- `serial`: an input that is too large
+  pub input_exactly : (form : Form) (text : List ℕ) (p : ProgParts) (name : List ℕ) → HasText words files form text
+      → form.command ≡ Serial → IsAccepted text form.settings.nodes p → form.settings.input ≡ Some name → HasMore files input_limit name
+      → ReadHeld files form.file → ReadHeld files name → SinksHeld says_too_large out err → OrNoMemory says_too_large out err status
   -- `run`: what a program of its form prints with its directives erased, and any other text is refused
-  pub printed_exactly : (form : Form) (text bytes : List ℕ) → HasText words files form text → form.command ≡ Run → Accepts text bytes
-      → NothingFailed words files out err → OrNoMemory (prints bytes) out err status
-  pub no_program_exactly : (form : Form) (text : List ℕ) → HasText words files form text → form.command ≡ Run → IsNone text
-      → NothingFailed words files out err → OrNoMemory (says_refused first_refusal) out err status
+  pub printed_exactly : (form : Form) (text bytes : List ℕ) → HasText words files form text
+      → form.command ≡ Run → Accepts text bytes
+      → ReadHeld files form.file → SinksHeld (prints bytes) out err → OrNoMemory (prints bytes) out err status
+  pub no_program_exactly : (form : Form) (text : List ℕ) → HasText words files form text
+      → form.command ≡ Run → IsNone text
+      → ReadHeld files form.file → SinksHeld (says_refused first_refusal) out err → OrNoMemory (says_refused first_refusal) out err status

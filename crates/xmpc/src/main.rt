@@ -1,6 +1,5 @@
-//! The compiler: compiles a C program with XcalableMP directives and runs it on its nodes.
-//!
-//! `xmpc run FILE` writes what the program of FILE prints with its directives erased, as its nodes find it.
+//! The compiler of C programs with XcalableMP directives: `xmpc check FILE` judges a program, `xmpc serial FILE` runs it with its directives erased, and
+//! `xmpc run FILE` runs one form of program on its nodes.
 #![tactic(auto)]
 
 ghost use Rattle.std.specs.Prelude.{map, string_bytes};

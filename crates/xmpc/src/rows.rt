@@ -49,6 +49,17 @@ const READS: &str =
     "int n;\n#pragma xmp nodes p[2]\nint main() {\n#pragma xmp task on p[0]\nscanf(\"%d\", &n);\n\
 #pragma xmp bcast (n) from p[0]\n#pragma xmp task on p[1]\nprintf(\"%d\\n\", n);\n}\n";
 
+// The sum of the numbers of the input, each of which is one of at most ten.
+const SUMS: &str =
+    "int i, n, s;\n#pragma xmp nodes p[2]\nint main() {\nfor (i = 0; i < 10; i++) {\nn = 0;\n\
+#pragma xmp task on p[0]\nscanf(\"%d\", &n);\n#pragma xmp bcast (n) from p[0]\ns += n;\n}\n\
+#pragma xmp task on p[0]\nprintf(\"%d\\n\", s);\n}\n";
+
+// Two lines with a barrier between.
+const BARRIERS: &str =
+    "#pragma xmp nodes p[2]\nint main() {\n#pragma xmp task on p[0]\nprintf(\"1 \");\n\
+#pragma xmp barrier\n#pragma xmp task on p[0]\nprintf(\"2\\n\");\n}\n";
+
 // A loop of ten turns.
 const TURNS: &str = "int i;\nint main() { while (i < 10) i++; printf(\"%d\\n\", i); }\n";
 
@@ -90,7 +101,7 @@ const IMAGES: &str =
 x[0]:[(me + 1) % n] = me;\nxmp_sync_all(&st);\nprintf(\"%d\\n\", x[0]);\n}\n";
 
 // Programs that come to an end of their own.
-const ENDS: [Case; 15] = [
+const ENDS: [Case; 17] = [
     Case {
         text: &[TOP, FILL, SUM, ADD, END],
         out: "285\n",
@@ -122,6 +133,19 @@ const ENDS: [Case; 15] = [
         words: GIVEN,
         text: &[READS],
         out: "0\n",
+        ..ROW
+    },
+    // a program that reads to the end of its input, behind which the target stays
+    Case {
+        words: GIVEN,
+        text: &[SUMS],
+        input: "1 20\n\t-300",
+        out: "-279\n",
+        ..ROW
+    },
+    Case {
+        text: &[BARRIERS],
+        out: "1 2\n",
         ..ROW
     },
     // the source is no input

@@ -229,7 +229,7 @@ fn faults_have_their_answers(rt: HostRuntime) -> Result<(), Fail> {
 }
 
 // Words of no form.
-const NO_FORMS: [&[&str]; 20] = [
+const NO_FORMS: [&[&str]; 21] = [
     &[],
     &["f"],
     &["check"],
@@ -245,6 +245,7 @@ const NO_FORMS: [&[&str]; 20] = [
     &["serial", "--nodes=2", "--nodes=2", "f"],
     &["serial", "--nodes=0", "f"],
     &["serial", "--steps=18446744073709551616", "f"],
+    &["serial", "--steps=000000000000000000001", "f"],
     &["serial", "--input=--g", "f"],
     &["run", "--nodes=17", "f"],
     &["run", "--report", "f"],
