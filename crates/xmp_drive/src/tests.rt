@@ -134,7 +134,7 @@ const VERDICTS: [(&[u8], Option<u32>, Is); 40] = [
         None,
         Is::Breaks('M', 10, 1, 20),
     ),
-    // the least rule at one place
+    // the least rule at one place, and the same place with the greater rule alone
     (b"int a[x];\nint main() {}", None, Is::Breaks('N', 1, 1, 7)),
     (
         b"int x, a[x];\nint main() {}",

@@ -8,33 +8,33 @@ use Rattle.xmp_base.specs.declared.refusal.Refusal.{Refusal}
 use Rattle.xmp_num.specs.declared.types.TrapKind.{TrapKind}
 use Rattle.xmp_num.specs.declared.types.TrapKind.TheVariants as trap
 
--- a line of text
+-- a line of text, with its line feed
 abbrev pub line : List ℕ → List ℕ
 line text = text ++ 10 ∷ []
 
 abbrev pub decimal : ℕ → List ℕ
 decimal n = signed_decimal (pos n)
 
--- the letter of a phase's rules: L, E, S, N, M, F, C
-abbrev pub letter_of : Phase → ℕ
-letter_of phase.Lex = 76
-letter_of phase.Macro = 69
-letter_of phase.Syntax = 83
-letter_of phase.Names = 78
-letter_of phase.Mapping = 77
-letter_of phase.Flow = 70
-letter_of phase.Coarray = 67
+-- the letter of a phase's rules
+abbrev pub letter_of : Phase → List ℕ
+letter_of phase.Lex = codes "L"
+letter_of phase.Macro = codes "E"
+letter_of phase.Syntax = codes "S"
+letter_of phase.Names = codes "N"
+letter_of phase.Mapping = codes "M"
+letter_of phase.Flow = codes "F"
+letter_of phase.Coarray = codes "C"
 
 -- a place: `13:40` is column 40 of line 13
 abbrev pub place_text : Place → List ℕ
-place_text at = decimal at.line ++ 58 ∷ decimal at.column
+place_text at = decimal at.line ++ (codes ":" ++ decimal at.column)
 
 abbrev pub at_place : Place → List ℕ
 at_place at = codes " at " ++ place_text at
 
 -- as `refused N1 at 1:27`
 abbrev pub refused_text : Refusal → List ℕ
-refused_text r = codes "refused " ++ letter_of r.phase ∷ (decimal r.rule ++ at_place r.at)
+refused_text r = codes "refused " ++ (letter_of r.phase ++ (decimal r.rule ++ at_place r.at))
 
 abbrev pub trap_word : TrapKind → List ℕ
 trap_word trap.Zero = codes "zero"

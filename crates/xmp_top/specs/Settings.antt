@@ -45,7 +45,7 @@ Adds Report value old new = (old.report ≡ false) × (value ≡ []) × (new ≡
 abbrev pub Says : List ℕ → Settings → Settings → Type 0
 Says word old new = (name : Name) × (value : List ℕ) × (word ≡ prefix_of name ++ value) × Adds name value old new
 
--- The words are options, in any order, each at most once.
+-- The words are options, in any order, each at most once. (The last word is taken first; since none is set twice, the order makes no difference.)
 abbrev pub Sets : List (List ℕ) → Settings → Type 0
 Sets [] s = s ≡ unset
 Sets (word ∷ words) s = (t : Settings) × Sets words t × Says word t s

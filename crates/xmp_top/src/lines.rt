@@ -7,17 +7,17 @@ use xmp_base::{Bytes, NoMemory, Phase, Place, Refusal};
 use xmp_num::{TrapKind, render};
 
 /// The letter of a phase's rules.
-fn letter_of(phase: Phase) -> u8
-    ensures { result ≡ letter_of phase }
+fn letter_of(phase: Phase) -> &'static [u8]
+    ensures { result.now ≡ letter_of phase }
 {
     match phase {
-        Phase::Lex => b'L',
-        Phase::Macro => b'E',
-        Phase::Syntax => b'S',
-        Phase::Names => b'N',
-        Phase::Mapping => b'M',
-        Phase::Flow => b'F',
-        Phase::Coarray => b'C',
+        Phase::Lex => b"L",
+        Phase::Macro => b"E",
+        Phase::Syntax => b"S",
+        Phase::Names => b"N",
+        Phase::Mapping => b"M",
+        Phase::Flow => b"F",
+        Phase::Coarray => b"C",
     }
 }
 
@@ -43,7 +43,7 @@ fn push_place(alloc: Global, out: &mut Bytes, at: Place) -> Result<(), NoMemory>
     ensures { OnOk result (out.new ≡ out.old ++ place_text at) }
 {
     push_number(alloc, out, at.line)?;
-    out.push(b':')?;
+    out.push_all(b":")?;
     push_number(alloc, out, at.column)
 }
 
@@ -62,7 +62,7 @@ pub fn refused_line(alloc: Global, refusal: Refusal) -> Result<Bytes, NoMemory>
 {
     let mut out = Bytes::new(alloc);
     out.push_all(b"refused ")?;
-    out.push(letter_of(refusal.phase))?;
+    out.push_all(letter_of(refusal.phase))?;
     push_number(alloc, &mut out, refusal.rule as u32)?;
     push_end(alloc, &mut out, refusal.at)?;
     Ok(out)
