@@ -1,7 +1,12 @@
-use super::*;
+// Files, sinks, lists and the first of two refusals.
+
 use std::io::{ErrorKind, Write};
 use std::test::Fail;
 use std::{fs, io};
+use xmp_base::{
+    Bytes, Failed, FileError, Files, HostFiles, HostSink, MemFiles, MemSink, Phase, Place, Refusal,
+    Sink, Table, Words, earlier, put_all,
+};
 
 // What one call is to give: how many bytes it takes, or none where it fails.
 #[derive(Clone, Copy)]
@@ -89,8 +94,12 @@ fn lists_grow_and_the_earlier_refusal_stands_first(rt: HostRuntime) -> Result<()
     assert!(rt; table.push(words).is_ok());
     assert_eq!(rt; table.row(0), Some([-1, 7].as_slice()));
     assert_eq!(rt; table.row(1), None);
-    let mut bytes = Bytes::new(alloc);
-    assert_eq!(rt; bytes.push(b'c'), Ok(()));
+    let numbers = Words::from_vec(vec![in alloc; 5, -5]?);
+    assert_eq!(rt; numbers.as_slice(), [5, -5].as_slice());
+    let mut bytes = Bytes::copy_of(alloc, b"ca")?;
+    assert_eq!(rt; bytes.push(b't'), Ok(()));
+    assert_eq!(rt; bytes.as_slice(), b"cat".as_slice());
+    let mut bytes = Bytes::from_vec(b"c".to_vec(alloc)?);
     assert_eq!(rt; bytes.push_all(b"at"), Ok(()));
     assert_eq!(rt; bytes.as_slice(), b"cat".as_slice());
     let at = |line: u32, column: u32, rule: u16| Refusal {
@@ -110,40 +119,103 @@ fn lists_grow_and_the_earlier_refusal_stands_first(rt: HostRuntime) -> Result<()
     Ok(())
 }
 
-// A writer that is interrupted once, then takes a byte a time, and fails at its fourth call.
-#[derive(Drop)]
-struct Halting {
-    calls: u32,
+// What one call of a writer comes to.
+#[derive(Clone, Copy)]
+enum Gives {
+    Takes(usize),
+    Flushes,
+    Interrupts,
+    Fails,
 }
 
-impl Write for Halting {
+// A writer whose calls come to these, in order, and then fail.
+#[derive(Drop)]
+struct Acting {
+    calls: &'static [Gives],
+}
+
+impl Acting {
+    fn next(&mut self) -> Gives {
+        let Some((first, rest)) = self.calls.split_first() else {
+            return Gives::Fails;
+        };
+        self.calls = rest;
+        *first
+    }
+}
+
+impl Write for Acting {
     fn write(&mut self, buf: &[u8]) -> io::Result<usize> {
-        self.calls = self.calls.saturating_add(1);
-        match self.calls {
-            1 => Err(io::Error::new(ErrorKind::Interrupted, "interrupted")),
-            2 | 3 => Ok(buf.len().min(1)),
+        match self.next() {
+            Gives::Takes(count) => Ok(count.min(buf.len())),
+            Gives::Interrupts => Err(io::Error::new(ErrorKind::Interrupted, "interrupted")),
             _ => Err(io::Error::new(ErrorKind::Other, "failed")),
         }
     }
 
     fn flush(&mut self) -> io::Result<()> {
-        Ok(())
+        match self.next() {
+            Gives::Flushes => Ok(()),
+            Gives::Interrupts => Err(io::Error::new(ErrorKind::Interrupted, "interrupted")),
+            _ => Err(io::Error::new(ErrorKind::Other, "failed")),
+        }
     }
 }
 
+// What the writer's calls come to, and how many bytes of two each write takes, or none where it fails.
+type Written = (&'static [Gives], &'static [Option<usize>]);
+
+const WRITTEN: [Written; 4] = [
+    (
+        &[
+            Gives::Interrupts,
+            Gives::Takes(1),
+            Gives::Flushes,
+            Gives::Takes(2),
+            Gives::Flushes,
+        ],
+        &[Some(1), Some(2), None],
+    ),
+    (
+        &[Gives::Takes(2), Gives::Interrupts, Gives::Flushes],
+        &[Some(2), None],
+    ),
+    (
+        &[
+            Gives::Takes(2),
+            Gives::Interrupts,
+            Gives::Fails,
+            Gives::Takes(2),
+            Gives::Flushes,
+        ],
+        &[None, Some(2)],
+    ),
+    (
+        &[Gives::Takes(0), Gives::Takes(1), Gives::Flushes],
+        &[None, Some(1)],
+    ),
+];
+
 #[test]
 fn a_real_stream_is_tried_again_where_it_was_interrupted(rt: HostRuntime) -> Result<(), Fail> {
-    let mut sink = HostSink::new(Halting { calls: 0 });
-    assert_eq!(rt; sink.write(b"ab"), Ok(1));
-    assert_eq!(rt; sink.write(b"ab"), Ok(1));
-    assert_eq!(rt; sink.write(b"ab"), Err(Failed));
+    for (calls, expected) in WRITTEN {
+        let mut sink = HostSink::new(Acting { calls });
+        for takes in expected {
+            assert_eq!(rt; sink.write(b"ab").ok(), *takes);
+        }
+    }
+    let mut sink = HostSink::new(Acting {
+        calls: &[Gives::Takes(2), Gives::Flushes],
+    });
+    assert_eq!(rt; sink.write(b"").ok(), Some(0));
     Ok(())
 }
 
 #[test]
 fn a_real_file_is_read_up_to_the_limit(rt: HostRuntime) -> Result<(), Fail> {
     let alloc = rt.alloc();
-    let name = "/tmp/xmp_base_real_file_test";
+    // a test runs in a folder of its own
+    let name = "real_file";
     fs::write(&rt, name, b"hello")?;
     let mut files = HostFiles::new(&rt);
     let whole = files
