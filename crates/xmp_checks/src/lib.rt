@@ -5,3 +5,13 @@
 
 #[cfg(test)]
 mod base;
+#[cfg(test)]
+mod dist;
+#[cfg(test)]
+mod lex;
+#[cfg(test)]
+mod map;
+#[cfg(test)]
+mod num;
+#[cfg(test)]
+mod scopes;

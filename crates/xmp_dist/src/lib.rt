@@ -9,6 +9,3 @@ mod form;
 
 pub use dimension::Dim;
 pub use form::{DimError, Dist, Lengths, MAX_NODES, MAX_SIZE};
-
-#[cfg(test)]
-mod tests;

@@ -2,11 +2,11 @@
 use Rattle.std.proofs.Common.{◌≡◌, ◌≢◌, ◌≤◌, ◌++◌, ℕ, List, [], ◌∷◌, length, refl, sym, ap, ◌∙◌, subst, arith, true, Some, None, All, length-append, true≢false, append_assoc}
 use Rattle.std.proofs.lemmas.List.Elements.{All-nil, All-cons, All-append, All-head, All-tail}
 use Rattle.std.proofs.Math.Seq.{get_or-append_seam}
+use Rattle.xmp_base.specs.Limits.{token_limit}
 use Rattle.xmp_base.specs.declared.place.Place.{Place}
 use Rattle.xmp_lex.specs.declared.token.Token.{Token}
 use Rattle.xmp_lex.specs.declared.token.TokenKind.{TokenKind}
 use Rattle.xmp_lex.specs.declared.token.TokenKind.TheVariants as t
-use Rattle.xmp_lex.specs.Cut.{token_limit}
 use Rattle.xmp_lex.specs.Expand.{Definition, body_of, moved, Event, out, used, again, Replaces, done, keep, replace, IsDefine, IsBody, Expands, end, token, define, define_again, tokens_of, counts, place_of, IsFine, BreaksMacroRule, twice, too_many, Expanded, BreaksMacros}
 
 some_is : {X : Type 0} {x y : X} → Some x ≡ Some y → x ≡ y

@@ -1,6 +1,7 @@
 -- Where a piece is, no rule breaks; and the cut of a text is unique.
 use Rattle.std.proofs.Common.{◌≡◌, ◌≢◌, ◌<◌, ◌≤◌, ◌++◌, ℕ, List, [], ◌∷◌, length, take, drop, get_or, refl, sym, ap, ◌∙◌, arith, subst, true, false, ◌⊎◌, inl, inr, Some, length-append, slice_get}
 use Rattle.std.proofs.lemmas.Option.{slice_get_within}
+use Rattle.xmp_base.specs.Limits.{token_limit}
 use Rattle.xmp_lex.specs.declared.token.Token.{Token}
 use Rattle.xmp_base.specs.declared.place.Place.{Place}
 use Rattle.xmp_lex.specs.declared.token.TokenKind.{TokenKind}
@@ -11,7 +12,7 @@ use Rattle.xmp_lex.specs.Bytes.{is_white, is_digit, is_letter, is_word, IsNumber
 use Rattle.xmp_lex.specs.Words.{mark_text, BeginsWith}
 use Rattle.xmp_lex.specs.Pieces.{Spelled, name, word, number, quoted, mark, Malformed, stray, unknown_escape, unclosed, no_number, Comment, block, line, Unclosed, LineSpace, IsBlockStart, IsLineStart}
 use Rattle.xmp_lex.specs.Pieces as p
-use Rattle.xmp_lex.specs.Cut.{Piece, white, comment, token, hash, line_space, skip, close, Broken, unclosed_comment, no_form, no_token, IsHashLine, Front, start, after, placed, behind, Cuts, none, piece, Cut, BreaksLexRule, broken, too_many, too_many_last, last, token_limit, ending}
+use Rattle.xmp_lex.specs.Cut.{Piece, white, comment, token, hash, line_space, skip, close, Broken, unclosed_comment, no_form, no_token, IsHashLine, Front, start, after, placed, behind, Cuts, none, piece, Cut, BreaksLexRule, broken, too_many, too_many_last, last, ending}
 use Rattle.xmp_lex.proofs.SpaceLemmas as sp
 use Rattle.xmp_lex.proofs.Unique.{one_run, class, class_of, first_class}
 use Rattle.xmp_lex.proofs.OnePiece.{first_fine, fine, one_piece}

@@ -1,6 +1,7 @@
 -- A text cut into tokens: pieces laid end to end, each the longest that can stand there. Source: ISO C 6.4 (4); the limit and the rules L1
 -- to L6 are this project's.
 use Rattle.std.specs.Prelude.{◌≡◌, ◌≢◌, ◌≤◌, ◌<◌, ◌+◌, ◌==◌, ℕ, List, [], ◌∷◌, ◌++◌, length, Bool, true, false, map, take, drop, slice_index, slice_get, Some, ⊤}
+use Rattle.xmp_base.specs.Limits.{token_limit}
 use Rattle.xmp_base.specs.declared.place.Place.{Place}
 use Rattle.xmp_lex.specs.declared.token.Token.{Token}
 use Rattle.xmp_lex.specs.declared.token.TokenKind.{TokenKind}
@@ -93,10 +94,6 @@ pub data Cuts (text : List ℕ) : Front → Type 0 where
   none : Cuts text (start text)
   piece : (f : Front) (n : ℕ) (out : List (ℕ × TokenKind)) (x : Mode) → Cuts text f → 0 < length f.rest → Piece f.rest f.mode n out x
       → Cuts text (after f n out x)
-
--- the most tokens that a text may have, before and after expansion
-abbrev pub token_limit : ℕ
-token_limit = 200000
 
 -- the tokens at the end of a text
 abbrev pub ending : Mode → Place → List Token

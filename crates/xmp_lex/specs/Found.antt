@@ -1,5 +1,6 @@
 -- What the functions below `lex` find, in the form that their answers have.
 use Rattle.std.specs.Prelude.{◌≡◌, ◌≤◌, ◌<◌, ◌++◌, ℕ, List, length, Bool, true, false, take, slice_index_or, slice_get, Some, None, ⊤, option_to_list, IfSome}
+use Rattle.xmp_base.specs.Limits.{token_limit}
 use Rattle.xmp_base.specs.declared.place.Place.{Place}
 use Rattle.xmp_base.specs.declared.refusal.Fault.{Fault}
 use Rattle.xmp_base.specs.declared.refusal.Fault.TheVariants as fault
@@ -20,7 +21,7 @@ use Rattle.xmp_lex.specs.declared.tokens.Meaning.TheVariants as meaning
 use Rattle.xmp_lex.specs.Bytes.{content, content_of, escape_value, IsBadEscape}
 use Rattle.xmp_lex.specs.Words.{BeginsWith, mark_text}
 use Rattle.xmp_lex.specs.Pieces.{IsBlockStart, IsLineStart, Comment, Unclosed, LineSpace, Spelled, Malformed}
-use Rattle.xmp_lex.specs.Cut.{Piece, Broken, behind, token_limit}
+use Rattle.xmp_lex.specs.Cut.{Piece, Broken, behind}
 
 -- none of the first n marks is at the front
 abbrev pub IsNone : List Mark → List ℕ → ℕ → Type 0

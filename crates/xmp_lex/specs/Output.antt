@@ -1,5 +1,6 @@
 -- What the functions below `expand` do, in the form that their answers have.
 use Rattle.std.specs.Prelude.{Bool, true, false, slice_get, ◌≡◌, ◌≤◌, ◌<◌, ◌+◌, ◌*◌, ℕ, List, [], ◌∷◌, ◌++◌, length, map, Some, None, ⊤}
+use Rattle.xmp_base.specs.Limits.{token_limit}
 use Rattle.xmp_base.specs.declared.place.Place.{Place}
 use Rattle.xmp_base.specs.declared.refusal.Fault.{Fault}
 use Rattle.xmp_base.specs.declared.refusal.Fault.TheVariants as fault
@@ -9,7 +10,6 @@ use Rattle.xmp_lex.specs.declared.token.TokenKind.TheVariants as t
 use Rattle.xmp_lex.specs.declared.output.Output.{Output}
 use Rattle.xmp_lex.specs.declared.token.TokenKind.{TokenKind}
 use Rattle.xmp_lex.specs.declared.definitions.Use.{Use}
-use Rattle.xmp_lex.specs.Cut.{token_limit}
 use Rattle.xmp_lex.specs.Expand.{Definition, Event, Replaces, moved, tokens_of, body_of, IsBody}
 
 -- the refusal by a rule E

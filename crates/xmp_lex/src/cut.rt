@@ -8,6 +8,7 @@ ghost use Rattle.xmp_lex.specs.declared.mode.Mode.TheVariants.{Start, Directive,
 ghost use Rattle.xmp_lex.specs.Lines.{IsFinished, IsClosed};
 ghost use Rattle.xmp_lex.specs.Cut.{IsRefused, Cut, behind, step, behind_white, behind_token, IsOutside, placed, ending};
 ghost use Rattle.xmp_lex.specs.Found.{IsPiece, IsBroken, IsTooMany, IsWithin, refusal, is_directive, breaks};
+ghost use Rattle.xmp_base.specs.Limits.{token_limit, source_limit};
 
 use crate::bytes::{byte_at, from, front, is_white};
 use crate::hash::hash;
@@ -16,7 +17,7 @@ use crate::spaces::{Found, comment, line_space};
 use crate::token::{Token, TokenKind};
 use crate::tokens::{PieceError, token_at};
 use std::alloc::Global;
-use xmp_base::{Fault, Phase, Place, Refusal};
+use xmp_base::{Fault, Phase, Place, Refusal, TOKEN_LIMIT};
 
 /// A piece: its length, the token that it gives and where that begins in it, and how the line goes on.
 #[derive(Drop)]
@@ -26,7 +27,8 @@ pub struct NextPiece {
     pub mode: Mode,
 }
 
-fn gives_nothing(length: usize, mode: Mode) -> NextPiece
+/// A piece that gives no token.
+pub fn gives_nothing(length: usize, mode: Mode) -> NextPiece
     ensures { result ≡ record { length = length; token = None; mode = mode } }
 {
     NextPiece {
@@ -212,12 +214,12 @@ fn refused(rule: u16, at: Place) -> Fault
 
 /// Puts down a token, where it is not one too many.
 fn push(tokens: &mut Vec<Token>, kind: TokenKind, at: Place) -> Result<(), Fault>
-    requires { length tokens.old.items ≤ 200000 }
+    requires { length tokens.old.items ≤ token_limit }
     ensures ok { OnOk result ((tokens.new.items ≡ tokens.old.items ++ record { kind = kind; at = at } ∷ [])
-        × (length tokens.new.items ≤ 200000)) }
+        × (length tokens.new.items ≤ token_limit)) }
     ensures err { IfErr result (λ e. IsTooMany tokens.old.items (record { kind = kind; at = at } ∷ []) e) }
 {
-    if tokens.len() == 200000 {
+    if tokens.len() == TOKEN_LIMIT {
         return Err(refused(5, at));
     }
     match tokens.push(Token { kind, at }) {
@@ -233,12 +235,12 @@ fn put(
     at: Place,
     rest: &[u8],
 ) -> Result<(), Fault>
-    requires few { length tokens.old.items ≤ 200000 }
+    requires few { length tokens.old.items ≤ token_limit }
     requires within { IfSome token (λ o. o.0 ≤ length rest.now) }
     requires line { at.line + length rest.now < 2 ^ 31 }
     requires column { at.column + length rest.now < 2 ^ 31 }
     ensures ok { OnOk result ((tokens.new.items ≡ tokens.old.items ++ placed at rest.now (option_to_list token))
-        × (length tokens.new.items ≤ 200000)) }
+        × (length tokens.new.items ≤ token_limit)) }
     ensures err { IfErr result (λ e. IsTooMany tokens.old.items (placed at rest.now (option_to_list token)) e) }
 {
     match token {
@@ -252,8 +254,8 @@ fn put(
 
 /// Puts down the tokens at the end of a text.
 fn finish(tokens: &mut Vec<Token>, mode: Mode, at: Place) -> Result<(), Fault>
-    requires { length tokens.old.items ≤ 200000 }
-    ensures ok { OnOk result ((tokens.new.items ≡ tokens.old.items ++ ending mode at) × (length tokens.new.items ≤ 200000)) }
+    requires { length tokens.old.items ≤ token_limit }
+    ensures ok { OnOk result ((tokens.new.items ≡ tokens.old.items ++ ending mode at) × (length tokens.new.items ≤ token_limit)) }
     ensures err { IfErr result (λ e. IsTooMany tokens.old.items (ending mode at) e) }
 {
     if !is_directive(mode) {
@@ -282,7 +284,7 @@ fn refusal(bad: PieceError, at: Place, rest: &[u8]) -> Fault
 ///
 /// A text has at most 1,048,576 bytes. Time and memory grow with its length.
 pub fn lex(alloc: Global, text: &[u8]) -> Result<Vec<Token>, Fault>
-    requires { length text.now ≤ 1048576 }
+    requires { length text.now ≤ source_limit }
     ensures ok { IfOk result (λ tokens. Cut text.now tokens.items) }
     ensures err { IfErr result (IsRefused text.now) }
 

@@ -10,8 +10,6 @@ mod macros;
 mod mode;
 mod output;
 mod spaces;
-#[cfg(test)]
-mod tests;
 mod token;
 mod tokens;
 mod words;

@@ -1,23 +1,17 @@
 // Macros are replaced.
-ghost use Rattle.std.specs.Prelude.{◌≡◌, ◌+◌, ◌<◌, ◌≤◌, [], ◌∷◌, ◌++◌, IfOk, IfErr, OnOk, option_map, MatchOption, Some, false};
+ghost use Rattle.std.specs.Prelude.{◌≡◌, ◌+◌, ◌<◌, ◌≤◌, [], ◌∷◌, ◌++◌, IfOk, IfErr, OnOk, option_map, Some, false};
 ghost use Rattle.std.specs.List.{list_any};
 ghost use Rattle.xmp_lex.specs.Expand.{same, out, used, Replaces, moved, definition_of, Expanded, IsMacroRefusal};
 ghost use Rattle.xmp_lex.specs.Lines.{IsFinished, IsClosed, Closes, IsClosedBehind};
 ghost use Rattle.xmp_lex.specs.Output.{frame, frames, Puts, PutsOut, Overflows, Advances, IsFull, IsStopped, names_of, is_close, IsClosePlace, Defines, IsSecond, Steps, BreaksAt};
 ghost use Rattle.xmp_base.specs.declared.refusal.Fault.TheVariants.{NoMemory};
+ghost use Rattle.xmp_base.specs.Limits.{token_limit};
 
 use crate::definitions::{Definitions, Hidden, Use};
 use crate::output::{Output, count_name, put, refused};
 use crate::token::{Token, TokenKind};
 use std::alloc::Global;
-use xmp_base::{Fault, Place};
-
-/// The first token and those behind it.
-fn front(tokens: &[Token]) -> Option<(&Token, &[Token])>
-    ensures { MatchOption result (tokens.now ≡ []) (λ p. tokens.now ≡ p.0.now ∷ p.1.now) }
-{
-    tokens.split_first()
-}
+use xmp_base::{Fault, Place, first_and_rest};
 
 /// The use that a token is, if it is a name that is replaced.
 fn use_of<'a>(
@@ -78,13 +72,13 @@ fn advance<'a>(
     hidden: &mut Hidden<'a>,
     output: &mut Output,
 ) -> Result<(), Fault>
-    requires few { output.old.count ≤ 200000 }
+    requires few { output.old.count ≤ token_limit }
     requires names { hidden.old ≡ names_of (frames uses.old.items ++ frame current ∷ []) }
     ensures ok { OnOk result (Advances definitions.now at (frames uses.old.items ++ frame current.entry ∷ [])
         (frames uses.new.items) hidden.new output.old output.new) }
     ensures err { IfErr result (IsStopped output.old.count current.entry.rest.now at) }
 {
-    match front(current.rest) {
+    match first_and_rest(current.rest) {
         None => {
             hidden.show_last();
             Ok(())
@@ -111,7 +105,7 @@ fn keep<'a>(
     uses: &mut Vec<Use<'a>>,
     output: &mut Output,
 ) -> Result<(), Fault>
-    requires few { output.old.count ≤ 200000 }
+    requires few { output.old.count ≤ token_limit }
     ensures uses { OnOk result (uses.new.items ≡ uses.old.items ++ left.entry ∷ []) }
     ensures put { OnOk result (PutsOut (out (record { kind = kind.now; at = at }) ∷ []) output.old output.new) }
     ensures err { IfErr result (IsFull output.old.count at) }
@@ -131,7 +125,7 @@ fn enter<'a>(
     hidden: &mut Hidden<'a>,
     output: &mut Output,
 ) -> Result<(), Fault>
-    requires few { output.old.count ≤ 200000 }
+    requires few { output.old.count ≤ token_limit }
     requires shown { list_any (same inner.name.now) hidden.old ≡ false }
     ensures uses { OnOk result (uses.new.items ≡ uses.old.items ++ left.entry ∷ [] ++ inner.entry ∷ []) }
     ensures hidden { OnOk result (hidden.new ≡ hidden.old ++ inner.entry.name.now ∷ []) }
@@ -155,7 +149,7 @@ fn replace<'a>(
     at: Place,
     output: &mut Output,
 ) -> Result<(), Fault>
-    requires { output.old.count ≤ 200000 }
+    requires { output.old.count ≤ token_limit }
     ensures ok { OnOk result (Puts (Replaces definitions.now (first.entry.name.now ∷ []) (moved at first.entry.rest.now)) output.old output.new) }
     ensures err { IfErr result (Overflows (Replaces definitions.now (first.entry.name.now ∷ []) (moved at first.entry.rest.now)) output.old at) }
 {
@@ -189,7 +183,7 @@ fn put_token<'a>(
     token: &'a Token,
     output: &mut Output,
 ) -> Result<(), Fault>
-    requires { output.old.count ≤ 200000 }
+    requires { output.old.count ≤ token_limit }
     ensures ok { OnOk result (Puts (Replaces definitions.now [] (token.now ∷ [])) output.old output.new) }
     ensures err { IfErr result (Overflows (Replaces definitions.now [] (token.now ∷ [])) output.old token.now.at) }
 {
@@ -256,7 +250,7 @@ fn step<'a>(
     behind: &'a [Token],
     output: &mut Output,
 ) -> Result<&'a [Token], Fault>
-    requires few { output.old.count ≤ 200000 }
+    requires few { output.old.count ≤ token_limit }
     requires closed { IsClosedBehind token.now.kind behind.now }
     ensures ok { IfOk result (λ rest. Steps token.now.kind definitions.old definitions.new token.now behind.now rest.now output.old output.new) }
     ensures err { IfErr result (BreaksAt token.now.kind definitions.old token.now output.old) }
@@ -296,7 +290,7 @@ fn expand_all(alloc: Global, tokens: &[Token]) -> Result<Vec<Token>, Fault>
         count: 0,
     };
     let mut rest = tokens;
-    while let Some((token, behind)) = front(rest) {
+    while let Some((token, behind)) = first_and_rest(rest) {
         match step(alloc, &mut definitions, token, behind, &mut output) {
             Err(fault) => return Err(fault),
             Ok(left) => rest = left,

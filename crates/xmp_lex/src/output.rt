@@ -3,10 +3,11 @@ ghost use Rattle.std.specs.Prelude.{◌≡◌, ◌+◌, ◌≤◌, [], ◌∷◌
 ghost use Rattle.xmp_lex.specs.Expand.{out, used};
 ghost use Rattle.xmp_lex.specs.Output.{breaks_macro, IsFull, PutsOut};
 ghost use Rattle.xmp_lex.specs.declared.output.Output.{Output};
+ghost use Rattle.xmp_base.specs.Limits.{token_limit};
 
 use crate::token::{Token, TokenKind};
 use std::alloc::Global;
-use xmp_base::{Fault, Phase, Place, Refusal};
+use xmp_base::{Fault, Phase, Place, Refusal, TOKEN_LIMIT};
 
 /// The tokens so far, and how many they and the replaced names are.
 #[derive(Drop)]
@@ -28,11 +29,11 @@ pub fn refused(rule: u16, at: Place) -> Fault
 
 /// Counts a name that is replaced, where it is not one too many.
 pub fn count_name(output: &mut Output, at: Place) -> Result<(), Fault>
-    requires { output.old.count ≤ 200000 }
+    requires { output.old.count ≤ token_limit }
     ensures ok { OnOk result (PutsOut (used at ∷ []) output.old output.new) }
     ensures err { IfErr result (IsFull output.old.count at) }
 {
-    if output.count == 200000 {
+    if output.count == TOKEN_LIMIT {
         return Err(refused(2, at));
     }
     output.count += 1;
@@ -41,11 +42,11 @@ pub fn count_name(output: &mut Output, at: Place) -> Result<(), Fault>
 
 /// Puts out a token of this kind.
 pub fn put(output: &mut Output, alloc: Global, kind: &TokenKind, at: Place) -> Result<(), Fault>
-    requires { output.old.count ≤ 200000 }
+    requires { output.old.count ≤ token_limit }
     ensures ok { OnOk result (PutsOut (out (record { kind = kind.now; at = at }) ∷ []) output.old output.new) }
     ensures err { IfErr result (IsFull output.old.count at) }
 {
-    if output.count == 200000 {
+    if output.count == TOKEN_LIMIT {
         return Err(refused(2, at));
     }
     match kind.copied(alloc) {

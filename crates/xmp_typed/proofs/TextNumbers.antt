@@ -60,8 +60,8 @@ spelled_lies text n _ (mark _ x b l i q) = refl
 form_lies : (text : List ℕ) (n : ℕ) (outs : List (ℕ × TokenKind)) (x : Mode) → LineForm text n outs x → All OutLies outs
 form_lies text _ _ _ (define n k r h s o) = All-cons OutLies (n, t.Define r) [] refl (All-nil OutLies)
 form_lies text _ _ _ (include _ h s) = All-nil OutLies
-form_lies text _ _ _ (pragma n k h r w) = All-cons OutLies (0, t.Pragma) [] refl (All-nil OutLies)
-form_lies text _ _ _ (other_pragma _ k h r w) = All-nil OutLies
+form_lies text _ _ _ (pragma n x) = All-cons OutLies (0, t.Pragma) [] refl (All-nil OutLies)
+form_lies text _ _ _ (other_pragma _ w o) = All-nil OutLies
 
 close_lies : (x : Mode) → All KindLies (at_end x)
 close_lies mode.Start = All-nil KindLies

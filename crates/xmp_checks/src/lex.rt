@@ -1,19 +1,20 @@
-use super::*;
-use crate::words::{mark_text, word_text};
+// Tokens and macros: marks and reserved words are shown by the names of their variants.
+
 use std::alloc::Global;
 use std::fmt::Write;
 use std::test::Fail;
-use xmp_base::{Fault, Phase};
+use xmp_base::{Fault, Phase, SOURCE_LIMIT};
+use xmp_lex::{Token, TokenKind, expand, lex};
 use xmp_num::Ty;
 
 // Texts, and their tokens with their places, or the rule that they break.
-const LEXED: [(&[u8], &str); 47] = [
+const LEXED: [(&[u8], &str); 55] = [
     (b"", "Finish@1:1"),
-    (b"a+++b", "a@1:1 ++@1:2 +@1:4 b@1:5 Finish@1:6"),
-    (b"x<<=y>>z", "x@1:1 <<=@1:2 y@1:5 >>@1:6 z@1:8 Finish@1:9"),
+    (b"a+++b", "a@1:1 Increment@1:2 Plus@1:4 b@1:5 Finish@1:6"),
+    (b"x<<=y>>z", "x@1:1 ShlAssign@1:2 y@1:5 ShiftRight@1:6 z@1:8 Finish@1:9"),
     (
         b"int x1_;\n\treturn",
-        "int@1:1 x1_@1:5 ;@1:8 return@2:2 Finish@2:8",
+        "Int@1:1 x1_@1:5 Semicolon@1:8 Return@2:2 Finish@2:8",
     ),
     (
         b"0 07 0x1f 2147483647 2147483648 1l 0L 9223372036854775807",
@@ -25,7 +26,7 @@ const LEXED: [(&[u8], &str); 47] = [
     ),
     (
         b"\"a\\n\\t\\\\\\\"b\";",
-        "\"a\n\t\\\"b\"@1:1 ;@1:13 Finish@1:14",
+        "\"a\n\t\\\"b\"@1:1 Semicolon@1:13 Finish@1:14",
     ),
     (b"a/* b\n*/c//d\ne", "a@1:1 c@2:3 e@3:1 Finish@3:2"),
     (
@@ -40,11 +41,11 @@ const LEXED: [(&[u8], &str); 47] = [
     (b"#define N", "Define:N@1:9 Close@1:10 Finish@1:10"),
     (
         b"#define N (1)",
-        "Define:N@1:9 (@1:11 1@1:12 )@1:13 Close@1:14 Finish@1:14",
+        "Define:N@1:9 OpenParen@1:11 1@1:12 CloseParen@1:13 Close@1:14 Finish@1:14",
     ),
     (
         b" # /**/ pragma xmp nodes p[4]\n",
-        "Pragma@1:2 nodes@1:20 p@1:26 [@1:27 4@1:28 ]@1:29 Close@1:30 Finish@2:1",
+        "Pragma@1:2 nodes@1:20 p@1:26 OpenBracket@1:27 4@1:28 CloseBracket@1:29 Close@1:30 Finish@2:1",
     ),
     (
         b"#include <a \"b>\n#pragma omp \\\n 08 \"\nx",
@@ -53,7 +54,7 @@ const LEXED: [(&[u8], &str); 47] = [
     (b"#pragma once /* \n 08 */ 08\ny", "y@3:1 Finish@3:2"),
     (
         b"#define N 1 \\\n + \\\r\n 2\nN",
-        "Define:N@1:9 1@1:11 +@2:2 2@3:2 Close@3:3 N@4:1 Finish@4:2",
+        "Define:N@1:9 1@1:11 Plus@2:2 2@3:2 Close@3:3 N@4:1 Finish@4:2",
     ),
     (
         b"#define N 1 // c \\\n 2\nN",
@@ -70,6 +71,14 @@ const LEXED: [(&[u8], &str); 47] = [
     (b"a\\\n", "L1 at 1:2"),
     (b"#define N #", "L1 at 1:11"),
     (b"/* x", "L2 at 1:1"),
+    (b"#pragma /* x", "L2 at 1:9"),
+    (b"x\n # /**/ pragma /* */ /* x\n", "L2 at 2:22"),
+    (b"#pragma xmp /* x", "L2 at 1:13"),
+    (b"# /* x", "L6 at 1:1"),
+    (b"#include /* x", "L6 at 1:1"),
+    (b"#pragmatic\n#pragma", "L6 at 1:1"),
+    (b"#pragma", "Finish@1:8"),
+    (b"#pragma\\\n xmpx 08\n;", "Semicolon@3:1 Finish@3:2"),
     (b"a /*/", "L2 at 1:3"),
     (b"#include <a> /*", "L2 at 1:14"),
     (b"#define N /*", "L2 at 1:11"),
@@ -96,17 +105,17 @@ const LEXED: [(&[u8], &str); 47] = [
 // Texts, and what their macros come to.
 const EXPANDED: [(&[u8], &str); 9] = [
     (b"#define A B A\n#define B A\nA", "A@3:1 A@3:1 Finish@3:2"),
-    (b"#define N 8\nN+N", "8@2:1 +@2:2 8@2:3 Finish@2:4"),
+    (b"#define N 8\nN+N", "8@2:1 Plus@2:2 8@2:3 Finish@2:4"),
     (b"#define A B\n#define B \"b\"\n A", "\"b\"@3:2 Finish@3:3"),
     (
         b"#define A B B\n#define B A 1\nA;",
-        "A@3:1 1@3:1 A@3:1 1@3:1 ;@3:2 Finish@3:3",
+        "A@3:1 1@3:1 A@3:1 1@3:1 Semicolon@3:2 Finish@3:3",
     ),
     (b"N\n#define N 1\nN", "N@1:1 1@3:1 Finish@3:2"),
-    (b"#define N\nN;", ";@2:2 Finish@2:3"),
+    (b"#define N\nN;", "Semicolon@2:2 Finish@2:3"),
     (
         b"#define N 4\n#pragma xmp nodes p[N]\n",
-        "Pragma@2:1 nodes@2:13 p@2:19 [@2:20 4@2:21 ]@2:22 Close@2:23 Finish@3:1",
+        "Pragma@2:1 nodes@2:13 p@2:19 OpenBracket@2:20 4@2:21 CloseBracket@2:22 Close@2:23 Finish@3:1",
     ),
     (b"#define N 1\n#define N 1", "E1 at 2:9"),
     (b"#define A\n#define B A\n  #define A 2\nB", "E1 at 3:11"),
@@ -122,7 +131,7 @@ fn show(row: &mut String, bytes: &[u8]) -> Result<(), Fail> {
 fn show_kind(row: &mut String, kind: &TokenKind) -> Result<(), Fail> {
     match kind {
         TokenKind::Name(name) => show(row, name.as_slice())?,
-        TokenKind::Word(word) => show(row, word_text(*word))?,
+        TokenKind::Word(word) => write!(row, "{word:?}")?,
         TokenKind::Number(value, Ty::Int) => write!(row, "{value}")?,
         TokenKind::Number(value, Ty::Long) => write!(row, "{value}L")?,
         TokenKind::Text(text) => {
@@ -130,7 +139,7 @@ fn show_kind(row: &mut String, kind: &TokenKind) -> Result<(), Fail> {
             show(row, text.as_slice())?;
             row.push('"')?;
         }
-        TokenKind::Mark(mark) => show(row, mark_text(*mark))?,
+        TokenKind::Mark(mark) => write!(row, "{mark:?}")?,
         TokenKind::Define(name) => {
             row.push_str("Define:")?;
             show(row, name.as_slice())?;
@@ -170,7 +179,7 @@ fn show_fault(row: &mut String, fault: Fault) -> Result<(), Fail> {
 }
 
 fn show_lexed(alloc: Global, text: &[u8]) -> Result<String, Fail> {
-    if text.len() > 1048576 {
+    if text.len() > SOURCE_LIMIT {
         return Ok(String::new(alloc));
     }
     let mut row = String::new(alloc);
@@ -182,7 +191,7 @@ fn show_lexed(alloc: Global, text: &[u8]) -> Result<String, Fail> {
 }
 
 fn show_expanded(alloc: Global, text: &[u8]) -> Result<String, Fail> {
-    if text.len() > 1048576 {
+    if text.len() > SOURCE_LIMIT {
         return Ok(String::new(alloc));
     }
     let mut row = String::new(alloc);
@@ -262,13 +271,13 @@ fn limits(rt: HostRuntime) -> Result<(), Fail> {
     // behind them up to the greatest size of a source
     let expanded = [
         (31, 2, 1, "E2 at 32:1"),
-        (60000, 1, 1, ";@60001:1 Finish@60001:88579"),
+        (60000, 1, 1, "Semicolon@60001:1 Finish@60001:88579"),
         (60000, 1, 4, "E2 at 60004:1"),
         (
             60000,
             1,
             3,
-            ";@60001:1 ;@60002:1 ;@60003:1 Finish@60003:88571",
+            "Semicolon@60001:1 Semicolon@60002:1 Semicolon@60003:1 Finish@60003:88571",
         ),
     ];
     for (names, each, uses, expected) in expanded {
@@ -277,7 +286,7 @@ fn limits(rt: HostRuntime) -> Result<(), Fail> {
             text.push('\n')?;
             push_name(&mut text, names - 1)?;
         }
-        for _ in text.len()..1048576 {
+        for _ in text.len()..SOURCE_LIMIT {
             text.push(' ')?;
         }
         let row = show_expanded(rt.alloc(), text.as_bytes())?;

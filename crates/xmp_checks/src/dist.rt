@@ -1,6 +1,6 @@
 // The rows of the language's table, and each call beside a plain program that deals out and counts.
 
-use crate::{Dim, DimError, Dist, Lengths};
+use xmp_dist::{Dim, DimError, Dist, Lengths};
 
 // The greatest size of the dimensions below.
 const MOST: u32 = 7;

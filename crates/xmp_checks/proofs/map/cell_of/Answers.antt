@@ -2,7 +2,7 @@ use Rattle.std.proofs.Common.{rules, ◌≡◌, ℕ, List, [], ◌∷◌, length
 use Rattle.xmp_map.specs.Boxes.{IsInside}
 use Rattle.xmp_map.proofs.Three.{three_of}
 use Rattle.xmp_map.proofs.MapLaws.{blank, extents_are}
-use Rattle.xmp_map.proofs.tests.cell_of.Goals as goal
+use Rattle.xmp_checks.proofs.map.cell_of.Goals as goal
 
 pub returns-then-z-c : goal.returns-then-z-c
 unfolding IsInside

@@ -3,8 +3,8 @@
 ghost use Rattle.std.specs.Prelude.{IfSome};
 ghost use Rattle.xmp_map.specs.Held.{IsCell};
 
-use crate::{ArrayMap, Cell, Grid, MapError, NodeSet, Target, Template};
 use xmp_dist::{Dim, Dist, Lengths};
+use xmp_map::{ArrayMap, Cell, Grid, MapError, NodeSet, Target, Template};
 
 // The cell with these subscripts, where they are inside.
 fn cell_of(map: &ArrayMap, x: u32, y: u32, z: u32) -> Option<Cell>
@@ -140,7 +140,7 @@ const FREE: Target = Target {
 };
 
 // Arrays of one dimension over a template of one: valid ones agree, and the others are refused.
-#[tactic(auto, unfolding(crate::specs::RowMajor::product))]
+#[tactic(auto, unfolding(xmp_map::specs::RowMajor::product))]
 fn lines_agree(grid: &Grid, size: u32, dist: Dist) -> bool {
     let Ok(template) = Template::new(grid, &[size], &[dist]) else {
         return false;
@@ -177,7 +177,7 @@ fn lines_agree(grid: &Grid, size: u32, dist: Dist) -> bool {
 }
 
 // Arrays of two dimensions over a template of three, of which the middle one is undistributed.
-#[tactic(auto, unfolding(crate::specs::RowMajor::product))]
+#[tactic(auto, unfolding(xmp_map::specs::RowMajor::product))]
 fn boxes_agree(grid: &Grid, first: Dist, last: Dist, width: u32) -> bool {
     let Ok(template) = Template::new(grid, &[3, 2, 4], &[first, Dist::Whole, last]) else {
         return false;
@@ -268,7 +268,7 @@ fn stored(map: &ArrayMap, node: u32, x: u32, y: u32) -> Option<(u32, Option<u32>
 }
 
 #[test]
-#[tactic(auto, unfolding(crate::specs::RowMajor::product))]
+#[tactic(auto, unfolding(xmp_map::specs::RowMajor::product))]
 fn rows(rt: HostRuntime) {
     let (Ok(line), Ok(square)) = (Grid::new(&[4]), Grid::new(&[2, 2])) else {
         assert!(&rt; false);
