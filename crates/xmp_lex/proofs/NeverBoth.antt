@@ -2,6 +2,8 @@
 use Rattle.std.proofs.Common.{◌≡◌, ◌≢◌, ◌<◌, ◌≤◌, ◌++◌, ℕ, List, [], ◌∷◌, length, take, drop, get_or, refl, sym, ap, ◌∙◌, arith, subst, true, false, ◌⊎◌, inl, inr, Some, length-append, slice_get}
 use Rattle.std.proofs.lemmas.Option.{slice_get_within}
 use Rattle.xmp_base.specs.Limits.{token_limit}
+use Rattle.xmp_base.specs.declared.refusal.Fault.{Fault}
+use Rattle.xmp_base.specs.declared.refusal.Fault.TheVariants as fault
 use Rattle.xmp_lex.specs.declared.token.Token.{Token}
 use Rattle.xmp_base.specs.declared.place.Place.{Place}
 use Rattle.xmp_lex.specs.declared.token.TokenKind.{TokenKind}
@@ -12,7 +14,7 @@ use Rattle.xmp_lex.specs.Bytes.{is_white, is_digit, is_letter, is_word, IsNumber
 use Rattle.xmp_lex.specs.Words.{mark_text, BeginsWith}
 use Rattle.xmp_lex.specs.Pieces.{Spelled, name, word, number, quoted, mark, Malformed, stray, unknown_escape, unclosed, no_number, Comment, block, line, Unclosed, LineSpace, IsBlockStart, IsLineStart}
 use Rattle.xmp_lex.specs.Pieces as p
-use Rattle.xmp_lex.specs.Cut.{Piece, white, comment, token, hash, line_space, skip, close, Broken, unclosed_comment, no_form, no_token, IsHashLine, Front, start, after, placed, behind, Cuts, none, piece, Cut, BreaksLexRule, broken, too_many, too_many_last, last, ending}
+use Rattle.xmp_lex.specs.Cut.{IsRefused, Piece, white, comment, token, hash, line_space, skip, close, Broken, unclosed_comment, no_form, no_token, IsHashLine, Front, start, after, placed, behind, Cuts, none, piece, Cut, BreaksLexRule, broken, too_many, too_many_last, last, ending}
 use Rattle.xmp_lex.proofs.SpaceLemmas as sp
 use Rattle.xmp_lex.proofs.Unique.{one_run, class, class_of, first_class}
 use Rattle.xmp_lex.proofs.OnePiece.{first_fine, fine, one_piece}
@@ -196,6 +198,11 @@ never_both text tokens rule at c (too_many_last g bad d few zr s) =
     let w : 200000 < length (last g) = slice_get_within (last g) token_limit bad s in
     let same : c.front ≡ g = elim (linear (start text) c.front g (ahead text c.front c.cuts) (ahead text g d)) [ inl r ↦ stops c.front g z r | inr r ↦ sym (stops g c.front y r) ] in
     let e = ap length c.tokens_are in let h = ap (λ (v : Front). length (last v)) same in let f = c.few in omega arith
+
+-- where a text is cut, no refusal is answered
+pub only_memory : (text : List ℕ) (tokens : List Token) (e : Fault) → Cut text tokens → IsRefused text e → e ≡ fault.NoMemory
+only_memory text tokens fault.NoMemory c b = refl
+only_memory text tokens (fault.Refused r) c b = absurd (never_both text tokens r.rule r.at c b.1)
 
 pub one_cut : (text : List ℕ) (tokens others : List Token) → Cut text tokens → Cut text others → tokens ≡ others
 one_cut text tokens others c d =

@@ -1,9 +1,11 @@
 //! A text cut into tokens.
-ghost use Rattle.std.specs.Prelude.{◌≡◌, ◌≢◌, ◌+◌, ◌<◌, ◌≤◌, ℕ, IfOk, IfErr, IfSome, option_to_list, OnOk, [], ◌∷◌, length, slice_index, false, true, ◌++◌, ◌==◌, None, ◌^◌};
+ghost use Rattle.std.specs.Prelude.{List, ◌≡◌, ◌≢◌, ◌+◌, ◌<◌, ◌≤◌, ℕ, IfOk, IfErr, IfSome, option_to_list, OnOk, [], ◌∷◌, length, slice_index, false, true, ◌++◌, ◌==◌, None, ◌^◌};
 ghost use Rattle.xmp_lex.specs.Bytes.{is_white};
 ghost use Rattle.xmp_lex.specs.Pieces.{Splice, IsBlockStart, IsLineStart};
 ghost use Rattle.xmp_lex.specs.Found.{IsLineSpace};
 ghost use Rattle.xmp_lex.specs.declared.spaces.Found.TheVariants.{Nothing};
+ghost use Rattle.xmp_base.specs.declared.refusal.Fault.TheVariants as fault;
+ghost use Rattle.xmp_lex.specs.declared.token.Token.{Token};
 ghost use Rattle.xmp_lex.specs.declared.mode.Mode.TheVariants.{Start, Directive, Ignored};
 ghost use Rattle.xmp_lex.specs.Lines.{IsFinished, IsClosed};
 ghost use Rattle.xmp_lex.specs.Cut.{IsRefused, Cut, behind, step, behind_white, behind_token, IsOutside, placed, ending};
@@ -287,10 +289,19 @@ pub fn lex(alloc: Global, text: &[u8]) -> Result<Vec<Token>, Fault>
     requires { length text.now ≤ source_limit }
     ensures ok { IfOk result (λ tokens. Cut text.now tokens.items) }
     ensures err { IfErr result (IsRefused text.now) }
+    ensures no_other { (tokens : List Token) → Cut text.now tokens → IfErr result (λ e. e ≡ fault.NoMemory) }
 
     // What `expand` asks for.
     ensures finished { IfOk result (λ tokens. IsFinished tokens.items) }
     ensures closed { IfOk result (λ tokens. IsClosed tokens.items) }
+{
+    cut_all(alloc, text)
+}
+
+fn cut_all(alloc: Global, text: &[u8]) -> Result<Vec<Token>, Fault>
+    requires { length text.now ≤ source_limit }
+    ensures ok { IfOk result (λ tokens. Cut text.now tokens.items) }
+    ensures err { IfErr result (IsRefused text.now) }
 {
     let mut tokens: Vec<Token> = Vec::new(alloc);
     let mut rest = text;

@@ -17,7 +17,7 @@ pub fn token_places()
 {}
 
 /// No text is both cut and refused.
-pub fn cut_or_refused()
+pub fn never_cut_and_refused()
     ensures { (text : List ℕ) (tokens : List Token) (rule : ℕ) (at : Place) → Cut text tokens → BreaksLexRule text rule at → ⊥ }
 {}
 
@@ -38,7 +38,7 @@ pub fn one_expansion()
 {}
 
 /// No tokens are both expanded and refused.
-pub fn expanded_or_refused()
+pub fn never_expanded_and_refused()
     ensures { (tokens result : List Token) (rule : ℕ) (at : Place) → Expanded tokens result → BreaksMacros tokens rule at → ⊥ }
 {}
 

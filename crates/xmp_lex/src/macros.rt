@@ -1,7 +1,8 @@
 // Macros are replaced.
-ghost use Rattle.std.specs.Prelude.{◌≡◌, ◌+◌, ◌<◌, ◌≤◌, [], ◌∷◌, ◌++◌, IfOk, IfErr, OnOk, option_map, Some, false};
+ghost use Rattle.std.specs.Prelude.{List, ◌≡◌, ◌+◌, ◌<◌, ◌≤◌, [], ◌∷◌, ◌++◌, IfOk, IfErr, OnOk, option_map, Some, false};
 ghost use Rattle.std.specs.List.{list_any};
 ghost use Rattle.xmp_lex.specs.Expand.{same, out, used, Replaces, moved, definition_of, Expanded, IsMacroRefusal};
+ghost use Rattle.xmp_lex.specs.declared.token.Token.{Token};
 ghost use Rattle.xmp_lex.specs.Lines.{IsFinished, IsClosed, Closes, IsClosedBehind};
 ghost use Rattle.xmp_lex.specs.Output.{frame, frames, Puts, PutsOut, Overflows, Advances, IsFull, IsStopped, names_of, is_close, IsClosePlace, Defines, IsSecond, Steps, BreaksAt};
 ghost use Rattle.xmp_base.specs.declared.refusal.Fault.TheVariants.{NoMemory};
@@ -272,6 +273,7 @@ pub fn expand(alloc: Global, tokens: Vec<Token>) -> Result<Vec<Token>, Fault>
     requires closed { IsClosed tokens.items }
     ensures ok { IfOk result (λ expanded. Expanded tokens.items expanded.items) }
     ensures err { IfErr result (IsMacroRefusal tokens.items) }
+    ensures no_other { (expanded : List Token) → Expanded tokens.items expanded → IfErr result (λ e. e ≡ NoMemory) }
     ensures finished { IfOk result (λ expanded. IsFinished expanded.items) }
 {
     expand_all(alloc, tokens.as_slice())

@@ -1,6 +1,6 @@
 use Rattle.std.proofs.Common.{length}
 use Rattle.xmp_lex.proofs.CutLemmas.{In}
-use Rattle.xmp_lex.proofs.cut.lex.Given as goal
+use Rattle.xmp_lex.proofs.cut.cut_all.Given as goal
 
 abbrev pub invariant-loop-rest : goal.invariant-loop-rest
 invariant-loop-rest l = In l.text l.tokens.items l.at l.mode l.rest
