@@ -11,7 +11,10 @@ use xmp_num::Ty;
 const LEXED: [(&[u8], &str); 55] = [
     (b"", "Finish@1:1"),
     (b"a+++b", "a@1:1 Increment@1:2 Plus@1:4 b@1:5 Finish@1:6"),
-    (b"x<<=y>>z", "x@1:1 ShlAssign@1:2 y@1:5 ShiftRight@1:6 z@1:8 Finish@1:9"),
+    (
+        b"x<<=y>>z",
+        "x@1:1 ShlAssign@1:2 y@1:5 ShiftRight@1:6 z@1:8 Finish@1:9",
+    ),
     (
         b"int x1_;\n\treturn",
         "Int@1:1 x1_@1:5 Semicolon@1:8 Return@2:2 Finish@2:8",

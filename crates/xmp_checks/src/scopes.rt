@@ -80,10 +80,7 @@ fn sixty_thousand_names_are_hidden_and_found_again(rt: HostRuntime) -> Result<()
     for n in 0..60_000u32 {
         let name = n.to_le_bytes();
         assert_eq!(rt; scopes.look_up(name.as_slice()), Some(n));
-        assert_eq!(rt;
-            scopes.declare(alloc, name.as_slice(), n + 1),
-            Ok(())
-        );
+        assert_eq!(rt; scopes.declare(alloc, name.as_slice(), n + 1), Ok(()));
         assert_eq!(rt; scopes.look_up(name.as_slice()), Some(n + 1));
     }
     scopes.close();

@@ -8,4 +8,4 @@
 mod current;
 mod scopes;
 
-pub use scopes::{Novelty, Scopes};
+pub use scopes::Scopes;

@@ -1,18 +1,11 @@
 // The open scopes.
-ghost use Rattle.std.specs.Prelude.{◌≡◌, ◌↔◌, OnOk, OnErr, IfOk, IsNone, [], ◌∷◌, drop, length};
-ghost use Rattle.xmp_scopes.specs.Names.{declare, nearest, depth_of, is_declared_here, novelty, IsUndeclared};
+ghost use Rattle.std.specs.Prelude.{◌≡◌, ◌↔◌, OnOk, OnErr, IsNone, [], ◌∷◌, drop, length};
+ghost use Rattle.xmp_scopes.specs.Names.{declare, nearest, depth_of, is_declared_here, IsUndeclared};
 
 use crate::current::{Current, Held};
 use std::alloc::Global;
 use std::marker::Model;
 use xmp_base::{Bytes, NoMemory};
-
-/// Whether a declaration is the first of its name in its scope.
-#[derive(Clone, Copy, Debug, PartialEq, Eq)]
-pub enum Novelty {
-    First,
-    Repeated,
-}
 
 // A scope was opened; or a name was declared, which until then had the declaration that is now hidden.
 #[derive(Drop)]
@@ -114,21 +107,13 @@ impl<M: Copy> Scopes<M> {
 
     /// Declares a name in the innermost scope, which it opens where none is open, or changes nothing. It hides every
     /// other declaration of the name, also one in the same scope. Takes constant time on average.
-    pub fn declare(&mut self, alloc: Global, name: &[u8], meaning: M) -> Result<Novelty, NoMemory>
+    pub fn declare(&mut self, alloc: Global, name: &[u8], meaning: M) -> Result<(), NoMemory>
         ensures ok { OnOk result (self.new ≡ declare name.now meaning self.old) }
-        ensures novelty { IfOk result (λ n. n ≡ novelty name.now self.old) }
         ensures err { OnErr result (self.new ≡ self.old) }
     {
         let hidden = self.current.get(name);
-        let novelty = if self.is_declared_here(name) {
-            Novelty::Repeated
-        } else {
-            Novelty::First
-        };
-        let mut copy = Bytes::new(alloc);
-        copy.push_all(name)?;
         let step = Step::Declared {
-            name: copy,
+            name: Bytes::copy_of(alloc, name)?,
             meaning,
             hidden,
         };
@@ -139,7 +124,7 @@ impl<M: Copy> Scopes<M> {
         match self.current.set(alloc, name, Some(Held { depth, meaning })) {
             Ok(()) => {
                 self.depth = depth;
-                Ok(novelty)
+                Ok(())
             }
             Err(error) => {
                 self.steps.pop();

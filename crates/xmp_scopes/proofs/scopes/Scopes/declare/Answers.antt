@@ -10,9 +10,9 @@ pub invariant_of-self-in-Ok-set : goal.invariant_of-self-in-Ok-set
 invariant_of-self-in-Ok-set g c =
     let rest : List (Step g.row.M.Denot) = reverse c.self.inside.steps.items in
     let step : Step g.row.M.Denot = Declared c.args.name.now c.args.meaning c.get-hidden.result in
-    let copied : c.push_all.new.self ≡ c.args.name.now = c.in_ok-push_all.ensures.ok ∙ ap (λ k. k ++ c.args.name.now) c.new-copy.ensures in
+    let copied : c.in_ok-copy_of.field-0 ≡ c.args.name.now = c.in_ok-copy_of.ensures in
     let now : reverse c.push.new.self.items ≡ step ∷ rest =
-    ap reverse c.in-Ok.ensures.items ∙ last_first c.self.inside.steps.items (Declared c.push_all.new.self c.args.meaning c.get-hidden.result)
+    ap reverse c.in-Ok.ensures.items ∙ last_first c.self.inside.steps.items (Declared c.in_ok-copy_of.field-0 c.args.meaning c.get-hidden.result)
     ∙ ap (λ k. Declared k c.args.meaning c.get-hidden.result ∷ rest) copied in
     let depth : c.max-depth.result ≡ length (declare c.args.name.now c.args.meaning (scopes_of rest)) =
     c.max-depth.ensures ∙ ap (λ k. max k 1) c.self.invariant.depths ∙ sym (length-declare c.args.name.now c.args.meaning (scopes_of rest)) in
