@@ -1,5 +1,6 @@
 pub mod Bytes
 pub mod Words
+pub mod LineStates
 pub mod Pieces
 pub mod Cut
 pub mod Found

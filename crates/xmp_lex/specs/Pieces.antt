@@ -7,8 +7,8 @@ use Rattle.xmp_lex.specs.declared.token.Mark.{Mark}
 use Rattle.xmp_lex.specs.declared.token.Reserved.{Reserved}
 use Rattle.xmp_num.specs.declared.types.Ty.{Ty}
 use Rattle.xmp_num.specs.declared.types.Ty.TheVariants as ty
-use Rattle.xmp_lex.specs.declared.mode.Mode.{Mode}
-use Rattle.xmp_lex.specs.declared.mode.Mode.TheVariants as mode
+use Rattle.xmp_lex.specs.LineStates.{LineState}
+use Rattle.xmp_lex.specs.LineStates as state
 use Rattle.xmp_lex.specs.Bytes.{is_white, is_digit, is_letter, is_word, IsRun, IsLine, IsBlock, IsTextEnd, IsBadEscape, content, IsNumber, has_suffix, IsClose}
 use Rattle.xmp_lex.specs.Words.{IsMark, word_text, mark_text, BeginsWith}
 
@@ -107,8 +107,8 @@ pub record XmpHead (text : List ℕ) (n : ℕ) : Type 0 where
 
 -- A `#` line by its form: n bytes of it, the tokens that they give and where, and how the line goes on. `#pragma` is one with anything
 -- behind it.
-pub data LineForm (text : List ℕ) : ℕ → List (ℕ × TokenKind) → Mode → Type 0 where
-  define : (n k : ℕ) (r : List ℕ) → LineHead text n (codes "define") → Spelled (drop n text) k (t.Name r) → slice_index (drop n text) k ≢ 40 → LineForm text (n + k) ((n, t.Define r) ∷ []) mode.Directive
-  include : (n : ℕ) → LineHead text n (codes "include") → slice_index (drop n text) 0 ≡ 60 → LineForm text n [] mode.Ignored
-  pragma : (n : ℕ) → XmpHead text n → LineForm text n ((0, t.Pragma) ∷ []) mode.Directive
-  other_pragma : (n : ℕ) → LineWord text n (codes "pragma") → ((k : ℕ) → XmpHead text k → ⊥) → LineForm text n [] mode.Ignored
+pub data LineForm (text : List ℕ) : ℕ → List (ℕ × TokenKind) → LineState → Type 0 where
+  define : (n k : ℕ) (r : List ℕ) → LineHead text n (codes "define") → Spelled (drop n text) k (t.Name r) → slice_index (drop n text) k ≢ 40 → LineForm text (n + k) ((n, t.Define r) ∷ []) state.directive
+  include : (n : ℕ) → LineHead text n (codes "include") → slice_index (drop n text) 0 ≡ 60 → LineForm text n [] state.ignored
+  pragma : (n : ℕ) → XmpHead text n → LineForm text n ((0, t.Pragma) ∷ []) state.directive
+  other_pragma : (n : ℕ) → LineWord text n (codes "pragma") → ((k : ℕ) → XmpHead text k → ⊥) → LineForm text n [] state.ignored

@@ -6,10 +6,10 @@ ghost use Rattle.xmp_lex.specs.Found.{IsLineSpace};
 ghost use Rattle.xmp_lex.specs.declared.spaces.Found.TheVariants.{Nothing};
 ghost use Rattle.xmp_base.specs.declared.refusal.Fault.TheVariants as fault;
 ghost use Rattle.xmp_lex.specs.declared.token.Token.{Token};
-ghost use Rattle.xmp_lex.specs.declared.mode.Mode.TheVariants.{Start, Directive, Ignored};
+ghost use Rattle.xmp_lex.specs.LineStates.{fresh, directive, ignored, IsOutside, behind_white, behind_token};
 ghost use Rattle.xmp_lex.specs.Lines.{IsFinished, IsClosed};
-ghost use Rattle.xmp_lex.specs.Cut.{IsRefused, Cut, behind, step, behind_white, behind_token, IsOutside, placed, ending};
-ghost use Rattle.xmp_lex.specs.Found.{IsPiece, IsBroken, IsTooMany, IsWithin, refusal, is_directive, breaks};
+ghost use Rattle.xmp_lex.specs.Cut.{IsRefused, Cut, behind, step, placed, ending};
+ghost use Rattle.xmp_lex.specs.Found.{state_of, IsPiece, IsBroken, IsTooMany, IsWithin, refusal, is_directive, breaks};
 ghost use Rattle.xmp_base.specs.Limits.{token_limit, source_limit};
 
 use crate::bytes::{byte_at, from, front, is_white};
@@ -41,15 +41,15 @@ pub fn gives_nothing(length: usize, mode: Mode) -> NextPiece
 }
 
 fn plain(alloc: Global, mode: Mode, text: &[u8]) -> Result<NextPiece, PieceError>
-    requires mode { mode ≢ Ignored }
-    requires hash { mode ≡ Start → slice_index text.now 0 ≢ 35 }
-    requires splice { mode ≡ Directive → (n : ℕ) → Splice text.now n → ⊥ }
+    requires mode { state_of mode ≢ ignored }
+    requires hash { state_of mode ≡ fresh → slice_index text.now 0 ≢ 35 }
+    requires splice { state_of mode ≡ directive → (n : ℕ) → Splice text.now n → ⊥ }
     requires block { IsBlockStart text.now → ⊥ }
     requires line { IsLineStart text.now → ⊥ }
     requires some { 0 < length text.now }
     requires white { is_white (slice_index text.now 0) ≡ false }
-    ensures ok { IfOk result (λ c. IsPiece text.now mode c) }
-    ensures err { IfErr result (λ e. IsBroken text.now mode e) }
+    ensures ok { IfOk result (λ c. IsPiece text.now (state_of mode) c) }
+    ensures err { IfErr result (λ e. IsBroken text.now (state_of mode) e) }
 {
     match token_at(alloc, text) {
         Err(bad) => Err(bad),
@@ -63,12 +63,12 @@ fn plain(alloc: Global, mode: Mode, text: &[u8]) -> Result<NextPiece, PieceError
 
 /// A piece outside of `#` lines, behind its comments.
 fn outside(alloc: Global, mode: Mode, text: &[u8]) -> Result<NextPiece, PieceError>
-    requires mode { IsOutside mode }
+    requires mode { IsOutside (state_of mode) }
     requires block { IsBlockStart text.now → ⊥ }
     requires line { IsLineStart text.now → ⊥ }
     requires some { 0 < length text.now }
-    ensures ok { IfOk result (λ c. IsPiece text.now mode c) }
-    ensures err { IfErr result (λ e. IsBroken text.now mode e) }
+    ensures ok { IfOk result (λ c. IsPiece text.now (state_of mode) c) }
+    ensures err { IfErr result (λ e. IsBroken text.now (state_of mode) e) }
 {
     let first = byte_at(text, 0);
     if is_white(first) {
@@ -81,8 +81,8 @@ fn outside(alloc: Global, mode: Mode, text: &[u8]) -> Result<NextPiece, PieceErr
 }
 
 fn is_start(mode: Mode) -> bool
-    ensures yes { result ≡ true → mode ≡ Start }
-    ensures no { result ≡ false → mode ≢ Start }
+    ensures yes { result ≡ true → state_of mode ≡ fresh }
+    ensures no { result ≡ false → state_of mode ≢ fresh }
 {
     match mode {
         Mode::Start => true,
@@ -91,7 +91,7 @@ fn is_start(mode: Mode) -> bool
 }
 
 fn behind_white(mode: Mode, byte: u8) -> Mode
-    ensures { result ≡ behind_white mode (byte == 10) }
+    ensures { state_of result ≡ behind_white (state_of mode) (byte == 10) }
 {
     if byte == b'\n' { Mode::Start } else { mode }
 }
@@ -100,8 +100,8 @@ fn behind_white(mode: Mode, byte: u8) -> Mode
 fn in_line(alloc: Global, text: &[u8]) -> Result<NextPiece, PieceError>
     requires line_space { IsLineSpace text.now Nothing }
     requires some { 0 < length text.now }
-    ensures ok { IfOk result (λ c. IsPiece text.now Directive c) }
-    ensures err { IfErr result (λ e. IsBroken text.now Directive e) }
+    ensures ok { IfOk result (λ c. IsPiece text.now directive c) }
+    ensures err { IfErr result (λ e. IsBroken text.now directive e) }
 {
     if byte_at(text, 0) == b'\n' {
         return Ok(NextPiece {
@@ -116,7 +116,7 @@ fn in_line(alloc: Global, text: &[u8]) -> Result<NextPiece, PieceError>
 fn ignored(text: &[u8]) -> NextPiece
     requires line_space { IsLineSpace text.now Nothing }
     requires some { 0 < length text.now }
-    ensures { IsPiece text.now Ignored result }
+    ensures { IsPiece text.now ignored result }
 {
     if byte_at(text, 0) == b'\n' {
         gives_nothing(1, Mode::Start)
@@ -128,8 +128,8 @@ fn ignored(text: &[u8]) -> NextPiece
 /// The piece at the front of a text.
 pub fn piece_at(alloc: Global, mode: Mode, text: &[u8]) -> Result<NextPiece, PieceError>
     requires { 0 < length text.now }
-    ensures ok { IfOk result (λ c. IsPiece text.now mode c) }
-    ensures err { IfErr result (λ e. IsBroken text.now mode e) }
+    ensures ok { IfOk result (λ c. IsPiece text.now (state_of mode) c) }
+    ensures err { IfErr result (λ e. IsBroken text.now (state_of mode) e) }
 {
     match mode {
         Mode::Start => piece_outside(alloc, Mode::Start, text),
@@ -148,10 +148,10 @@ pub fn piece_at(alloc: Global, mode: Mode, text: &[u8]) -> Result<NextPiece, Pie
 }
 
 fn piece_outside(alloc: Global, mode: Mode, text: &[u8]) -> Result<NextPiece, PieceError>
-    requires mode { IsOutside mode }
+    requires mode { IsOutside (state_of mode) }
     requires some { 0 < length text.now }
-    ensures ok { IfOk result (λ c. IsPiece text.now mode c) }
-    ensures err { IfErr result (λ e. IsBroken text.now mode e) }
+    ensures ok { IfOk result (λ c. IsPiece text.now (state_of mode) c) }
+    ensures err { IfErr result (λ e. IsBroken text.now (state_of mode) e) }
 {
     match comment(text) {
         Found::Unclosed => Err(PieceError::Rule(2, 0)),
@@ -161,7 +161,7 @@ fn piece_outside(alloc: Global, mode: Mode, text: &[u8]) -> Result<NextPiece, Pi
 }
 
 fn behind_token(mode: Mode) -> Mode
-    ensures { result ≡ behind_token mode }
+    ensures { state_of result ≡ behind_token (state_of mode) }
 {
     match mode {
         Mode::Start => Mode::Middle,
@@ -257,8 +257,8 @@ fn put(
 /// Puts down the tokens at the end of a text.
 fn finish(tokens: &mut Vec<Token>, mode: Mode, at: Place) -> Result<(), Fault>
     requires { length tokens.old.items ≤ token_limit }
-    ensures ok { OnOk result ((tokens.new.items ≡ tokens.old.items ++ ending mode at) × (length tokens.new.items ≤ token_limit)) }
-    ensures err { IfErr result (λ e. IsTooMany tokens.old.items (ending mode at) e) }
+    ensures ok { OnOk result ((tokens.new.items ≡ tokens.old.items ++ ending (state_of mode) at) × (length tokens.new.items ≤ token_limit)) }
+    ensures err { IfErr result (λ e. IsTooMany tokens.old.items (ending (state_of mode) at) e) }
 {
     if !is_directive(mode) {
         return push(tokens, TokenKind::Finish, at);

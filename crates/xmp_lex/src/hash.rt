@@ -1,6 +1,6 @@
 //! `#` lines.
 ghost use Rattle.std.specs.Prelude.{ℕ, ◌≡◌, ◌+◌, ◌<◌, ◌≤◌, IfOk, IfErr, length, slice_index, drop, codes, true, false, ◌≢◌};
-ghost use Rattle.xmp_lex.specs.declared.mode.Mode.TheVariants.{Start};
+ghost use Rattle.xmp_lex.specs.LineStates.{fresh};
 ghost use Rattle.xmp_lex.specs.Pieces.{LineSpaces, LineWord, LineHead};
 ghost use Rattle.xmp_lex.specs.Found.{IsPiece, IsBroken};
 
@@ -18,8 +18,8 @@ use xmp_base::Bytes;
 pub fn hash(alloc: Global, text: &[u8]) -> Result<NextPiece, PieceError>
     requires begins { slice_index text.now 0 ≡ 35 }
     requires some { 0 < length text.now }
-    ensures ok { IfOk result (λ c. IsPiece text.now Start c) }
-    ensures err { IfErr result (λ e. IsBroken text.now Start e) }
+    ensures ok { IfOk result (λ c. IsPiece text.now fresh c) }
+    ensures err { IfErr result (λ e. IsBroken text.now fresh e) }
 {
     match line_spaces(from(text, 1)) {
         None => Err(PieceError::Rule(6, 0)),
@@ -31,8 +31,8 @@ fn behind_hash(alloc: Global, text: &[u8], first: usize) -> Result<NextPiece, Pi
     requires begins { slice_index text.now 0 ≡ 35 }
     requires line_spaces { LineSpaces (drop 1 text.now) first }
     requires within { 1 + first ≤ length text.now }
-    ensures ok { IfOk result (λ c. IsPiece text.now Start c) }
-    ensures err { IfErr result (λ e. IsBroken text.now Start e) }
+    ensures ok { IfOk result (λ c. IsPiece text.now fresh c) }
+    ensures err { IfErr result (λ e. IsBroken text.now fresh e) }
 {
     let on = from(text, 1 + first);
     let n = run(on);
@@ -43,8 +43,8 @@ fn behind_hash(alloc: Global, text: &[u8], first: usize) -> Result<NextPiece, Pi
 fn behind_word(alloc: Global, text: &[u8], n: usize, word: &[u8]) -> Result<NextPiece, PieceError>
     requires line_word { LineWord text.now n word.now }
     requires within { n ≤ length text.now }
-    ensures ok { IfOk result (λ c. IsPiece text.now Start c) }
-    ensures err { IfErr result (λ e. IsBroken text.now Start e) }
+    ensures ok { IfOk result (λ c. IsPiece text.now fresh c) }
+    ensures err { IfErr result (λ e. IsBroken text.now fresh e) }
 {
     match line_spaces(from(text, n)) {
         Some(second) => form(alloc, text, n, n + second, word),
@@ -57,8 +57,8 @@ fn unclosed(text: &[u8], n: usize, word: &[u8]) -> Result<NextPiece, PieceError>
     requires line_word { LineWord text.now n word.now }
     requires open { (k : ℕ) → LineSpaces (drop n text.now) k → ⊥ }
     requires within { n ≤ length text.now }
-    ensures ok { IfOk result (λ c. IsPiece text.now Start c) }
-    ensures err { IfErr result (λ e. IsBroken text.now Start e) }
+    ensures ok { IfOk result (λ c. IsPiece text.now fresh c) }
+    ensures err { IfErr result (λ e. IsBroken text.now fresh e) }
 {
     if is(word, b"pragma".as_slice()) {
         Ok(gives_nothing(n, Mode::Ignored))
@@ -85,8 +85,8 @@ fn form(
     requires line_word { LineWord text.now n word.now }
     requires head { LineHead text.now m word.now }
     requires within { m ≤ length text.now }
-    ensures ok { IfOk result (λ c. IsPiece text.now Start c) }
-    ensures err { IfErr result (λ e. IsBroken text.now Start e) }
+    ensures ok { IfOk result (λ c. IsPiece text.now fresh c) }
+    ensures err { IfErr result (λ e. IsBroken text.now fresh e) }
 {
     if is(word, b"define".as_slice()) {
         return define(alloc, text, m);
@@ -103,8 +103,8 @@ fn form(
 fn include(text: &[u8], n: usize) -> Result<NextPiece, PieceError>
     requires head { LineHead text.now n (codes "include") }
     requires within { n ≤ length text.now }
-    ensures ok { IfOk result (λ c. IsPiece text.now Start c) }
-    ensures err { IfErr result (λ e. IsBroken text.now Start e) }
+    ensures ok { IfOk result (λ c. IsPiece text.now fresh c) }
+    ensures err { IfErr result (λ e. IsBroken text.now fresh e) }
 {
     if byte_at(from(text, n), 0) == b'<' {
         Ok(gives_nothing(n, Mode::Ignored))
@@ -117,7 +117,7 @@ fn pragma(text: &[u8], n: usize, m: usize) -> NextPiece
     requires line_word { LineWord text.now n (codes "pragma") }
     requires head { LineHead text.now m (codes "pragma") }
     requires within { m ≤ length text.now }
-    ensures { IsPiece text.now Start result }
+    ensures { IsPiece text.now fresh result }
 {
     let after = from(text, m);
     let k = run(after);
@@ -135,8 +135,8 @@ fn pragma(text: &[u8], n: usize, m: usize) -> NextPiece
 fn define(alloc: Global, text: &[u8], n: usize) -> Result<NextPiece, PieceError>
     requires head { LineHead text.now n (codes "define") }
     requires within { n ≤ length text.now }
-    ensures ok { IfOk result (λ c. IsPiece text.now Start c) }
-    ensures err { IfErr result (λ e. IsBroken text.now Start e) }
+    ensures ok { IfOk result (λ c. IsPiece text.now fresh c) }
+    ensures err { IfErr result (λ e. IsBroken text.now fresh e) }
 {
     let after = from(text, n);
     if !is_letter(byte_at(after, 0)) {
