@@ -243,7 +243,7 @@ broken_one text x r s k j (no_token _ _ _ i h z q) (unclosed_comment _ o) = absu
 broken_one text x r s k j (no_token _ _ _ i h z q) (no_form e f) = absurd (h refl e)
 broken_one text x r s k j (no_token _ _ _ i h z q) (no_token _ _ _ i2 h2 z2 q2) = malformed_one text r s k j q q2
 
-meet : (text : List ℕ) (f g : Front) → Cuts text f → Cuts text g → Reach f g ⊎ Reach g f
+pub meet : (text : List ℕ) (f g : Front) → Cuts text f → Cuts text g → Reach f g ⊎ Reach g f
 meet text f g c d = linear (start text) f g (ahead text f c) (ahead text g d)
 
 some_same : (a b : Token) → Some a ≡ Some b → a ≡ b

@@ -1,10 +1,17 @@
 // Laws of the tokens and of the macros of a text.
-ghost use Rattle.std.specs.Prelude.{◌≡◌, ℕ, List, [], All};
+ghost use Rattle.std.specs.Prelude.{◌≡◌, ◌↔◌, ℕ, List, [], All};
 ghost use Rattle.xmp_base.specs.declared.place.Place.{Place};
 ghost use Rattle.xmp_lex.specs.declared.token.Token.{Token};
-ghost use Rattle.xmp_lex.specs.Cut.{Cut, BreaksLexRule, IsPlaceOf};
+ghost use Rattle.xmp_lex.specs.Cut.{Front, Cuts, Cut, BreaksLexRule, IsPlaceOf};
+ghost use Rattle.xmp_lex.specs.LineStates.{fresh};
+ghost use Rattle.xmp_lex.specs.LineStarts.{StandsFirst};
 ghost use Rattle.xmp_lex.specs.Expand.{Event, Expands, Expanded, BreaksMacros};
 ghost use Rattle.xmp_lex.specs.Lines.{IsClosed};
+
+/// A `#` may begin a `#` line exactly where only white space and comments stand on its line.
+pub fn fresh_line()
+    ensures { (text : List ℕ) (f : Front) → Cuts text f → (f.state ≡ fresh) ↔ StandsFirst text f }
+{}
 
 /// A text is cut in at most one way.
 pub fn one_cut()

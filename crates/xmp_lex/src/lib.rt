@@ -16,7 +16,7 @@ mod words;
 
 pub use cut::lex;
 pub use laws::{
-    never_cut_and_refused, never_expanded_and_refused, one_cut, one_expansion, one_lex_refusal,
+    fresh_line, never_cut_and_refused, never_expanded_and_refused, one_cut, one_expansion, one_lex_refusal,
     one_macro_refusal, some_expansion, token_places,
 };
 pub use macros::expand;
