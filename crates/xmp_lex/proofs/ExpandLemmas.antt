@@ -102,12 +102,12 @@ text_next tokens known new x behind rest old output i (t.Mark m) e s = text_put 
 text_next tokens known new x behind rest old output i (t.Define name) e s =
     let d = s.0 in record {
       sofar = i.sofar;
-      to_come = λ later p. i.to_come later (subst (λ us. Expands known (x ∷ us) later) (sym d.line) (define known x d.close name d.body rest later e d.is_new d.is_body d.closes (subst (λ ds. Expands ds rest later) d.added p)));
+      to_come = λ later p. i.to_come later (subst (λ us. Expands known (x ∷ us) later) (sym d.is_line.line) (define known x d.is_line.close name d.body rest later e d.is_new d.is_line.is_body d.is_line.closes (subst (λ ds. Expands ds rest later) d.added p)));
       once = i.once;
       out_is = ap (λ (o : Output). o.tokens.items) s.1 ∙ i.out_is;
       count_is = ap (λ (o : Output). o.count) s.1 ∙ i.count_is;
       few = subst (λ (o : Output). o.count ≤ token_limit) (sym s.1) i.few;
-      closed = closed_behind d.body d.close rest (subst IsClosed d.line i.closed.1);
+      closed = closed_behind d.body d.is_line.close rest (subst IsClosed d.is_line.line i.closed.1);
     }
 text_next tokens known new x behind rest old output i t.Pragma e s = text_put tokens known new x behind rest old output i (not_define x _ e (λ z. z)) s
 text_next tokens known new x behind rest old output i t.Close e s = text_put tokens known new x behind rest old output i (not_define x _ e (λ z. z)) s

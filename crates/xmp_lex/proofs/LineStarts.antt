@@ -189,7 +189,7 @@ along text rest n (s.white _ k w x r) g a e h =
     let o : IsOutside g.state = subst IsOutside (sym e) tt in
     let l : 0 < length g.rest = byte_some g.rest (white_byte (get_or g.rest 0 0) w2) in
     let i = along text (drop 1 rest) k r (after g 1 [] (behind_white g.state (get_or g.rest 0 0 == 10))) (piece g 1 [] _ a l (c.white g.state o w2))
-        (ap (λ b. behind_white g.state (b == 10)) (ap (λ t. get_or t 0 0) h) ∙ plain g.state (get_or rest 0 0) x ∙ e) (ap (drop 1) h) in
+    (ap (λ b. behind_white g.state (b == 10)) (ap (λ t. get_or t 0 0) h) ∙ plain g.state (get_or rest 0 0) x ∙ e) (ap (drop 1) h) in
     record { front = i.front; cuts = i.cuts; fresh = i.fresh; rest_is = i.rest_is ∙ drop-drop k 1 rest }
   where
     plain : (y : LineState) (b : ℕ) → (b ≡ 10 → ⊥) → behind_white y (b == 10) ≡ y

@@ -68,13 +68,17 @@ pub record Advances (known : List Definition) (at : Place) (before after : List 
   pub put : PutsOut events old new
   pub smaller : length after < length before + 2 * length events
 
--- a definition is read: its tokens, and what follows its line
-pub record Defines (known new : List Definition) (name : List ℕ) (behind rest : List Token) : Type 0 where
-  pub body : List Token
+-- the tokens of a line before its Close, and what follows it
+pub record IsLine (body behind rest : List Token) : Type 0 where
   pub close : Token
   pub line : behind ≡ body ++ close ∷ rest
   pub is_body : IsBody body
   pub closes : close.kind ≡ t.Close
+
+-- a definition is read: its tokens, and what follows its line
+pub record Defines (known new : List Definition) (name : List ℕ) (behind rest : List Token) : Type 0 where
+  pub body : List Token
+  pub is_line : IsLine body behind rest
   pub is_new : body_of known name ≡ None
   pub added : new ≡ known ++ (name, body) ∷ []
 
@@ -85,12 +89,6 @@ IsSecond known name at (fault.Refused r) = (fault.Refused r ≡ breaks_macro 1 a
 abbrev pub is_close : TokenKind → Bool
 is_close t.Close = true
 is_close _ = false
-
--- the first Close
-pub record IsClosePlace (tokens : List Token) (n : ℕ) : Type 0 where
-  pub within : n < length tokens
-  pub here : (x : Token) → slice_get tokens n ≡ Some x → is_close x.kind ≡ true
-  pub before : (k : ℕ) (x : Token) → k < n → slice_get tokens k ≡ Some x → is_close x.kind ≡ false
 
 -- expansion goes on behind a token of this kind: a definition is read, or events are put out
 abbrev pub Steps : TokenKind → List Definition → List Definition → Token → List Token → List Token → Output → Output → Type 0

@@ -98,7 +98,10 @@ impl TokenKind {
             TokenKind::Number(value, ty) => Ok(TokenKind::Number(*value, *ty)),
             TokenKind::Text(text) => Ok(TokenKind::Text(Bytes::copy_of(alloc, text.as_slice())?)),
             TokenKind::Mark(mark) => Ok(TokenKind::Mark(*mark)),
-            TokenKind::Define(name) => Ok(TokenKind::Define(Bytes::copy_of(alloc, name.as_slice())?)),
+            TokenKind::Define(name) => Ok(TokenKind::Define(Bytes::copy_of(
+                alloc,
+                name.as_slice(),
+            )?)),
             TokenKind::Pragma => Ok(TokenKind::Pragma),
             TokenKind::Close => Ok(TokenKind::Close),
             TokenKind::Finish => Ok(TokenKind::Finish),

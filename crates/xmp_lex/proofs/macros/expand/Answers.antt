@@ -3,4 +3,4 @@ use Rattle.xmp_lex.proofs.MacroLaws.{only_memory}
 use Rattle.xmp_lex.proofs.macros.expand.Goals as goal
 
 pub returns-clause-no_other : goal.returns-clause-no_other
-returns-clause-no_other c = λ expanded x. IfErr-weaker c.expand_all.result _ _ (λ e b. only_memory c.args.tokens.items expanded e x (rw (← c.as_slice.ensures.value) b)) c.expand_all.ensures.err
+returns-clause-no_other c = λ expanded x. IfErr-weaker c.expand_all.result _ _ (λ e b. only_memory c.args.tokens.items expanded e x b) c.expand_all.ensures.err
