@@ -8,4 +8,4 @@ mod dimension;
 mod form;
 
 pub use dimension::Dim;
-pub use form::{DimError, Dist, Lengths, MAX_NODES, MAX_SIZE};
+pub use form::{DimError, Dist, Lengths};
