@@ -1,0 +1,5 @@
+pub mod NodeSetLaws
+pub mod PathLaws
+pub mod StaleLaws
+pub mod BreakLaws
+pub mod SafeLaws

@@ -6,14 +6,14 @@
 //! copies that may be out of date, and a trail by which a change of the table is undone.
 #![tactic(auto)]
 
-mod check;
 mod copies;
 mod event;
 mod laws;
 mod node_sets;
+mod verdict;
 mod walk;
 
-pub use check::check;
+pub use verdict::check;
 pub use event::{Event, Flow};
 pub use laws::{one_verdict, safe_along_paths, safe_or_broken};
 
