@@ -3,3 +3,4 @@ pub mod PathLaws
 pub mod StaleLaws
 pub mod BreakLaws
 pub mod SafeLaws
+pub mod VerdictLaws
