@@ -4,3 +4,4 @@ pub mod StaleLaws
 pub mod BreakLaws
 pub mod SafeLaws
 pub mod VerdictLaws
+pub mod TrailLaws

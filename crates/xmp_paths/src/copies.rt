@@ -177,6 +177,7 @@ impl Copies {
         let others = self.changed(alloc, start)?;
         self.undo(start)?;
         self.add(others.as_slice())?;
-        self.put(both.as_slice())
+        self.put(both.as_slice())?;
+        Ok(())
     }
 }
