@@ -5,3 +5,5 @@ pub mod BreakLaws
 pub mod SafeLaws
 pub mod VerdictLaws
 pub mod TrailLaws
+pub mod FlowLaws
+pub mod CarryLaws

@@ -106,7 +106,7 @@ impl Copies {
     }
 
     // The objects changed since then, each with its set now.
-    pub fn changed(&self, alloc: Global, since: usize) -> Result<Items<Change>, AllocError>
+    fn changed(&self, alloc: Global, since: usize) -> Result<Items<Change>, AllocError>
         ensures { IfOk result (λ changes. changes ≡ map (change_now self.now) (drop since self.now.trail)) }
     {
         let mut changes = Items::new(alloc);
@@ -129,6 +129,17 @@ impl Copies {
         } else {
             &[]
         }
+    }
+
+    // Undoes all changes but the first so many, and says what they had made of the objects.
+    pub fn go_back(&mut self, alloc: Global, to: usize) -> Result<Items<Change>, AllocError>
+        ensures changes { IfOk result (λ changes. changes ≡ map (change_now self.old) (drop to self.old.trail)) }
+        ensures sets { OnOk result ((object : ℕ) → set_of self.new object ≡ set_before self.old to object) }
+        ensures trail { OnOk result (self.new.trail ≡ take to self.old.trail) }
+    {
+        let changes = self.changed(alloc, to)?;
+        self.undo(to)?;
+        Ok(changes)
     }
 
     // The changes, each set with the nodes that its object has now.
@@ -174,8 +185,7 @@ impl Copies {
         ensures returns { OnOk result (ReturnsTo (take start self.old.trail) (set_before self.old start) self.new) }
     {
         let both = self.joined(alloc, changes)?;
-        let others = self.changed(alloc, start)?;
-        self.undo(start)?;
+        let others = self.go_back(alloc, start)?;
         self.add(others.as_slice())?;
         self.put(both.as_slice())?;
         Ok(())

@@ -13,7 +13,8 @@ use crate::node_sets::meets;
 use std::alloc::{AllocError, Global};
 use xmp_base::{Phase, Refusal, earlier};
 
-// Goes through a tree: the copies that may be out of date after it, from those that may be before it.
+// Goes through a tree: the copies that may be out of date after it, from those that may be before it. In a branch it
+// goes left, and from the same start right, and joins both ends.
 #[cycle(carry)]
 pub fn carry(alloc: Global, flow: &Flow, copies: &mut Copies) -> Result<(), AllocError>
     ensures carries { OnOk result (CarriesOver (plan_of flow.now) copies.old copies.new) }
@@ -22,7 +23,14 @@ pub fn carry(alloc: Global, flow: &Flow, copies: &mut Copies) -> Result<(), Allo
     match flow {
         Flow::Emit(event) => copies.mark(event),
         Flow::Sequence(parts) => carry_all(alloc, parts.as_slice(), copies),
-        Flow::Branch(left, right) => carry_either(alloc, left.get(), right.get(), copies),
+        Flow::Branch(left, right) => {
+            let start = copies.reached();
+            carry(alloc, left.get(), copies)?;
+            let changes = copies.go_back(alloc, start)?;
+            carry(alloc, right.get(), copies)?;
+            copies.join(alloc, start, changes.as_slice())?;
+            Ok(())
+        }
         Flow::Loop(body) => carry_turns(alloc, body.get(), copies),
     }
 }
@@ -37,25 +45,6 @@ fn carry_all(alloc: Global, parts: &[Flow], copies: &mut Copies) -> Result<(), A
         carry(alloc, part, copies)?;
     }
     Ok(())
-}
-
-// Goes left, and from the same start right, and joins both ends.
-#[cycle(carry)]
-fn carry_either(
-    alloc: Global,
-    left: &Flow,
-    right: &Flow,
-    copies: &mut Copies,
-) -> Result<(), AllocError>
-    ensures carries { OnOk result (CarriesOver (branch (plan_of left.now) (plan_of right.now)) copies.old copies.new) }
-    ensures returns { OnOk result (Returns copies.old copies.new) }
-{
-    let start = copies.reached();
-    carry(alloc, left, copies)?;
-    let changes = copies.changed(alloc, start)?;
-    copies.undo(start)?;
-    carry(alloc, right, copies)?;
-    copies.join(alloc, start, changes.as_slice())
 }
 
 // Goes through the body once, and joins its end with the start: a second turn adds nothing.
@@ -105,7 +94,12 @@ pub fn inspect(
         }
         Flow::Sequence(parts) => inspect_all(alloc, phase, parts.as_slice(), copies),
         Flow::Branch(left, right) => {
-            inspect_either(alloc, phase, left.get(), right.get(), copies)
+            let start = copies.reached();
+            let first = inspect(alloc, phase, left.get(), copies)?;
+            let changes = copies.go_back(alloc, start)?;
+            let second = inspect(alloc, phase, right.get(), copies)?;
+            copies.join(alloc, start, changes.as_slice())?;
+            Ok(earlier(first, second))
         }
         Flow::Loop(body) => inspect_turns(alloc, phase, body.get(), copies),
     }
@@ -129,28 +123,6 @@ fn inspect_all(
         found = earlier(found, next);
     }
     Ok(found)
-}
-
-// Goes left, and from the same start right, and joins both ends.
-#[cycle(inspect)]
-fn inspect_either(
-    alloc: Global,
-    phase: Phase,
-    left: &Flow,
-    right: &Flow,
-    copies: &mut Copies,
-) -> Result<Option<Refusal>, AllocError>
-    ensures first { IfOk result (λ found. IsFirst (in_phase phase (BreaksFrom (branch (plan_of left.now) (plan_of right.now)) (may_be_stale copies.old))) found) }
-    ensures carries { OnOk result (CarriesOver (branch (plan_of left.now) (plan_of right.now)) copies.old copies.new) }
-    ensures returns { OnOk result (Returns copies.old copies.new) }
-{
-    let start = copies.reached();
-    let first = inspect(alloc, phase, left, copies)?;
-    let changes = copies.changed(alloc, start)?;
-    copies.undo(start)?;
-    let second = inspect(alloc, phase, right, copies)?;
-    copies.join(alloc, start, changes.as_slice())?;
-    Ok(earlier(first, second))
 }
 
 // Goes through the body once for the copies that may be out of date at the head of a turn, and once more to judge it.
