@@ -40,6 +40,10 @@ carries_more parts k d old mid new h a b object node =
     ∙ (sym (carry_more object node (map plan_of (take k parts)) (plan_of (get_or parts k d)) (may_be_stale old object node))
     ∙ ap (λ l. may_leave object node (in_order l) (may_be_stale old object node)) (sym (plans_more parts k d h))))
 
+pub carries_all : (parts : List Flow) (k : ℕ) (old new : Copies) → length parts ≤ k →
+    CarriesOver (in_order (map plan_of (take k parts))) old new → CarriesOver (in_order (map plan_of parts)) old new
+carries_all parts k old new h c = subst (λ l. CarriesOver (in_order (map plan_of l)) old new) (take_all k parts h) c
+
 -- ---- branches
 
 -- copies that were brought back are those that there were

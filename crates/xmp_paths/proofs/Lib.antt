@@ -7,3 +7,4 @@ pub mod VerdictLaws
 pub mod TrailLaws
 pub mod FlowLaws
 pub mod CarryLaws
+pub mod FindLaws
