@@ -1,13 +1,11 @@
 -- The rules that break in a plan by recursion on it are those that break on its paths.
-use Rattle.std.proofs.Common.{◌≡◌, ℕ, zero, suc, Bool, true, false, ◌||◌, List, [], ◌∷◌, ◌++◌, ◌⊎◌, inl, inr, refl, sym, ap, ◌∙◌, subst, append_assoc, ◌↔◌, ⊎_elim}
-use Rattle.xmp_base.specs.declared.place.Place.{Place}
+use Rattle.std.proofs.Common.{◌≡◌, ℕ, zero, suc, Bool, true, false, List, [], ◌∷◌, ◌++◌, ◌⊎◌, inl, inr, sym, ap, ◌∙◌, subst, append_assoc, ◌↔◌, ⊎_elim}
 use Rattle.xmp_paths.specs.NodeSets.{has}
-use Rattle.xmp_paths.specs.Plans.{Plan, skip, emit, sequence, branch, loop, Path, Repeated, Joined, Stands}
-use Rattle.xmp_paths.specs.Stale.{IsLeftStale}
-use Rattle.xmp_paths.specs.Rules.{Broken, ReadsStale, Breaks}
-use Rattle.xmp_paths.specs.Walk.{after_event, after_events}
+use Rattle.xmp_paths.specs.Plans.{Plan, skip, emit, sequence, branch, loop, Path, Repeated, Stands}
+use Rattle.xmp_paths.specs.Rules.{Broken, Breaks}
+use Rattle.xmp_paths.specs.Walk.{after_events}
 use Rattle.xmp_paths.specs.May.{may_leave, after_plan, BreaksAt, BreaksFrom}
-use Rattle.xmp_paths.proofs.PathLaws.{Leaves, Way, some_path, repeated_more, split, not_empty, alone, or_left, walk-append, walk_keeps, way_to, may_forth, may_back, head_stays}
+use Rattle.xmp_paths.proofs.PathLaws.{Way, some_path, repeated_more, split, not_empty, alone, or_left, walk-append, walk_keeps, way_to, may_forth, may_back, head_stays}
 use Rattle.xmp_paths.proofs.StaleLaws.{left_walk, walk_left}
 use Rattle.xmp_paths.specs.declared.event.Event.{Event}
 use Rattle.xmp_paths.specs.declared.event.Event.TheVariants.{Read, Wrong, Mark}
@@ -223,10 +221,24 @@ module _ (b : Broken) where
   breaks_reads (branch p q) entry r =
       ⊎_elim
       (λ w. inl (breaks_reads p entry (record {
-        before = r.before; after = r.after; object = r.object; nodes = r.nodes; node = r.node; path = w; reads = r.reads; stale = r.stale;
+        before = r.before;
+        after = r.after;
+        object = r.object;
+        nodes = r.nodes;
+        node = r.node;
+        path = w;
+        reads = r.reads;
+        stale = r.stale;
       })))
       (λ w. inr (breaks_reads q entry (record {
-        before = r.before; after = r.after; object = r.object; nodes = r.nodes; node = r.node; path = w; reads = r.reads; stale = r.stale;
+        before = r.before;
+        after = r.after;
+        object = r.object;
+        nodes = r.nodes;
+        node = r.node;
+        path = w;
+        reads = r.reads;
+        stale = r.stale;
       })))
       r.path
   breaks_reads (loop p) entry r =

@@ -1,13 +1,13 @@
 -- What each kind of tree makes of the copies, from what its parts do.
-use Rattle.std.proofs.Common.{◌≡◌, ℕ, suc, ◌+◌, ◌<◌, ◌≤◌, Bool, true, ◌||◌, List, [], ◌∷◌, ◌++◌, refl, sym, ap, ◌∙◌, subst, length, map, take, drop, get_or, add-one}
+use Rattle.std.proofs.Common.{◌≡◌, ℕ, ◌+◌, ◌<◌, ◌≤◌, Bool, ◌||◌, List, [], ◌∷◌, ◌++◌, refl, sym, ap, ◌∙◌, subst, length, map, take, drop, get_or}
 use Rattle.std.proofs.Math.Seq.{take-append_seam}
 use Rattle.std.proofs.lemmas.List.{take_more, take_all}
 use Rattle.xmp_paths.specs.NodeSets.{has}
-use Rattle.xmp_paths.specs.Plans.{Plan, skip, emit, sequence, branch, loop, in_order}
+use Rattle.xmp_paths.specs.Plans.{Plan, branch, in_order}
 use Rattle.xmp_paths.specs.Flows.{plan_of}
 use Rattle.xmp_paths.specs.May.{may_leave}
-use Rattle.xmp_paths.specs.Copies.{set_of, set_before, undone_at, put_at, change_now, may_be_stale, CarriesOver, Returns, ReturnsTo}
-use Rattle.xmp_paths.proofs.TrailLaws.{put_now, returns_same, returns_then, set_returned}
+use Rattle.xmp_paths.specs.Copies.{set_of, set_before, put_at, change_now, may_be_stale, CarriesOver, Returns, ReturnsTo}
+use Rattle.xmp_paths.proofs.TrailLaws.{put_now, set_returned}
 use Rattle.xmp_paths.specs.declared.event.Event.{Event}
 use Rattle.xmp_paths.specs.declared.event.Flow.{Flow}
 use Rattle.xmp_paths.specs.declared.copies.Change.{Change}
@@ -101,7 +101,7 @@ pub carries_branch : (p q : Plan Event) (old left back right new : Copies) (chan
 carries_branch p q old left back right new changes a r s b t e j object node =
     j object node
     ∙ (ap (λ n. has (put_at object changes n) node || may_be_stale right object node)
-        (set_returned old right (returns_from old back right s t) object)
+    (set_returned old right (returns_from old back right s t) object)
     ∙ (ap (λ n. has n node || may_be_stale right object node) (left_put old left changes r e object)
     ∙ (ap (λ x. x || may_be_stale right object node) (a object node)
     ∙ ap (λ x. may_leave object node p (may_be_stale old object node) || x) (carries_same q old back right s b object node))))

@@ -1,8 +1,7 @@
 -- Paths, and what they leave out of date.
 use Rattle.std.proofs.Common.{◌≡◌, ℕ, zero, suc, Bool, true, false, ◌||◌, ◌&&◌, not, List, [], ◌∷◌, ◌++◌, ◌⊎◌, inl, inr, refl, sym, ap, ◌∙◌, append_assoc, append-nil, cond, ⊎_elim}
 use Rattle.std.proofs.lemmas.Bool.{false≢true, or_cases, cases_Bool}
-use Rattle.xmp_paths.specs.NodeSets.{has}
-use Rattle.xmp_paths.specs.Plans.{Plan, skip, emit, sequence, branch, loop, Path, Repeated, Joined}
+use Rattle.xmp_paths.specs.Plans.{Plan, skip, emit, sequence, branch, loop, Path, Repeated}
 use Rattle.xmp_paths.specs.Walk.{after_event, after_events}
 use Rattle.xmp_paths.specs.May.{may_leave}
 use Rattle.xmp_paths.specs.declared.event.Event.{Event}

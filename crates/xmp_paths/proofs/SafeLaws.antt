@@ -1,15 +1,15 @@
 -- Safe plans: along a sequence, in a branch, in a loop, and that no rule breaks in them.
-use Rattle.std.proofs.Common.{◌≡◌, ℕ, zero, suc, Bool, true, false, List, [], ◌∷◌, ◌++◌, ◌⊎◌, inl, inr, refl, sym, ap, ◌∙◌, subst, append_assoc, ◌↔◌, ⊎_elim}
+use Rattle.std.proofs.Common.{◌≡◌, ℕ, zero, suc, Bool, true, false, List, [], ◌∷◌, ◌++◌, inl, inr, refl, sym, ap, ◌∙◌, subst, append_assoc, ◌↔◌, ⊎_elim}
 use Rattle.xmp_base.specs.declared.place.Place.{Place}
 use Rattle.xmp_paths.specs.NodeSets.{has}
-use Rattle.xmp_paths.specs.Plans.{Plan, skip, emit, sequence, branch, loop, Path, Repeated, Joined, Stands}
-use Rattle.xmp_paths.specs.Rules.{Broken, ReadsStale, Breaks}
-use Rattle.xmp_paths.specs.Walk.{after_event, after_events}
+use Rattle.xmp_paths.specs.Plans.{Plan, emit, sequence, branch, loop, Path, Repeated}
+use Rattle.xmp_paths.specs.Rules.{Broken, Breaks}
+use Rattle.xmp_paths.specs.Walk.{after_events}
 use Rattle.xmp_paths.specs.Safe.{left, Safe, NothingWrong}
 use Rattle.xmp_paths.proofs.PathLaws.{some_path, split, not_empty, walk-append, walk_keeps}
 use Rattle.xmp_paths.proofs.StaleLaws.{left_walk, walk_left}
 use Rattle.xmp_paths.specs.declared.event.Event.{Event}
-use Rattle.xmp_paths.specs.declared.event.Event.TheVariants.{Read, Wrong, Mark}
+use Rattle.xmp_paths.specs.declared.event.Event.TheVariants.{Read}
 
 module _ (node : ℕ) where
   -- what is safe from more copies that are out of date is safe from fewer
@@ -32,14 +32,14 @@ module _ (node : ℕ) where
         let y = some_path q in
         let read = Read object nodes rule at in
         s.never before (after ++ y.0) object nodes rule at
-            (record {
-              front = before ++ read ∷ after;
-              back = y.0;
-              whole = sym (append_assoc before (read ∷ after) y.0);
-              in_front = path;
-              in_back = y.1;
-            })
-            reads k;
+        (record {
+          front = before ++ read ∷ after;
+          back = y.0;
+          whole = sym (append_assoc before (read ∷ after) y.0);
+          in_front = path;
+          in_back = y.1;
+        })
+        reads k;
   }
 
   pub safe_back : (p q : Plan Event) (stale : ℕ → Bool) → Safe node (sequence p q) stale →
@@ -48,14 +48,14 @@ module _ (node : ℕ) where
     never = λ before after object nodes rule at path reads k.
         let read = Read object nodes rule at in
         s.never (way ++ before) after object nodes rule at
-            (record {
-              front = way;
-              back = before ++ read ∷ after;
-              whole = append_assoc way before (read ∷ after);
-              in_front = w;
-              in_back = path;
-            })
-            reads (walk-append object node way before (stale object) ∙ k);
+        (record {
+          front = way;
+          back = before ++ read ∷ after;
+          whole = append_assoc way before (read ∷ after);
+          in_front = w;
+          in_back = path;
+        })
+        reads (walk-append object node way before (stale object) ∙ k);
   }
 
   pub safe_both : (p q : Plan Event) (stale : ℕ → Bool) → Safe node p stale →

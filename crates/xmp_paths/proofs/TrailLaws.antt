@@ -1,5 +1,5 @@
 -- The trail: what changes make of one object's set, and what undoing them brings back.
-use Rattle.std.proofs.Common.{◌≡◌, ℕ, zero, suc, ◌+◌, ◌<◌, ◌≤◌, Bool, true, false, ◌||◌, ◌&&◌, List, [], ◌∷◌, ◌++◌, refl, sym, ap, ◌∙◌, subst, append_assoc, append-nil, length, map, take, drop, get_or, bit_or, if◌then◌else◌, cond, arith, add-one}
+use Rattle.std.proofs.Common.{◌≡◌, ℕ, suc, ◌+◌, ◌<◌, ◌≤◌, Bool, true, false, ◌||◌, ◌&&◌, List, [], ◌∷◌, ◌++◌, refl, sym, ap, ◌∙◌, append_assoc, append-nil, length, map, take, drop, get_or, bit_or, if◌then◌else◌, cond, add-one}
 use Rattle.std.specs.Prelude.{◌==◌}
 use Rattle.std.proofs.Math.Seq.{drop-cons, drop-append_seam}
 use Rattle.std.proofs.lemmas.List.{drop-append-le, take-append-le}
@@ -116,7 +116,7 @@ added_step r object node c x t = case (c.object == object) refl
         (has (cond u (bit_or x (set_of r c.object)) x) node || (t && has (set_of r object) node)) ≡ (has x node || ((u || t) && has (set_of r object) node))
     case true e =
         ap (λ s. s || (t && has (set_of r object) node))
-            (has_union x (set_of r c.object) node ∙ ap (λ o. has x node || has (set_of r o) node) (eqb-true c.object object e))
+        (has_union x (set_of r c.object) node ∙ ap (λ o. has x node || has (set_of r o) node) (eqb-true c.object object e))
         ∙ or_twice (has x node) (has (set_of r object) node) t
     case false e = refl
 
@@ -156,9 +156,9 @@ pub join_is : (r : Copies) (start : ℕ) (changes others both : List Change) (un
 join_is r start changes others both undone added put b o u a p object node =
     let s = set_before r start object in
     let with_now : has (set_of added object) node ≡ (has s node || has (set_of r object) node) =
-        ap (λ n. has n node) (a object ∙ (ap (λ l. add_at object l (set_of undone object)) o
-        ∙ ap (add_at object (map (change_now r) (drop start r.trail))) (u object)))
-        ∙ added_back r object node (drop start r.trail) s refl in
+    ap (λ n. has n node) (a object ∙ (ap (λ l. add_at object l (set_of undone object)) o
+    ∙ ap (add_at object (map (change_now r) (drop start r.trail))) (u object)))
+    ∙ added_back r object node (drop start r.trail) s refl in
     ap (λ n. has n node) (p object ∙ ap (λ l. put_at object l (set_of added object)) b)
     ∙ put_joined r object node changes (set_of added object) s with_now
 

@@ -1,7 +1,7 @@
 -- The first rule that breaks: in parts that follow one another, that there is one verdict, and that each plan has one.
-use Rattle.std.proofs.Common.{◌≡◌, ℕ, zero, suc, ◌+◌, ◌<◌, ◌≤◌, ◌^◌, ◌%◌, Bool, true, false, ◌&&◌, ◌||◌, ◌⊎◌, inl, inr, refl, sym, ap, ◌∙◌, arith, subst, ◌↔◌, ⊎_elim, Option, Some, None, if◌then◌else◌}
+use Rattle.std.proofs.Common.{◌≡◌, ℕ, zero, suc, ◌<◌, ◌≤◌, ◌^◌, ◌%◌, Bool, true, false, ◌&&◌, ◌||◌, ◌⊎◌, inl, inr, refl, sym, ap, ◌∙◌, arith, subst, ◌↔◌, ⊎_elim, Option, Some, None, if◌then◌else◌}
 use Rattle.std.specs.Prelude.{◌==◌}
-use Rattle.std.proofs.lemmas.Bool.{false≢true, true≢false, cases_Bool, cases_lt, or_cases, and_parts, and_from}
+use Rattle.std.proofs.lemmas.Bool.{false≢true, true≢false, cases_lt, or_cases, and_parts, and_from}
 use Rattle.std.proofs.lemmas.Bool.Decides.{nat_tests}
 use Rattle.std.proofs.Math.Nat.{div-eq_of_lt, two-pow-succ}
 use Rattle.xmp_base.specs.declared.place.Place.{Place}
@@ -79,7 +79,7 @@ first_one phase P b h only = (
   λ r q.
       let e : b ≡ record { rule = r.rule; at = r.at } = only (record { rule = r.rule; at = r.at }) q.1 in
       let f : record { phase = phase; rule = b.rule; at = b.at } ≡ r =
-          same_refusal (record { phase = phase; rule = b.rule; at = b.at }) r (sym q.0) (ap (λ c. c.rule) e) (ap (λ c. c.at) e) in
+      same_refusal (record { phase = phase; rule = b.rule; at = b.at }) r (sym q.0) (ap (λ c. c.rule) e) (ap (λ c. c.at) e) in
       subst (λ x. comes_first (record { phase = phase; rule = b.rule; at = b.at }) x ≡ true) f
       (comes_first-refl (record { phase = phase; rule = b.rule; at = b.at })),
 )

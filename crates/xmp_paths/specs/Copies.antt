@@ -1,5 +1,5 @@
 -- The table of the copies that may be out of date, at one object, and the trail of its changes.
-use Rattle.std.specs.Prelude.{ℕ, ◌≡◌, ◌==◌, Bool, List, [], ◌∷◌, ◌++◌, take, drop, if◌then◌else◌, slice_index, bit_or}
+use Rattle.std.specs.Prelude.{ℕ, ◌≡◌, ◌==◌, Bool, List, [], ◌∷◌, ◌++◌, drop, if◌then◌else◌, slice_index, bit_or}
 use Rattle.xmp_paths.specs.NodeSets.{has}
 use Rattle.xmp_paths.specs.Plans.{Plan}
 use Rattle.xmp_paths.specs.May.{may_leave}

@@ -1,5 +1,4 @@
 -- The plan that a tree of events is.
-use Rattle.std.specs.Prelude.{List}
 use Rattle.xmp_paths.specs.Plans.{Plan, emit, branch, loop, in_order}
 use Rattle.xmp_paths.specs.declared.event.Event.{Event}
 use Rattle.xmp_paths.specs.declared.event.Flow.{Flow}

@@ -180,7 +180,12 @@ impl Copies {
     }
 
     // The copies that may be out of date now, and those that may be after the changes, made where the trail had so many entries.
-    pub fn join(&mut self, alloc: Global, start: usize, changes: &[Change]) -> Result<(), AllocError>
+    pub fn join(
+        &mut self,
+        alloc: Global,
+        start: usize,
+        changes: &[Change],
+    ) -> Result<(), AllocError>
         ensures sets { OnOk result ((object node : ℕ) → may_be_stale self.new object node ≡ (has (put_at object changes.now (set_before self.old start object)) node || may_be_stale self.old object node)) }
         ensures returns { OnOk result (ReturnsTo (take start self.old.trail) (set_before self.old start) self.new) }
     {

@@ -14,7 +14,10 @@ pub enum Event {
         at: Place,
     },
     /// The rule breaks at the place, whatever came before.
-    Wrong { rule: u16, at: Place },
+    Wrong {
+        rule: u16,
+        at: Place,
+    },
     /// The object's copies go out of date on the nodes of `stale`, and are made current on the others of `current`.
     Mark {
         object: u64,

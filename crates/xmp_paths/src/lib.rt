@@ -13,9 +13,9 @@ mod node_sets;
 mod verdict;
 mod walk;
 
-pub use verdict::check;
 pub use event::{Event, Flow};
 pub use laws::{one_verdict, safe_along_paths, safe_or_broken};
+pub use verdict::check;
 
 #[cfg(test)]
 mod tests;

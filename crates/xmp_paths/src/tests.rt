@@ -32,37 +32,158 @@ const IN_ORDER: [Row; 9] = [
     (&[Read(1, 0, 15), Assigned(0, 1), Then], None),
     (&[Assigned(7, 2), Read(2, 6, 15), Then], None),
     (&[Assigned(70000, 2), Read(2, 70000, 8), Then], Some((2, 1))),
-    (&[Assigned(0, 1), Assigned(0, 15), Then, Read(3, 0, 15), Then], None),
-    (&[Assigned(0, 3), Assigned(0, 4), Then, Read(3, 0, 2), Then], Some((3, 1))),
+    (
+        &[Assigned(0, 1), Assigned(0, 15), Then, Read(3, 0, 15), Then],
+        None,
+    ),
+    (
+        &[Assigned(0, 3), Assigned(0, 4), Then, Read(3, 0, 2), Then],
+        Some((3, 1)),
+    ),
 ];
 
 const BRANCHES: [Row; 9] = [
-    (&[Assigned(0, 1), Nothing, Or, Read(2, 0, 2), Then], Some((2, 1))),
-    (&[Nothing, Assigned(0, 1), Or, Read(2, 0, 2), Then], Some((2, 1))),
-    (&[Assigned(0, 3), Assigned(0, 6), Or, Read(2, 0, 2), Then], None),
-    (&[Assigned(0, 3), Assigned(0, 6), Or, Read(2, 0, 1), Then], Some((2, 1))),
-    (&[Assigned(0, 3), Assigned(0, 6), Or, Read(2, 0, 4), Then], Some((2, 1))),
-    (&[Assigned(0, 1), Assigned(0, 15), Nothing, Or, Then, Read(3, 0, 2), Then], Some((3, 1))),
-    (&[Assigned(0, 1), Assigned(0, 15), Assigned(0, 15), Or, Then, Read(3, 0, 2), Then], None),
+    (
+        &[Assigned(0, 1), Nothing, Or, Read(2, 0, 2), Then],
+        Some((2, 1)),
+    ),
+    (
+        &[Nothing, Assigned(0, 1), Or, Read(2, 0, 2), Then],
+        Some((2, 1)),
+    ),
+    (
+        &[Assigned(0, 3), Assigned(0, 6), Or, Read(2, 0, 2), Then],
+        None,
+    ),
+    (
+        &[Assigned(0, 3), Assigned(0, 6), Or, Read(2, 0, 1), Then],
+        Some((2, 1)),
+    ),
+    (
+        &[Assigned(0, 3), Assigned(0, 6), Or, Read(2, 0, 4), Then],
+        Some((2, 1)),
+    ),
+    (
+        &[
+            Assigned(0, 1),
+            Assigned(0, 15),
+            Nothing,
+            Or,
+            Then,
+            Read(3, 0, 2),
+            Then,
+        ],
+        Some((3, 1)),
+    ),
+    (
+        &[
+            Assigned(0, 1),
+            Assigned(0, 15),
+            Assigned(0, 15),
+            Or,
+            Then,
+            Read(3, 0, 2),
+            Then,
+        ],
+        None,
+    ),
     (&[Assigned(0, 1), Read(1, 0, 2), Or], None),
-    (&[Assigned(0, 1), Assigned(1, 1), Or, Read(2, 0, 1), Then, Read(3, 1, 8), Then], Some((3, 1))),
+    (
+        &[
+            Assigned(0, 1),
+            Assigned(1, 1),
+            Or,
+            Read(2, 0, 1),
+            Then,
+            Read(3, 1, 8),
+            Then,
+        ],
+        Some((3, 1)),
+    ),
 ];
 
 const LOOPS: [Row; 7] = [
     (&[Read(1, 0, 15), Assigned(0, 1), Then, Again], Some((1, 1))),
-    (&[Assigned(0, 15), Read(2, 0, 15), Then, Assigned(0, 1), Then, Again], None),
-    (&[Assigned(0, 1), Assigned(0, 15), Again, Then, Read(3, 0, 2), Then], Some((3, 1))),
-    (&[Assigned(0, 15), Assigned(0, 1), Again, Then, Read(3, 0, 2), Then], Some((3, 1))),
-    (&[Read(1, 1, 8), Read(2, 0, 2), Then, Assigned(0, 1), Again, Then, Again], Some((2, 1))),
-    (&[Read(1, 0, 2), Assigned(0, 15), Again, Then, Assigned(0, 1), Then, Again], Some((1, 1))),
-    (&[Assigned(0, 1), Assigned(0, 15), Assigned(0, 1), Then, Again, Then, Read(3, 0, 1), Then], None),
+    (
+        &[
+            Assigned(0, 15),
+            Read(2, 0, 15),
+            Then,
+            Assigned(0, 1),
+            Then,
+            Again,
+        ],
+        None,
+    ),
+    (
+        &[
+            Assigned(0, 1),
+            Assigned(0, 15),
+            Again,
+            Then,
+            Read(3, 0, 2),
+            Then,
+        ],
+        Some((3, 1)),
+    ),
+    (
+        &[
+            Assigned(0, 15),
+            Assigned(0, 1),
+            Again,
+            Then,
+            Read(3, 0, 2),
+            Then,
+        ],
+        Some((3, 1)),
+    ),
+    (
+        &[
+            Read(1, 1, 8),
+            Read(2, 0, 2),
+            Then,
+            Assigned(0, 1),
+            Again,
+            Then,
+            Again,
+        ],
+        Some((2, 1)),
+    ),
+    (
+        &[
+            Read(1, 0, 2),
+            Assigned(0, 15),
+            Again,
+            Then,
+            Assigned(0, 1),
+            Then,
+            Again,
+        ],
+        Some((1, 1)),
+    ),
+    (
+        &[
+            Assigned(0, 1),
+            Assigned(0, 15),
+            Assigned(0, 1),
+            Then,
+            Again,
+            Then,
+            Read(3, 0, 1),
+            Then,
+        ],
+        None,
+    ),
 ];
 
 // By the line first, and then by the number.
 const PLACES: [Row; 4] = [
     (&[Wrong(4, 2), Wrong(3, 7), Then], Some((3, 7))),
     (&[Wrong(3, 7), Wrong(3, 5), Or], Some((3, 5))),
-    (&[Assigned(0, 1), Read(9, 0, 2), Then, Wrong(9, 4), Then], Some((9, 1))),
+    (
+        &[Assigned(0, 1), Read(9, 0, 2), Then, Wrong(9, 4), Then],
+        Some((9, 1)),
+    ),
     (&[Wrong(8, 6), Again], Some((8, 6))),
 ];
 
@@ -121,7 +242,11 @@ fn the_first_rule_that_breaks_on_some_path_is_found(rt: HostRuntime) -> Result<(
                 rule,
                 at: Place { line, column: 1 },
             });
-            assert_eq!(rt; check(alloc, &flow, Phase::Flow), Ok::<Option<Refusal>, NoMemory>(wanted), "{first:?}");
+            assert_eq!(rt;
+                check(alloc, &flow, Phase::Flow),
+                Ok::<Option<Refusal>, NoMemory>(wanted),
+                "{first:?}"
+            );
         }
     }
     Ok(())

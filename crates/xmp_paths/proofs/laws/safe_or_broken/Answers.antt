@@ -1,5 +1,4 @@
 use Rattle.xmp_paths.proofs.SafeLaws.{safe_is}
-use Rattle.xmp_paths.proofs.BreakLaws.{breaks_is}
 use Rattle.xmp_paths.proofs.laws.safe_or_broken.Goals as goal
 
 pub returns : goal.returns

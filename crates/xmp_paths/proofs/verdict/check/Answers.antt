@@ -1,4 +1,4 @@
-use Rattle.std.proofs.Common.{ℕ, Bool, false}
+use Rattle.std.proofs.Common.{ℕ, false}
 use Rattle.xmp_paths.specs.Flows.{plan_of}
 use Rattle.xmp_paths.specs.Copies.{may_be_stale}
 use Rattle.xmp_paths.proofs.FindLaws.{first_entry}

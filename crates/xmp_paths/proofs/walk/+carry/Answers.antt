@@ -11,10 +11,10 @@ use Rattle.xmp_paths.proofs.walk.+carry.Goals as goal
 pub carry-returns-in_ok-join-in-Branch-clause-carries : goal.carry-returns-in_ok-join-in-Branch-clause-carries
 carry-returns-in_ok-join-in-Branch-clause-carries t c =
     let e : plan_of c.args.flow.now ≡ branch (plan_of c.get.result.now) (plan_of c.get-in-Branch.result.now) =
-        ap plan_of c.in-Branch.is
-        ∙ (plan-branch c.in-Branch.left c.in-Branch.right
-        ∙ (ap (λ f. branch (plan_of f) (plan_of c.in-Branch.right)) (sym c.get.ensures)
-        ∙ ap (λ f. branch (plan_of c.get.result.now) (plan_of f)) (sym c.get-in-Branch.ensures))) in
+    ap plan_of c.in-Branch.is
+    ∙ (plan-branch c.in-Branch.left c.in-Branch.right
+    ∙ (ap (λ f. branch (plan_of f) (plan_of c.in-Branch.right)) (sym c.get.ensures)
+    ∙ ap (λ f. branch (plan_of c.get.result.now) (plan_of f)) (sym c.get-in-Branch.ensures))) in
     subst (λ (p : Plan Event). CarriesOver p c.args.copies.now c.join.new.self) (sym e)
     (branch_end (plan_of c.get.result.now) (plan_of c.get-in-Branch.result.now) c.reached-start.result
     c.args.copies.now c.carry.new.copies c.go_back.new.self c.carry-in-Branch.new.copies c.join.new.self c.as_slice-in-Branch.result.now
@@ -25,7 +25,7 @@ carry-returns-in_ok-join-in-Branch-clause-carries t c =
 pub carry-returns-in-Loop-clause-carries : goal.carry-returns-in-Loop-clause-carries
 carry-returns-in-Loop-clause-carries t c =
     let e : plan_of c.args.flow.now ≡ loop (plan_of c.get-in-Loop.result.now) =
-        ap plan_of c.in-Loop.is ∙ (plan-loop c.in-Loop.body ∙ ap (λ f. loop (plan_of f)) (sym c.get-in-Loop.ensures)) in
+    ap plan_of c.in-Loop.is ∙ (plan-loop c.in-Loop.body ∙ ap (λ f. loop (plan_of f)) (sym c.get-in-Loop.ensures)) in
     subst (λ (p : Plan Event). OnOk c.carry_turns.result (CarriesOver p c.args.copies.now c.carry_turns.new.copies)) (sym e) c.carry_turns.ensures.carries
 
 pub carry_all-parts-preserved : goal.carry_all-parts-preserved

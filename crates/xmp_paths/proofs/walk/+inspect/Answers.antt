@@ -1,6 +1,5 @@
-use Rattle.std.proofs.Common.{◌≡◌, ◌∙◌, ap, sym, subst, map, take, ◌+◌, IfOk, Option}
+use Rattle.std.proofs.Common.{◌≡◌, ◌∙◌, ap, sym, subst, map, take, ◌+◌, IfOk}
 use Rattle.xmp_base.specs.First.{IsFirst}
-use Rattle.xmp_base.specs.declared.refusal.Refusal.{Refusal}
 use Rattle.xmp_paths.specs.Plans.{Plan, in_order, branch, loop}
 use Rattle.xmp_paths.specs.Flows.{plan_of}
 use Rattle.xmp_paths.specs.Rules.{in_phase}
@@ -28,10 +27,10 @@ inspect-returns-in-Sequence-clause-first t c =
 pub inspect-returns-in_ok-join-in-Branch-clause-first : goal.inspect-returns-in_ok-join-in-Branch-clause-first
 inspect-returns-in_ok-join-in-Branch-clause-first t c =
     let e : plan_of c.args.flow.now ≡ branch (plan_of c.get.result.now) (plan_of c.get-in-Branch.result.now) =
-        ap plan_of c.in-Branch.is
-        ∙ (plan-branch c.in-Branch.left c.in-Branch.right
-        ∙ (ap (λ f. branch (plan_of f) (plan_of c.in-Branch.right)) (sym c.get.ensures)
-        ∙ ap (λ f. branch (plan_of c.get.result.now) (plan_of f)) (sym c.get-in-Branch.ensures))) in
+    ap plan_of c.in-Branch.is
+    ∙ (plan-branch c.in-Branch.left c.in-Branch.right
+    ∙ (ap (λ f. branch (plan_of f) (plan_of c.in-Branch.right)) (sym c.get.ensures)
+    ∙ ap (λ f. branch (plan_of c.get.result.now) (plan_of f)) (sym c.get-in-Branch.ensures))) in
     let p = plan_of c.get.result.now in
     let q = plan_of c.get-in-Branch.result.now in
     subst (λ (r : Plan Event). IsFirst (in_phase c.args.phase (BreaksFrom r (may_be_stale c.args.copies.now))) c.earlier.result) (sym e)
@@ -44,10 +43,10 @@ inspect-returns-in_ok-join-in-Branch-clause-first t c =
 pub inspect-returns-in_ok-join-in-Branch-clause-carries : goal.inspect-returns-in_ok-join-in-Branch-clause-carries
 inspect-returns-in_ok-join-in-Branch-clause-carries t c =
     let e : plan_of c.args.flow.now ≡ branch (plan_of c.get.result.now) (plan_of c.get-in-Branch.result.now) =
-        ap plan_of c.in-Branch.is
-        ∙ (plan-branch c.in-Branch.left c.in-Branch.right
-        ∙ (ap (λ f. branch (plan_of f) (plan_of c.in-Branch.right)) (sym c.get.ensures)
-        ∙ ap (λ f. branch (plan_of c.get.result.now) (plan_of f)) (sym c.get-in-Branch.ensures))) in
+    ap plan_of c.in-Branch.is
+    ∙ (plan-branch c.in-Branch.left c.in-Branch.right
+    ∙ (ap (λ f. branch (plan_of f) (plan_of c.in-Branch.right)) (sym c.get.ensures)
+    ∙ ap (λ f. branch (plan_of c.get.result.now) (plan_of f)) (sym c.get-in-Branch.ensures))) in
     subst (λ (p : Plan Event). CarriesOver p c.args.copies.now c.join.new.self) (sym e)
     (branch_end (plan_of c.get.result.now) (plan_of c.get-in-Branch.result.now) c.reached-start.result
     c.args.copies.now c.inspect.new.copies c.go_back.new.self c.inspect-in-Branch.new.copies c.join.new.self c.as_slice-in-Branch.result.now

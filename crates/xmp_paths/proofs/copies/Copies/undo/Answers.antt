@@ -1,4 +1,4 @@
-use Rattle.std.proofs.Common.{◌≡◌, ◌+◌, ◌≤◌, ◌++◌, ◌∷◌, [], ◌∙◌, sym, ap, length, take, drop, arith, length-append}
+use Rattle.std.proofs.Common.{◌≡◌, ◌+◌, ◌≤◌, ◌∷◌, [], ◌∙◌, ap, length, take, drop, arith, length-append}
 use Rattle.xmp_paths.specs.Copies.{set_of, undone_at}
 use Rattle.xmp_paths.proofs.TrailLaws.{undo_step, undo_trail}
 use Rattle.xmp_paths.proofs.copies.Copies.undo.Goals as goal
