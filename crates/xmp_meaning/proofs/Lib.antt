@@ -10,6 +10,7 @@ pub mod Images
 pub mod MoreSteps
 pub mod Forms
 pub mod TenTurns
+pub mod ReadAndPrint
 pub mod Unrolled
 pub mod FormatLaws
 pub mod Counting

@@ -31,13 +31,13 @@ pub record TaskEnd : Type 0 where
   pub text : List ℕ
 
 -- What is said at an exchange: nothing at a barrier, the values of the variables from a node, the cells of an array, the sides of a gmove
--- with the cells that are meant and a value for each target, the ends of the parts of a loop directive by node, the ends of the tasks in order.
+-- with the cells that are meant and a value for each of the target's, the ends of the parts of a loop directive by node, the ends of the tasks in order.
 pub data Exchange : Type 0 where
   AtBarrier : Exchange
-  Broadcast : NodeSet → List ℤ → Exchange
+  Broadcast : (variables : List Name) → NodeSet → (values : List ℤ) → Exchange
   Reflected : (array : ℕ) → (cells : List ℤ) → Exchange
   Moved : (target source : MoveSide) → Aim → (values : List ℤ) → Exchange
-  LoopEnd : List PartEnd → Exchange
+  LoopEnd : LoopDirective → List PartEnd → Exchange
   TasksEnd : List TaskEnd → Exchange
 
 -- the values of scalars
@@ -101,10 +101,10 @@ note_arrays (a ∷ all) = then_run (λ s. note (Reflected a.number (row_in s.arr
 abbrev pub traced : ProgParts → Handlers Notes
 traced p = record erased {
   loop = λ directive around body.
-      then_run (λ s. note (LoopEnd (part_ends p directive around body s)) s) (around (then_run (note_turn p directive) body));
+      then_run (λ s. note (LoopEnd directive (part_ends p directive around body s)) s) (around (then_run (note_turn p directive) body));
   reflect = note_arrays;
   barrier = note AtBarrier;
-  bcast = λ variables from s. note (Broadcast from (values_of s (map (λ v. v.number) variables))) s;
+  bcast = λ variables from s. note (Broadcast variables from (values_of s (map (λ v. v.number) variables))) s;
   gmove = λ target source aim read write.
       aim >>= (λ a. read a.sources >>= (λ vs. then_run (note (Moved target source a vs)) (write a.targets vs)));
   tasks = λ all. then_run (λ s. note (TasksEnd (map (task_end s) all)) s) (block (map task_run all));

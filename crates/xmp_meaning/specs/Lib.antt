@@ -18,6 +18,12 @@ pub mod Parts
 pub mod Exchanges
 pub mod LoopEnds
 pub mod TaskEnds
+pub mod TrapWords
+pub mod Messages
+pub mod Stores
+pub mod SharedWords
+pub mod Traffic
 pub mod Phases
+pub mod Accesses
 pub mod Laws
 pub mod Examples

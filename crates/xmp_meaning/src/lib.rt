@@ -15,4 +15,4 @@ pub use laws::{
 };
 pub use location::Location;
 pub use outcome::Outcome;
-pub use rows::ten_turns_take_ten_steps;
+pub use rows::{a_number_is_read_and_printed, ten_turns_take_ten_steps};
