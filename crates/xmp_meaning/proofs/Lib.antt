@@ -15,3 +15,6 @@ pub mod Unrolled
 pub mod FormatLaws
 pub mod Counting
 pub mod CountedTurns
+pub mod Slots
+pub mod WrittenOnce
+pub mod TrapsRead

@@ -1,5 +1,5 @@
 -- Laws of runs and of statements.
-use Rattle.std.specs.Prelude.{◌≡◌, ◌≢◌, ◌≤◌, ◌<◌, ◌↔◌, ◌+◌, ◌*◌, ◌++◌, ◌+ℤ◌, pos, zero, suc, ℕ, ℤ, Some, Bool, true, false, List, [], IsTrue, slice_get, slice_set}
+use Rattle.std.specs.Prelude.{◌≡◌, ◌≢◌, ◌≤◌, ◌<◌, ◌↔◌, ◌+◌, ◌*◌, ◌++◌, ◌+ℤ◌, pos, zero, suc, ℕ, ℤ, Some, Bool, true, false, List, [], length, IsTrue, slice_get, slice_set, take}
 use Rattle.std.specs.List.{list_all, flat_map}
 use Rattle.xmp_prog.specs.declared.parts.ProgParts.{ProgParts}
 use Rattle.xmp_num.specs.declared.types.Ty.TheVariants.{Int}
@@ -17,7 +17,15 @@ use Rattle.xmp_meaning.specs.Runs.{State, Step, Gave, Ended, RunIn, Run, ◌>>=�
 use Rattle.xmp_meaning.specs.Context.{Context}
 use Rattle.xmp_prog.specs.Fits.{node_count}
 use Rattle.xmp_meaning.specs.Blocks.{then_run, block, choose, turns}
-use Rattle.xmp_meaning.specs.Layouts.{Whole}
+use Rattle.xmp_map.specs.declared.array_map.ArrayMap.{ArrayMap}
+use Rattle.xmp_map.specs.RowMajor.{product, row_major}
+use Rattle.xmp_map.specs.Held as held
+use Rattle.xmp_map.specs.Held.{IsCell, holds, slot}
+use Rattle.xmp_prog.specs.declared.parts.Home.TheVariants as home
+use Rattle.xmp_prog.specs.Statements.{writes_of}
+use Rattle.xmp_meaning.specs.Declarations.{extents, home_of}
+use Rattle.xmp_meaning.specs.Writes.{scalars_written}
+use Rattle.xmp_meaning.specs.Layouts.{Whole, Packed, number_of}
 use Rattle.xmp_meaning.specs.Handlers.{Handlers, erased}
 use Rattle.xmp_meaning.specs.Expressions.{call, expr_of}
 use Rattle.xmp_prog.specs.Formats.{Piece, spelling, is_piece}
@@ -172,3 +180,22 @@ CountedTurns X = (h : Handlers X) (cx : Context) (head : LoopHead) (body : Run X
     → (s : State X) → fits s ≡ true → slice_get s.scalars head.index.number ≡ Some from
     → let n = turn_count from (wrap Int to) head.inclusive head.step in
     turns n (inside h cx head) (then_run body (step_up head)) s ≡ repeated head n 0 from body s
+
+-- ---- where cells lie
+
+-- in a store of whole rows the number of an image's cell is the row-major one, behind the cells of the images before
+abbrev pub WholeNumbers : ProgParts → Type 0
+WholeNumbers p = (array image : ℕ) (xs : List ℕ) → length xs ≡ length (extents p array)
+    → number_of Whole p array image xs ≡ pos (image * product (extents p array) + row_major (extents p array) xs)
+
+-- in a node's store the number of a cell that it holds is the cell's slot
+abbrev pub HeldNumbers : ProgParts → Type 0
+HeldNumbers p = (array number node : ℕ) (m : ArrayMap) (cell : List ℕ) → home_of p array ≡ home.Spread number m
+    → extents p array ≡ take m.dims (held.extents m) → IsCell m cell → holds m node cell ≡ true
+    → number_of (Packed node) p array 0 (take m.dims cell) ≡ pos (slot m node cell)
+
+-- ---- what a statement writes
+
+-- the scalars that a statement writes are those by which the parts of a program are judged
+abbrev pub WritesAreOne : Stmt → Type 0
+WritesAreOne s = scalars_written s ≡ writes_of s

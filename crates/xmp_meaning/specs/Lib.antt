@@ -26,4 +26,5 @@ pub mod Traffic
 pub mod Phases
 pub mod Accesses
 pub mod Laws
+pub mod TrafficLaws
 pub mod Examples
