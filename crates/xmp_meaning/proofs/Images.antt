@@ -11,6 +11,7 @@ use Rattle.xmp_meaning.specs.declared.outcome.Outcome.TheVariants as outcome
 use Rattle.xmp_meaning.specs.declared.ends.Flow.TheVariants.{Next}
 use Rattle.xmp_meaning.specs.Runs.{State, Step, Gave, Ended, Run, and_then, ◌>>=◌, pure, step_of, take_step}
 use Rattle.xmp_prog.specs.Fits.{node_count}
+use Rattle.xmp_meaning.specs.Blocks.{each}
 use Rattle.xmp_meaning.specs.Layouts.{Whole}
 use Rattle.xmp_meaning.specs.Context.{Context}
 use Rattle.xmp_meaning.specs.Handlers.{erased}
@@ -20,7 +21,7 @@ use Rattle.xmp_meaning.specs.Calls.{main_context}
 use Rattle.xmp_meaning.specs.Programs.{no_writes, beginning, told, outcome_of, serial_end, serial}
 use Rattle.xmp_meaning.specs.Phases.{Memory, at_image, next_phase, image_run, image_runs, applied_row, applied, memory_after, stopped, printed_in, goes_on, phase_outcome, phases_from}
 use Rattle.xmp_meaning.specs.Laws.{bare, OneImage}
-use Rattle.xmp_meaning.proofs.Keeps.{Joins, Keeps, KeepsHandlers, turns_kept, tasks_kept}
+use Rattle.xmp_meaning.proofs.Keeps.{Joins, Keeps, KeepsHandlers, each_kept, turns_kept, tasks_kept}
 use Rattle.xmp_meaning.proofs.RelatedStatements.{keeps-program}
 use Rattle.xmp_meaning.proofs.Stays.{Any, all_any}
 
@@ -92,8 +93,9 @@ alike_handlers p = record {
   barrier = λ s none. (refl, none);
   bcast = λ variables nodes s none. (refl, none);
   gmove = λ target source aim aim' read read' write write' h i j.
-      alike_on aim aim' (λ a. read a.sources >>= write a.targets) (λ a. read' a.sources >>= write' a.targets) h
-      (λ a. alike_on (read a.sources) (read' a.sources) (write a.targets) (write' a.targets) (i a.sources) (j a.targets));
+      alike_on aim aim' (λ a. each (map read a.sources) [] >>= write a.targets) (λ a. each (map read' a.sources) [] >>= write' a.targets) h
+      (λ a. alike_on (each (map read a.sources) []) (each (map read' a.sources) []) (write a.targets) (write' a.targets)
+      (each_kept alike_joins read read' i a.sources []) (j a.targets));
   tasks = λ ts us all. tasks_kept alike_joins ts us all;
   sync = alike_sync p;
 }

@@ -1,5 +1,5 @@
 -- Relations between runs that every part of the meaning keeps.
-use Rattle.std.proofs.Common.{◌≡◌, ℕ, zero, suc, ℤ, Bool, true, false, if◌then◌else◌, List, [], ◌∷◌, map, Result, Ok, Err}
+use Rattle.std.proofs.Common.{◌≡◌, ℕ, zero, suc, ℤ, Bool, true, false, if◌then◌else◌, List, [], ◌∷◌, ◌++◌, map, Result, Ok, Err}
 use Rattle.xmp_base.specs.declared.place.Place.{Place}
 use Rattle.xmp_num.specs.declared.types.TrapKind.{TrapKind}
 use Rattle.xmp_map.specs.declared.grid.NodeSet.{NodeSet}
@@ -9,7 +9,7 @@ use Rattle.xmp_prog.specs.declared.statements.MoveSide.{MoveSide}
 use Rattle.xmp_meaning.specs.declared.ends.Flow.{Flow}
 use Rattle.xmp_meaning.specs.declared.ends.Flow.TheVariants.{Next, Returned}
 use Rattle.xmp_meaning.specs.Runs.{State, RunIn, Run, ◌>>=◌, pure, trap, or_trap, scalar, set_scalar, cell, set_cell, write, taken, set_taken}
-use Rattle.xmp_meaning.specs.Blocks.{after, then_run, block, choose, turns}
+use Rattle.xmp_meaning.specs.Blocks.{each, after, then_run, block, choose, turns}
 use Rattle.xmp_meaning.specs.Context.{Context}
 use Rattle.xmp_meaning.specs.Handlers.{Handlers, TaskIn, TaskRun, task_run, Aim, erased}
 use Rattle.xmp_meaning.specs.Expressions.{call}
@@ -68,6 +68,12 @@ module _ {P Q : Type 0} {R : (A : Type 0) → RunIn P A → RunIn Q A → Type 0
   turns_kept zero r t = j.gives Next
   turns_kept (suc n) r t = j.goes_on r (λ more. choose_kept more (then_kept t (turns_kept n r t)) (j.gives Next))
 
+  -- pairwise related runs, one for each of the items
+  pub each_kept : {C A : Type 0} (f : C → RunIn P A) (g : C → RunIn Q A) → ((c : C) → R A (f c) (g c))
+      → (cs : List C) (vs : List A) → R (List A) (each (map f cs) vs) (each (map g cs) vs)
+  each_kept f g h [] vs = j.gives vs
+  each_kept f g h (c ∷ cs) vs = j.goes_on (h c) (λ v. each_kept f g h cs (vs ++ v ∷ []))
+
   -- tasks one after the other
   pub tasks_kept : (ts : List (TaskIn P)) (us : List (TaskIn Q)) → AllAlike P Q R ts us → R Flow (block (map task_run ts)) (block (map task_run us))
   tasks_kept [] [] alike = j.gives Next
@@ -85,9 +91,9 @@ pub record KeepsHandlers (X Y : Type 0) (T : ℕ → Type 0) (R : (A : Type 0) �
   pub reflect : (arrays : List Name) → R Flow (h.reflect arrays) (h'.reflect arrays)
   pub barrier : R Flow h.barrier h'.barrier
   pub bcast : (variables : List Name) (nodes : NodeSet) → R Flow (h.bcast variables nodes) (h'.bcast variables nodes)
-  pub gmove : (target source : MoveSide) (aim : Run X Aim) (aim' : Run Y Aim) (read : List ℕ → Run X (List ℤ)) (read' : List ℕ → Run Y (List ℤ))
+  pub gmove : (target source : MoveSide) (aim : Run X Aim) (aim' : Run Y Aim) (read : ℕ → Run X ℤ) (read' : ℕ → Run Y ℤ)
       (write : List ℕ → List ℤ → Run X Flow) (write' : List ℕ → List ℤ → Run Y Flow)
-      → R Aim aim aim' → ((ns : List ℕ) → R (List ℤ) (read ns) (read' ns)) → ((ns : List ℕ) (vs : List ℤ) → R Flow (write ns vs) (write' ns vs))
+      → R Aim aim aim' → ((n : ℕ) → R ℤ (read n) (read' n)) → ((ns : List ℕ) (vs : List ℤ) → R Flow (write ns vs) (write' ns vs))
       → R Flow (h.gmove target source aim read write) (h'.gmove target source aim' read' write')
   pub tasks : (ts : List (TaskRun X)) (us : List (TaskRun Y)) → AllAlike (State X) (State Y) R ts us → R Flow (h.tasks ts) (h'.tasks us)
   pub sync : R Flow h.sync h'.sync
@@ -114,7 +120,7 @@ module _ {X Y : Type 0} {cx : Context} {S T : ℕ → Type 0} {R : (A : Type 0) 
     reflect = λ arrays. k.gives Next;
     barrier = k.gives Next;
     bcast = λ variables nodes. k.gives Next;
-    gmove = λ target source aim aim' read read' write write' h i j. k.goes_on h (λ a. k.goes_on (i a.sources) (j a.targets));
+    gmove = λ target source aim aim' read read' write write' h i j. k.goes_on h (λ a. k.goes_on (each_kept joins read read' i a.sources []) (j a.targets));
     tasks = tasks_kept joins;
     sync = k.gives Next;
   }

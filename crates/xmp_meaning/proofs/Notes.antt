@@ -1,5 +1,5 @@
 -- The run that notes each exchange is the serial run, the notes apart.
-use Rattle.std.proofs.Common.{◌≡◌, ℕ, zero, suc, ℤ, List, [], ◌∷◌, refl, sym, ap, ◌∙◌}
+use Rattle.std.proofs.Common.{◌≡◌, ℕ, zero, suc, ℤ, List, [], ◌∷◌, map, refl, sym, ap, ◌∙◌}
 use Rattle.xmp_prog.specs.declared.parts.ProgParts.{ProgParts}
 use Rattle.xmp_prog.specs.declared.statements.Name.{Name}
 use Rattle.xmp_prog.specs.declared.statements.Stmt.{Stmt}
@@ -7,7 +7,7 @@ use Rattle.xmp_meaning.specs.declared.ends.End.TheVariants.{Trapped, OutOfSteps,
 use Rattle.xmp_meaning.specs.declared.ends.Flow.{Flow}
 use Rattle.xmp_meaning.specs.declared.ends.Flow.TheVariants.{Next}
 use Rattle.xmp_meaning.specs.Runs.{State, Step, Gave, Ended, Run, and_then, ◌>>=◌, step_of, take_step}
-use Rattle.xmp_meaning.specs.Blocks.{then_run}
+use Rattle.xmp_meaning.specs.Blocks.{each, then_run}
 use Rattle.xmp_meaning.specs.Layouts.{Whole}
 use Rattle.xmp_meaning.specs.Context.{Context}
 use Rattle.xmp_meaning.specs.Handlers.{erased}
@@ -18,7 +18,7 @@ use Rattle.xmp_meaning.specs.Programs.{beginning, program, outcome_of}
 use Rattle.xmp_meaning.specs.Exchanges.{Notes, no_notes, Moved, note, note_turn, note_arrays, traced}
 use Rattle.xmp_meaning.specs.Writes.{scalars_written, arrays_written}
 use Rattle.xmp_meaning.specs.Laws.{bare, bare_step, NotesApart, TracedIsSerial}
-use Rattle.xmp_meaning.proofs.Keeps.{Joins, Keeps, KeepsHandlers, turns_kept, tasks_kept}
+use Rattle.xmp_meaning.proofs.Keeps.{Joins, Keeps, KeepsHandlers, each_kept, turns_kept, tasks_kept}
 use Rattle.xmp_meaning.proofs.RelatedStatements.{keeps-stmt, keeps-program}
 use Rattle.xmp_meaning.proofs.Stays.{Any, all_any}
 
@@ -78,10 +78,10 @@ forgets_traced p = record {
   barrier = λ s. refl;
   bcast = λ variables nodes s. refl;
   gmove = λ target source aim aim' read read' write write' h i j.
-      forgets_on aim aim' (λ a. read a.sources >>= write a.targets)
-      (λ a. read' a.sources >>= (λ vs. then_run (note (Moved target source a vs)) (write' a.targets vs))) h
-      (λ a. forgets_on (read a.sources) (read' a.sources) (write a.targets)
-      (λ vs. then_run (note (Moved target source a vs)) (write' a.targets vs)) (i a.sources) (λ vs s. j a.targets vs _));
+      forgets_on aim aim' (λ a. each (map read a.sources) [] >>= write a.targets)
+      (λ a. each (map read' a.sources) [] >>= (λ vs. then_run (note (Moved target source a vs)) (write' a.targets vs))) h
+      (λ a. forgets_on (each (map read a.sources) []) (each (map read' a.sources) []) (write a.targets)
+      (λ vs. then_run (note (Moved target source a vs)) (write' a.targets vs)) (each_kept forgets_joins read read' i a.sources []) (λ vs s. j a.targets vs _));
   tasks = λ ts us alike s. tasks_kept forgets_joins ts us alike _;
   sync = λ s. refl;
 }

@@ -43,12 +43,6 @@ module _ {X Y : Type 0} {S T : ℕ → Type 0} {R : (A : Type 0) → Run X A →
   keeps-subscript (Some x) at = k.gives x
   keeps-subscript None at = k.traps Subscript at
 
-  -- runs of two kinds, pairwise related, one for each of the items
-  pub keeps-each : {C A : Type 0} (f : C → Run X A) (g : C → Run Y A) → ((c : C) → R A (f c) (g c))
-      → (cs : List C) (vs : List A) → R (List A) (each (map f cs) vs) (each (map g cs) vs)
-  keeps-each f g h [] vs = k.gives vs
-  keeps-each f g h (c ∷ cs) vs = k.goes_on (h c) (λ v. keeps-each f g h cs (vs ++ v ∷ []))
-
   module _ {C D : Type 0} (p : C → Expr) (q : D → Access) (j : (c : C) → ExprKept (p c)) (i : (d : D) → AccessKept (q d)) where
     keeps-items : (cs : List C) (vs : List ℤ) → R (List ℤ) (each (map (expr_of h cx) (map p cs)) vs) (each (map (expr_of h' cx) (map p cs)) vs)
     keeps-items [] vs = k.gives vs

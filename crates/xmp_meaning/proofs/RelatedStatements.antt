@@ -36,13 +36,13 @@ use Rattle.xmp_meaning.specs.Expressions.{expr_of, natural, within}
 use Rattle.xmp_meaning.specs.Formats.{printed}
 use Rattle.xmp_meaning.specs.Assignments.{location_type, value_at, store, at_target, new_value, assign, initialise, store_read, scan}
 use Rattle.xmp_meaning.specs.Loops.{inside, is_inside, step_up, turn_count, entering, counted, nest}
-use Rattle.xmp_meaning.specs.Sections.{Chosen, One, Many, chosen, numbers, in_range, progression, section, subscripts, all_subscripts, cells_from, cells, cell_at, lengths, fit, name_of, lengths_fit, spread, aim, read_all, store_all}
+use Rattle.xmp_meaning.specs.Sections.{Chosen, One, Many, chosen, numbers, in_range, progression, section, subscripts, all_subscripts, cells_from, cells, cell_at, lengths, fit, name_of, lengths_fit, spread, aim, read_cell, store_all}
 use Rattle.xmp_meaning.specs.Statements.{plain_of, stmt_step, task_step, stmt_of}
 use Rattle.xmp_prog.specs.Statements.{indices_of, slots_of_target, slots_of_side, arrays_of_side, plain_writes}
 use Rattle.xmp_meaning.specs.Writes.{target_arrays, plain_arrays, scalars_step, arrays_step, written_in_task, scalars_written, arrays_written}
 use Rattle.xmp_meaning.specs.Programs.{starts, program}
-use Rattle.xmp_meaning.proofs.Keeps.{Keeps, KeepsHandlers, TasksAlike, AllAlike, joins, then_kept, choose_kept, turns_kept, keeps-or_trap}
-use Rattle.xmp_meaning.proofs.RelatedExpressions.{keeps-expr, keeps-cell_of, keeps-holds, keeps-each, keeps-subscript}
+use Rattle.xmp_meaning.proofs.Keeps.{Keeps, KeepsHandlers, TasksAlike, AllAlike, joins, each_kept, then_kept, choose_kept, turns_kept, keeps-or_trap}
+use Rattle.xmp_meaning.proofs.RelatedExpressions.{keeps-expr, keeps-cell_of, keeps-holds, keeps-subscript}
 
 -- a location that may be written
 abbrev MayWrite : (S T : ℕ → Type 0) → Location → Type 0
@@ -135,7 +135,7 @@ module _ {X Y : Type 0} {S T : ℕ → Type 0} {R : (A : Type 0) → Run X A →
 
   keeps-numbers : (s : MoveSide) → R (List Chosen) (numbers h cx s) (numbers h' cx s)
   keeps-numbers (side.Scalar name) = k.gives []
-  keeps-numbers (side.Array name parts) = keeps-each cx k kh (chosen h cx) (chosen h' cx) keeps-chosen parts []
+  keeps-numbers (side.Array name parts) = each_kept (joins k) (chosen h cx) (chosen h' cx) keeps-chosen parts []
 
   keeps-section : (b : Bool) (at : Place) (xs : List ℕ) → R (List ℕ) (section b at xs) (section b at xs)
   keeps-section true at xs = k.gives xs
@@ -167,9 +167,6 @@ module _ {X Y : Type 0} {S T : ℕ → Type 0} {R : (A : Type 0) → Run X A →
       k.goes_on (keeps-lengths_fit (fit (lengths t) (lengths f)) (name_of to).at)
       (λ u. k.gives (record { targets = targets; sources = spread (lengths f) (length targets) sources }))))))
 
-  keeps-read_all : (s : MoveSide) (ns : List ℕ) → R (List ℤ) (read_all h s ns) (read_all h' s ns)
-  keeps-read_all s ns = keeps-each cx k kh (λ n. value_at h (cell_at s n)) (λ n. value_at h' (cell_at s n)) (λ n. keeps-value_at (cell_at s n)) ns []
-
   may_write_side : (s : MoveSide) → AllByRecursion S (slots_of_side s) → AllByRecursion T (arrays_of_side s) → (n : ℕ) → MayWrite S T (cell_at s n)
   may_write_side (side.Scalar name) may rows n = may.0
   may_write_side (side.Array name parts) slots may n = may.0
@@ -189,16 +186,16 @@ module _ {X Y : Type 0} {S T : ℕ → Type 0} {R : (A : Type 0) → Run X A →
   keeps-plain (plain.Set to c value) may rows = keeps-at_target to may rows (keeps-assign c value)
   keeps-plain (plain.Return value) may rows = k.goes_on (keeps-expr cx k kh value) (λ v. k.gives (Returned v))
   keeps-plain (plain.Call function arguments at) may rows =
-      k.goes_on (keeps-each cx k kh (expr_of h cx) (expr_of h' cx) (keeps-expr cx k kh) arguments []) (λ vs. keeps-next (k.calls function vs))
+      k.goes_on (each_kept (joins k) (expr_of h cx) (expr_of h' cx) (keeps-expr cx k kh) arguments []) (λ vs. keeps-next (k.calls function vs))
   keeps-plain (plain.Print format arguments at) may rows =
-      k.goes_on (keeps-each cx k kh (expr_of h cx) (expr_of h' cx) (keeps-expr cx k kh) arguments []) (λ vs. keeps-next (k.writes (printed format vs)))
+      k.goes_on (each_kept (joins k) (expr_of h cx) (expr_of h' cx) (keeps-expr cx k kh) arguments []) (λ vs. keeps-next (k.writes (printed format vs)))
   keeps-plain (plain.Scan to at) may rows = keeps-at_target to may rows keeps-scan
   keeps-plain (plain.Sync status at) may rows = keeps-then kh.sync (keeps-next (k.sets_scalar status.number may.0 (pos 0)))
   keeps-plain (plain.Reflect arrays at) may rows = kh.reflect arrays
   keeps-plain (plain.Barrier at) may rows = kh.barrier
   keeps-plain (plain.Cast variables from at) may rows = kh.bcast variables from
-  keeps-plain (plain.Gmove to from at) may rows = kh.gmove to from (aim h cx to from) (aim h' cx to from) (read_all h from) (read_all h' from)
-      (store_all h cx to) (store_all h' cx to) (keeps-aim to from) (keeps-read_all from) (keeps-store_all to (may_write_side to may rows))
+  keeps-plain (plain.Gmove to from at) may rows = kh.gmove to from (aim h cx to from) (aim h' cx to from) (read_cell h from) (read_cell h' from)
+      (store_all h cx to) (store_all h' cx to) (keeps-aim to from) (λ n. keeps-value_at (cell_at from n)) (keeps-store_all to (may_write_side to may rows))
 
   abbrev task_of : {Z : Type 0} → Handlers Z → Task → TaskRun Z
   task_of {Z} f = fold-Task (Run Z Flow) (TaskRun Z) (stmt_step f cx) task_step

@@ -1,22 +1,20 @@
 -- The number of a cell in its row: row-major in whole rows, and xmp_map's slot in a packed one.
-use Rattle.std.proofs.Common.{◌≡◌, ◌+◌, ◌*◌, ◌<◌, ℕ, zero, suc, ℤ, pos, negsuc, if◌then◌else◌, Bool, true, false, List, [], ◌∷◌, map, length, refl, sym, ap, ◌∙◌, take, drop, arith}
-use Rattle.std.specs.Prelude.{◌+ℤ◌, ◌*ℤ◌, ◌&&◌, ◌==◌, is_none, Option, Some, None}
+use Rattle.std.proofs.Common.{◌≡◌, ◌+◌, ◌*◌, ◌<◌, ℕ, zero, suc, ℤ, pos, negsuc, if◌then◌else◌, Bool, true, List, [], ◌∷◌, map, length, refl, ap, ◌∙◌, take, drop, arith}
+use Rattle.std.specs.Prelude.{◌+ℤ◌, ◌==◌, is_none, Option, Some, None}
 use Rattle.std.specs.List.{list_all}
 use Rattle.std.proofs.lemmas.Bool.{eqb-true}
 use Rattle.xmp_dist.specs.Count.{count_below}
 use Rattle.xmp_dist.proofs.Counting.{count_below-zero, count_below-yes}
 use Rattle.xmp_map.specs.declared.spread_dim.SpreadDim.{SpreadDim}
 use Rattle.xmp_map.specs.declared.aligned.AlignedDim.{AlignedDim}
-use Rattle.xmp_map.specs.declared.array_map.ArrayMap.{ArrayMap}
 use Rattle.xmp_map.specs.RowMajor.{product, row_major, unravel}
 use Rattle.xmp_map.specs.Boxes.{IsInside, all_pass, counts_below}
 use Rattle.xmp_map.specs.Align.{is_unused, under}
 use Rattle.xmp_map.specs.Held as held
 use Rattle.xmp_map.proofs.Counted.{and_left, and_right}
 use Rattle.xmp_prog.specs.declared.parts.ProgParts.{ProgParts}
-use Rattle.xmp_prog.specs.declared.parts.Home.TheVariants as home
-use Rattle.xmp_meaning.specs.Declarations.{extents, home_of}
-use Rattle.xmp_meaning.specs.Layouts.{Whole, Packed, Axis, axes_of, kept, number_from, number_of}
+use Rattle.xmp_meaning.specs.Declarations.{extents}
+use Rattle.xmp_meaning.specs.Layouts.{Packed, axes_of, kept, number_from}
 use Rattle.xmp_meaning.specs.Laws.{WholeNumbers, HeldNumbers}
 
 -- ---- whole rows

@@ -1,6 +1,6 @@
 -- The words of a trap can be read back.
-use Rattle.std.proofs.Common.{◌≡◌, ◌+◌, ◌-◌, ◌*◌, ◌/◌, ◌%◌, ◌<◌, ◌≤◌, ◌^◌, ℕ, zero, suc, ℤ, pos, negsuc, Bool, true, false, List, [], ◌∷◌, refl, sym, ap, ◌∙◌, arith, drop, subst}
-use Rattle.std.specs.Prelude.{◌++◌, ◌+ℤ◌, ◌*ℤ◌, Option, Some, None, if◌then◌else◌, unwrap_or, slice_get, nat_lt}
+use Rattle.std.proofs.Common.{◌≡◌, ◌+◌, ◌-◌, ◌*◌, ◌/◌, ◌%◌, ◌<◌, ◌≤◌, ℕ, zero, suc, ℤ, pos, negsuc, Bool, true, false, List, [], ◌∷◌, refl, sym, ap, ◌∙◌, arith, subst}
+use Rattle.std.specs.Prelude.{◌++◌, ◌+ℤ◌, ◌*ℤ◌, Option, Some, None, if◌then◌else◌, nat_lt}
 use Rattle.std.specs.List.{AllByRecursion}
 use Rattle.std.specs.Int.{int_wrap, int_rem_euclid, int_div_euclid, cast_signed, w32, w64}
 use Rattle.std.specs.Int.RustNames.{FitsSigned, unsigned_abs}
@@ -17,7 +17,7 @@ use Rattle.xmp_meaning.specs.declared.ends.End.{End}
 use Rattle.xmp_meaning.specs.declared.ends.End.TheVariants.{Trapped, OutOfSteps, PhaseEnd}
 use Rattle.xmp_meaning.specs.Expressions.{natural}
 use Rattle.xmp_meaning.specs.Exchanges.{PartEnd}
-use Rattle.xmp_meaning.specs.TrapWords.{two_to_32, low_half, high_half, both_halves, kind_number, kind_of_number, trap_words, index_at, SaidTrap, trap_of_words, trap_said}
+use Rattle.xmp_meaning.specs.TrapWords.{two_to_32, low_half, high_half, both_halves, kind_number, kind_of_number, trap_words, index_at, trap_of_words, trap_said}
 use Rattle.xmp_meaning.specs.TrafficLaws.{IsPlace, EndsAreRead}
 
 -- ---- two halves

@@ -2,11 +2,11 @@
 use Rattle.std.proofs.Common.{◌≡◌, ◌++◌, ℕ, List, [], ◌∷◌, map, refl, sym, ap, ◌∙◌, subst}
 use Rattle.std.specs.List.{concat, flat_map}
 use Rattle.xmp_prog.specs.declared.statements.Stmt.{Stmt, map-Stmt}
-use Rattle.xmp_prog.specs.declared.statements.Task.{Task, map-Task}
+use Rattle.xmp_prog.specs.declared.statements.Task.{Task}
 use Rattle.xmp_prog.specs.declared.statements.Stmt.TheOpen.{Stmt-F, Task-F}
-use Rattle.xmp_prog.specs.declared.statements.Stmt.TheFolds.{ind-Stmt, fold-Stmt, fold-Task, fold-roll-Stmt, fold-roll-Task}
+use Rattle.xmp_prog.specs.declared.statements.Stmt.TheFolds.{ind-Stmt, fold-Task, fold-roll-Stmt, fold-roll-Task}
 use Rattle.xmp_prog.specs.declared.statements.Stmt.TheViews.{roll-Stmt, roll-Task}
-use Rattle.xmp_prog.specs.Statements.{indices_of, Walked, WalkedTask, writes_walked, walk_step, walk_task, walked}
+use Rattle.xmp_prog.specs.Statements.{indices_of, Walked, WalkedTask, walk_step, walk_task, walked}
 use Rattle.xmp_meaning.specs.Writes.{scalars_step, written_in_task, scalars_written}
 use Rattle.xmp_meaning.specs.Laws.{WritesAreOne}
 

@@ -1,8 +1,15 @@
--- Statements one after the other, and turns of a loop (ISO C11 6.8.2, 6.8.5), over states of any kind.
-use Rattle.std.specs.Prelude.{ℕ, zero, suc, Bool, true, false, List, [], ◌∷◌}
+-- Parts of a run one after the other, statements in their order, and turns of a loop (ISO C11 6.8.2, 6.8.5), over states of any kind.
+use Rattle.std.specs.Prelude.{ℕ, zero, suc, Bool, true, false, List, [], ◌∷◌, ◌++◌}
 use Rattle.xmp_meaning.specs.declared.ends.Flow.{Flow}
 use Rattle.xmp_meaning.specs.declared.ends.Flow.TheVariants.{Next, Returned}
 use Rattle.xmp_meaning.specs.Runs.{RunIn, ◌>>=◌, pure}
+
+-- the values so far, and then those of the others from left to right
+abbrev pub each : {S A : Type 0} → List (RunIn S A) → List A → RunIn S (List A)
+each [] vs = pure vs
+each (e ∷ es) vs = do
+  v ← e
+  each es (vs ++ v ∷ [])
 
 -- goes on, unless the function has returned
 abbrev pub after : {S : Type 0} → Flow → RunIn S Flow → RunIn S Flow

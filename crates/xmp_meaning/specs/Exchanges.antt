@@ -13,7 +13,7 @@ use Rattle.xmp_meaning.specs.declared.ends.Flow.{Flow}
 use Rattle.xmp_meaning.specs.declared.ends.Flow.TheVariants.{Next}
 use Rattle.xmp_meaning.specs.Runs.{State, Step, Gave, Run, ◌>>=◌, pure, end_of, state_of}
 use Rattle.xmp_meaning.specs.Cells.{row_in}
-use Rattle.xmp_meaning.specs.Blocks.{then_run, block}
+use Rattle.xmp_meaning.specs.Blocks.{each, then_run, block}
 use Rattle.xmp_meaning.specs.Handlers.{Handlers, TaskRun, task_run, Aim, erased}
 use Rattle.xmp_meaning.specs.Parts.{owns_iteration, part_of}
 
@@ -106,6 +106,6 @@ traced p = record erased {
   barrier = note AtBarrier;
   bcast = λ variables from s. note (Broadcast variables from (values_of s (map (λ v. v.number) variables))) s;
   gmove = λ target source aim read write.
-      aim >>= (λ a. read a.sources >>= (λ vs. then_run (note (Moved target source a vs)) (write a.targets vs)));
+      aim >>= (λ a. each (map read a.sources) [] >>= (λ vs. then_run (note (Moved target source a vs)) (write a.targets vs)));
   tasks = λ all. then_run (λ s. note (TasksEnd (map (task_end s) all)) s) (block (map task_run all));
 }

@@ -1,5 +1,5 @@
 -- The value of an expression (ISO C11 6.5; operands, subscripts and arguments from left to right is this project's order).
-use Rattle.std.specs.Prelude.{ℕ, zero, suc, Bool, true, false, not, if◌then◌else◌, nat_lt, List, [], ◌∷◌, ◌++◌, ℤ, pos, negsuc, Option, Some, None}
+use Rattle.std.specs.Prelude.{ℕ, zero, suc, Bool, true, false, not, if◌then◌else◌, nat_lt, List, [], ◌∷◌, ℤ, pos, negsuc, Option, Some, None}
 use Rattle.xmp_base.specs.declared.place.Place.{Place}
 use Rattle.xmp_num.specs.declared.types.TrapKind.TheVariants.{Subscript}
 use Rattle.xmp_num.specs.Arithmetic.{binary_of, wrap}
@@ -9,6 +9,7 @@ use Rattle.xmp_prog.specs.declared.expressions.Expr.TheFolds.{fold-Expr, fold-Ac
 use Rattle.xmp_prog.specs.declared.expressions.Access.{Access}
 use Rattle.xmp_prog.specs.Fits.{node_count}
 use Rattle.xmp_meaning.specs.Runs.{State, Step, Gave, Ended, RunIn, Run, ◌>>=◌, pure, trap, or_trap, scalar}
+pub use Rattle.xmp_meaning.specs.Blocks.{each}
 use Rattle.xmp_meaning.specs.Declarations.{extents, is_coarray}
 use Rattle.xmp_meaning.specs.Layouts.{number_of}
 use Rattle.xmp_meaning.specs.Context.{Context}
@@ -80,13 +81,6 @@ cell_number cx e = do
   pure (number_of cx.layout cx.program e.array image xs)
 
 -- ---- expressions
-
--- the values so far, and then those of the others from left to right
-abbrev pub each : {S A : Type 0} → List (RunIn S A) → List A → RunIn S (List A)
-each [] vs = pure vs
-each (e ∷ es) vs = do
-  v ← e
-  each es (vs ++ v ∷ [])
 
 -- a call is done in a state of its own: of this one it changes the steps that are left, and nothing else
 abbrev pub after_call : {X : Type 0} → State X → Step (Unit {0}) ℤ → Step X ℤ

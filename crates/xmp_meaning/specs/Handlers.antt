@@ -1,5 +1,5 @@
 -- What directives do, and what reading and writing an element of an array does: an argument of the meaning of statements.
-use Rattle.std.specs.Prelude.{ℕ, ℤ, List, map}
+use Rattle.std.specs.Prelude.{ℕ, ℤ, List, [], map}
 use Rattle.xmp_base.specs.declared.place.Place.{Place}
 use Rattle.xmp_map.specs.declared.grid.NodeSet.{NodeSet}
 use Rattle.xmp_prog.specs.declared.statements.Name.{Name}
@@ -8,7 +8,7 @@ use Rattle.xmp_prog.specs.declared.statements.MoveSide.{MoveSide}
 use Rattle.xmp_meaning.specs.declared.ends.Flow.{Flow}
 use Rattle.xmp_meaning.specs.declared.ends.Flow.TheVariants.{Next}
 use Rattle.xmp_meaning.specs.Runs.{State, RunIn, Run, ◌>>=◌, pure, cell, set_cell}
-use Rattle.xmp_meaning.specs.Blocks.{block}
+use Rattle.xmp_meaning.specs.Blocks.{each, block}
 
 -- A task: its nodes, what its statement does, and the place of its word.
 pub record TaskIn (S : Type 0) : Type 0 where
@@ -28,7 +28,7 @@ pub record Aim : Type 0 where
   pub sources : List ℕ
 
 -- A handler for each directive. That of `loop` has the directive, the nest round a body, and the body. That of `gmove` has its two sides,
--- what is meant, how cells of the source are read, and how values are written to cells of the target. Those of `get` and `put` have an array
+-- what is meant, how a cell of the source is read, and how values are written to cells of the target. Those of `get` and `put` have an array
 -- and the number of a cell in its row.
 pub record Handlers (X : Type 0) : Type 0 where
   pub get : ℕ → ℤ → Run X ℤ
@@ -37,7 +37,7 @@ pub record Handlers (X : Type 0) : Type 0 where
   pub reflect : List Name → Run X Flow
   pub barrier : Run X Flow
   pub bcast : List Name → NodeSet → Run X Flow
-  pub gmove : MoveSide → MoveSide → Run X Aim → (List ℕ → Run X (List ℤ)) → (List ℕ → List ℤ → Run X Flow) → Run X Flow
+  pub gmove : MoveSide → MoveSide → Run X Aim → (ℕ → Run X ℤ) → (List ℕ → List ℤ → Run X Flow) → Run X Flow
   pub tasks : List (TaskRun X) → Run X Flow
   pub sync : Run X Flow
 
@@ -50,7 +50,7 @@ erased = record {
   reflect = λ arrays. pure Next;
   barrier = pure Next;
   bcast = λ variables from. pure Next;
-  gmove = λ target source aim read write. aim >>= (λ a. read a.sources >>= write a.targets);
+  gmove = λ target source aim read write. aim >>= (λ a. each (map read a.sources) [] >>= write a.targets);
   tasks = λ all. block (map task_run all);
   sync = pure Next;
 }

@@ -136,9 +136,9 @@ aim h cx target source = do
   _ ← lengths_fit (fit (lengths to) (lengths from)) (name_of target).at
   pure (record { targets = targets; sources = spread (lengths from) (length targets) sources })
 
--- the values of cells of a side, in order
-abbrev pub read_all : {X : Type 0} → Handlers X → MoveSide → List ℕ → Run X (List ℤ)
-read_all h source ns = each (map (λ n. value_at h (cell_at source n)) ns) []
+-- the value of a cell of a side
+abbrev pub read_cell : {X : Type 0} → Handlers X → MoveSide → ℕ → Run X ℤ
+read_cell h source n = value_at h (cell_at source n)
 
 -- the values into the cells of a side, in order
 abbrev pub store_all : {X : Type 0} → Handlers X → Context → MoveSide → List ℕ → List ℤ → Run X Flow

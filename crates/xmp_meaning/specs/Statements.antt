@@ -15,7 +15,7 @@ use Rattle.xmp_meaning.specs.Expressions.{expr_of, each, call, holds}
 use Rattle.xmp_meaning.specs.Formats.{printed}
 use Rattle.xmp_meaning.specs.Assignments.{at_target, assign, declare, scan}
 use Rattle.xmp_meaning.specs.Loops.{while_loop, counted, nest}
-use Rattle.xmp_meaning.specs.Sections.{aim, read_all, store_all}
+use Rattle.xmp_meaning.specs.Sections.{aim, read_cell, store_all}
 
 -- those that hold no statement
 abbrev pub plain_of : {X : Type 0} → Handlers X → Context → Plain → Run X Flow
@@ -39,7 +39,7 @@ plain_of h cx (plain.Sync status at) = then_run h.sync (do
 plain_of h cx (plain.Reflect arrays at) = h.reflect arrays
 plain_of h cx (plain.Barrier at) = h.barrier
 plain_of h cx (plain.Cast variables from at) = h.bcast variables from
-plain_of h cx (plain.Gmove target source at) = h.gmove target source (aim h cx target source) (read_all h source) (store_all h cx target)
+plain_of h cx (plain.Gmove target source at) = h.gmove target source (aim h cx target source) (read_cell h source) (store_all h cx target)
 
 -- a task with what its statement does
 abbrev pub task_step : {X : Type 0} → Task-F (Run X Flow) (TaskRun X) → TaskRun X
