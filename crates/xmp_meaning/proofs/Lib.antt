@@ -18,3 +18,4 @@ pub mod CountedTurns
 pub mod Slots
 pub mod WrittenOnce
 pub mod TrapsRead
+pub mod NotesAdded
