@@ -10,8 +10,12 @@ pub mod Images
 pub mod MoreSteps
 pub mod Forms
 pub mod TenTurns
+pub mod ReadAndPrint
 pub mod Unrolled
-pub mod Talks
 pub mod FormatLaws
 pub mod Counting
 pub mod CountedTurns
+pub mod Slots
+pub mod WrittenOnce
+pub mod TrapsRead
+pub mod NotesAdded

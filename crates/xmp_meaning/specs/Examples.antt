@@ -4,6 +4,12 @@ use Rattle.xmp_base.specs.declared.place.Place.{Place}
 use Rattle.xmp_num.specs.declared.types.Ty.TheVariants.{Int}
 use Rattle.xmp_num.specs.declared.types.BinOp.TheVariants as op
 use Rattle.xmp_map.specs.declared.grid.Grid.{Grid}
+use Rattle.xmp_map.specs.RowMajor.{product}
+use Rattle.xmp_map.specs.declared.grid.NodeSet.{NodeSet}
+use Rattle.std.proofs.Common.{refl}
+use Rattle.std.proofs.Math.Nat.{le-suc, le_trans}
+use Rattle.xmp_prog.specs.declared.statements.Plain.{Plain}
+use Rattle.xmp_prog.specs.declared.statements.Task.{roll-Task}
 use Rattle.xmp_prog.specs.declared.expressions.Expr.{Expr}
 use Rattle.xmp_prog.specs.declared.expressions.Expr.TheVariants as expr
 use Rattle.xmp_prog.specs.declared.statements.Stmt.{Stmt}
@@ -45,3 +51,33 @@ print_i at = stmt.Plain (plain.Print (37 ∷ 100 ∷ 10 ∷ []) (expr.Scalar 0 a
 -- `int i; int main() { while (i < 10) i++; printf("%d\n", i); }`
 abbrev pub ten_turns : Grid → Place → ProgParts
 ten_turns grid at = over_scalars grid (stmt.While (below_ten at) (increment at) at ∷ print_i at ∷ [])
+
+-- ---- a program over two nodes
+
+-- two nodes in a row
+unfoldable pub two_nodes : Grid
+unfolding product
+two_nodes = record { sizes = 2 ∷ 1 ∷ 1 ∷ []; dims = 1; valid = refl; most = le_trans (le-suc 1) (le-suc 2); rest = refl }
+
+-- the first node, and the second
+abbrev pub node_set : ℕ → NodeSet
+node_set node = record { first = node ∷ 0 ∷ 0 ∷ []; many = 1 ∷ 1 ∷ 1 ∷ [] }
+
+-- a task of one node, alone
+abbrev pub task_on : Place → ℕ → Plain → Stmt
+task_on at node s = stmt.Tasks (roll-Task (record { nodes = node_set node; body = stmt.Plain s; at = at }) ∷ []) at
+
+-- `scanf("%d", &n);`, `printf("%d\n", n);`
+abbrev pub scan_n : Place → Plain
+scan_n at = plain.Scan (target.Scalar 0 at) at
+
+abbrev pub print_n : Place → Plain
+print_n at = plain.Print (37 ∷ 100 ∷ 10 ∷ []) (expr.Scalar 0 at ∷ []) at
+
+-- `bcast (n) from p[0]`
+abbrev pub cast_n : Place → Plain
+cast_n at = plain.Cast (record { number = 0; at = at } ∷ []) (node_set 0) at
+
+-- Over the nodes `p[2]`: a task on `p[0]` reads a number, it is cast from `p[0]`, and a task on `p[1]` prints it.
+abbrev pub read_and_print : Place → ProgParts
+read_and_print at = over_scalars two_nodes (task_on at 0 (scan_n at) ∷ stmt.Plain (cast_n at) ∷ task_on at 1 (print_n at) ∷ [])
