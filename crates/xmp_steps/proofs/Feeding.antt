@@ -1,5 +1,5 @@
 -- A machine that is fed at its stops, and the plain machine's list of stops.
-use Rattle.std.proofs.Common.{◌≡◌, ℕ, zero, suc, Option, Some, None, refl, sym, ap, subst, ◌∙◌}
+use Rattle.std.proofs.Common.{◌≡◌, suc, Option, Some, None, refl, sym, ap, subst, ◌∙◌}
 use Rattle.xmp_steps.specs.Machine.{Next, Goes, Stops, Stuck, within, Comes, Now, On, Is, resumed, fed_of, fed, Stopping, Last, Resumes}
 
 further : {S P : Type 0} {next : S → Next S P} {resume : P → S → Option S} {goal : S → Type 0} {s t : S} → next s ≡ Goes t → Stopping next resume goal t → Stopping next resume goal s

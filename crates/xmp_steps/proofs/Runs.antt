@@ -1,8 +1,8 @@
 -- Stops that are found within a number of steps, and stops that the machine comes to.
-use Rattle.std.proofs.Common.{◌≡◌, ℕ, zero, suc, Bool, true, false, ◌<◌, ◌≤◌, ◌+◌, ◌-◌, Option, Some, None, IsSome, is_some, refl, sym, ap, subst, arith, ◌∙◌, inl, inr, le_of_lt, lt_trans, true≢false}
+use Rattle.std.proofs.Common.{◌≡◌, ℕ, zero, suc, Bool, true, false, ◌<◌, ◌≤◌, ◌-◌, Option, Some, IsSome, is_some, refl, sym, ap, subst, arith, ◌∙◌, inl, inr, le_of_lt, lt_trans}
 use Rattle.std.proofs.lemmas.Bool.{cases_lt, cases_Bool}
 use Rattle.xmp_steps.specs.Machine.{Next, Goes, Stops, Stuck, within, left, Steps, One, More, Comes, Now, On, Is, until, turns}
-use Rattle.xmp_steps.specs.Stops.{at_goes, at_stops, at_stuck, none_some, some_inj, up, up_add, more_by, step_on, stop_is}
+use Rattle.xmp_steps.specs.Stops.{at_goes, at_stops, at_stuck, none_some, some_inj, up, up_add, more_by, step_on}
 
 -- a larger bound finds the same stop
 pub more_finds : {S P : Type 0} (next : S → Next S P) (s : S) (n m : ℕ) (x : P × S) → n ≤ m → within next n s ≡ Some x → within next m s ≡ Some x
@@ -25,6 +25,21 @@ steps_on next n s u o some h (More {t = t} e r) =
     let a = step_on next n s t o h some e in
     let b = steps_on next n t u o some a.0 r in
     (b.0, lt_trans b.1 a.1)
+
+-- what the machine comes to from where it has come
+pub comes_on : {S P : Type 0} {next : S → Next S P} {goal then_goal : S → Type 0} {s : S} → Comes next goal s → ((t : S) → goal t → Comes next then_goal t) → Comes next then_goal s
+comes_on (Now is) onward = onward _ is
+comes_on (On e r) onward = On e (comes_on r onward)
+
+-- one run of steps behind another
+pub steps_join : {S P : Type 0} {next : S → Next S P} {s t u : S} → Steps next s t → Steps next t u → Steps next s u
+steps_join (One e) r = More e r
+steps_join (More e q) r = More e (steps_join q r)
+
+-- a run of steps, and then what the machine comes to
+pub steps_come : {S P : Type 0} {next : S → Next S P} {goal : S → Type 0} {s t : S} → Steps next s t → Comes next goal t → Comes next goal s
+steps_come (One e) c = On e c
+steps_come (More e q) c = On e (steps_come q c)
 
 comes_zero : {S P : Type 0} (next : S → Next S P) (s t : S) (p : P) → within next 0 s ≡ Some (p, t) → (x : Next S P) → next s ≡ x → Comes next (Is t) s
 comes_zero next s t p h (Goes u) e = absurd (none_some (within next 0 s) (p, t) (rw (e, within)) h)

@@ -1,5 +1,5 @@
 -- At most one number of steps leads to a stop.
-use Rattle.std.specs.Prelude.{◌≡◌, ℕ, true, is_some}
+use Rattle.std.specs.Prelude.{true, is_some}
 use Rattle.std.specs.Coded.{×_prop, Coded-set, coded_ℕ, coded_bool}
 use mathlib.Core.HLevel.{Σ_prop_path}
 use Rattle.xmp_steps.specs.Machine.{Next, within, left, Ends}
