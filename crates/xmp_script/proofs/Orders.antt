@@ -185,19 +185,39 @@ no_take : {V : Type 0} (i : ℕ) → take {A = Access V} i [] ≡ []
 no_take zero = refl
 no_take (suc i) = refl
 
--- Where all images have passed the last phase, the words are the script's final ones.
-pub last_words : {V : Type 0} (s : Script V) (w : World V) (e : ℕ) → IsFree s → Reached s w → 0 < s.images → ((k : ℕ) → k < s.images → w.phase k ≡ s.phases) → w.words e ≡ words_at s s.phases e
-last_words {V} s w e free r some all =
-    let o = reached_order s w free r in
-    let e0 = all 0 some in
-    let q-is : o.0 ≡ s.phases = elim (o.1.near 0 some) [ inl now ↦ sym now ∙ e0 | inr back ↦ absurd (let h = o.1.low in let b = back.0 in omega arith) ] in
-    let nobody : (j : ℕ) → j < s.images → j ≢ 0 → Puts s o.0 j e → ⊥ = λ j lj ne p.
+-- where the newest phase is behind the last, the words are the script's final ones
+pub final_words : {V : Type 0} (s : Script V) (w : World V) (q e : ℕ) → InOrder s w q → q ≡ s.phases → 0 < s.images → w.words e ≡ words_at s s.phases e
+final_words {V} s w q e o q-is some =
+    let nobody : (j : ℕ) → j < s.images → j ≢ 0 → Puts s q j e → ⊥ = λ j lj ne p.
     let P : ℕ → Type 0 = λ x. Puts s x j e in
     let p' = subst P q-is p in
     let L : List (Access V) → Type 0 = λ l. slice_get l p'.0 ≡ Some p'.1 in
     let h : None ≡ Some p'.1 = subst L (s.ends s.phases j (le_refl s.phases)) p'.2 in (cc) in
-    let i : ℕ = if w.phase 0 == o.0 then w.place 0 else 0 in
-    o.1.words 0 e some nobody
+    let i : ℕ = if w.phase 0 == q then w.place 0 else 0 in
+    o.words 0 e some nobody
     ∙ ap (λ q. after_all (words_at s q) (take i (s.accesses q 0)) e) q-is
     ∙ ap (λ l. after_all (words_at s s.phases) (take i l) e) (s.ends s.phases 0 (le_refl s.phases))
     ∙ ap (λ l. after_all (words_at s s.phases) l e) (no_take {V = V} i)
+
+-- Where all images have passed the last phase, the words are the script's final ones.
+pub last_words : {V : Type 0} (s : Script V) (w : World V) (e : ℕ) → IsFree s → Reached s w → 0 < s.images → ((k : ℕ) → k < s.images → w.phase k ≡ s.phases) → w.words e ≡ words_at s s.phases e
+last_words s w e free r some all =
+    let o = reached_order s w free r in
+    let e0 = all 0 some in
+    let q-is : o.0 ≡ s.phases = elim (o.1.near 0 some) [ inl now ↦ sym now ∙ e0 | inr back ↦ absurd (let h = o.1.low in let b = back.0 in omega arith) ] in
+    final_words s w o.0 e o.1 q-is some
+
+-- Where all images have made their accesses of the last phase, they are so already.
+pub done_words : {V : Type 0} (s : Script V) (w : World V) (e : ℕ) → IsFree s → Reached s w → 0 < s.images →
+    ((k : ℕ) → k < s.images → (suc (w.phase k) ≡ s.phases) × (w.place k ≡ length (s.accesses (w.phase k) k))) → w.words e ≡ words_at s s.phases e
+done_words s w e free r some all =
+    let o = reached_order s w free r in
+    let last = all 0 some in
+    elim (o.1.near 0 some) [
+      | inl now ↦
+          let q-is : suc o.0 ≡ s.phases = omega (arith, now, last.0) in
+          all_done s w o.0 0 e free o.1 some (omega arith) (λ j lj.
+          let same : w.phase j ≡ o.0 = omega (arith, (all j lj).0) in
+          (same, (all j lj).1 ∙ ap (λ q. length (s.accesses q j)) same)) ∙ ap (λ q. words_at s q e) q-is
+      | inr back ↦ final_words s w o.0 e o.1 (sym back.0 ∙ last.0) some
+    ]
