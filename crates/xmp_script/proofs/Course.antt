@@ -3,7 +3,7 @@ use Rattle.std.proofs.Common.{◌≡◌, ◌≢◌, ℕ, zero, suc, ◌+◌, ◌
 use Rattle.std.proofs.lemmas.Bool.{cases_eq, cases_lt, cases_Bool, lt-ltb, le-ltb}
 use Rattle.xmp_script.specs.Script.{Access, Get, Put, Script, at, after, seen}
 use Rattle.xmp_script.specs.World.{World, MayAccess, MayPass, arrivals, accessed, has_arrived, passed, Accesses, Arrives, Passes, Reached, Then}
-use Rattle.xmp_script.specs.Images.{Images, Standing, Stand, AtAccess, AtSync, AtEnd, peer, synced, behind, does, takes}
+use Rattle.xmp_script.specs.Images.{Images, Standing, Stand, AtAccess, AtSync, AtEnd, peer, settled, behind, does, takes}
 use Rattle.xmp_script.specs.Carries.{onward, own, CarriesScript, AllCarry}
 use Rattle.xmp_script.proofs.Words.{at_same, at_other, after_local}
 use Rattle.xmp_script.proofs.Orders.{gets_see}

@@ -6,3 +6,6 @@ pub mod Syncs
 pub mod Takes
 pub mod Moves
 pub mod Progress
+pub mod Plays
+pub mod Walkers
+pub mod RoundRobin

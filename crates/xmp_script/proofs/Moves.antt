@@ -3,7 +3,7 @@ use Rattle.std.proofs.Common.{◌≡◌, ◌≢◌, ℕ, zero, suc, ◌+◌, ◌
 use Rattle.std.proofs.lemmas.Bool.{cases_eq, cases_lt, cases_Bool, lt-ltb, le-ltb}
 use Rattle.xmp_script.specs.Script.{Access, Script, at}
 use Rattle.xmp_script.specs.World.{World, accessed, has_arrived, passed, Reached}
-use Rattle.xmp_script.specs.Images.{Images, Standing, Stand, AtAccess, AtSync, AtEnd, Moved, Stepped, NotYet, AlreadyEnded, peer, behind, synced, does, takes, moved, found, answer}
+use Rattle.xmp_script.specs.Images.{Images, Standing, Stand, AtAccess, AtSync, AtEnd, Moved, Stepped, NotYet, AlreadyEnded, peer, behind, settled, does, takes, moved, found, answer}
 use Rattle.xmp_script.specs.Carries.{own, CarriesScript, AllCarry}
 use Rattle.xmp_script.specs.Orders.{sum_below, moves_below, most_steps}
 use Rattle.xmp_script.proofs.Words.{at_same, at_other}

@@ -3,16 +3,16 @@ use Rattle.std.proofs.Common.{◌≡◌, ◌≢◌, ℕ, zero, suc, ◌+◌, ◌
 use Rattle.std.proofs.lemmas.Bool.{cases_eq, cases_lt, cases_Bool, lt-ltb, le-ltb}
 use Rattle.xmp_script.specs.Script.{Script, at}
 use Rattle.xmp_script.specs.World.{World, MayArrive, MayPass, arrivals, has_arrived, passed, Arrives, Passes, Reached, Then}
-use Rattle.xmp_script.specs.Images.{Images, Standing, AtSync, AtEnd, peer, synced, does, takes}
+use Rattle.xmp_script.specs.Images.{Images, Standing, AtSync, AtEnd, peer, settled, does, takes}
 use Rattle.xmp_script.specs.Carries.{own}
 use Rattle.xmp_script.proofs.Words.{at_same, at_other}
 use Rattle.xmp_script.proofs.Course.{Stands, Course, SameRow, row_update, peer_other, peer_below, puts, took, puts_in, puts_out, took_out, took_not, took_it, runs, at_own, waits, at_stop}
 
-pub synced_in : {S V : Type 0} (im : Images S V) (images next : ℕ) (x : S) → next < images → synced im images next x ≡ x
-synced_in im images next x lt = rw (lt-ltb next images lt)
+pub settled_in : {S V : Type 0} (im : Images S V) (images next : ℕ) (x : S) → next < images → settled im images next x ≡ x
+settled_in im images next x lt = rw (lt-ltb next images lt)
 
-pub synced_out : {S V : Type 0} (im : Images S V) (images next : ℕ) (x : S) → images ≤ next → synced im images next x ≡ im.pass x
-synced_out im images next x le = rw (le-ltb next images le)
+pub settled_out : {S V : Type 0} (im : Images S V) (images next : ℕ) (x : S) → images ≤ next → settled im images next x ≡ im.pass x
+settled_out im images next x le = rw (le-ltb next images le)
 
 -- ---- the queues
 
@@ -74,8 +74,8 @@ sync_course im s v w r c k lk going free whole more some =
         words = c.words;
         each = row_update im s v (does im s.images v k x AtSync) w (has_arrived w k) k c.each
             (λ j ne. record { state = at_other v.state k _ j ne; next = at_other v.next k _ j ne; ended = refl; phase = refl; place = refl; arrived = at_other w.arrived k _ j ne })
-            (rw (at_same v.state k (synced im s.images (peer k 0) x) k refl, at_same v.next k (peer k 0) k refl, at_same w.arrived k true k refl) (record {
-              state = synced_in im s.images (peer k 0) x some ∙ ap im.go (at_own f here);
+            (rw (at_same v.state k (settled im s.images (peer k 0) x) k refl, at_same v.next k (peer k 0) k refl, at_same w.arrived k true k refl) (record {
+              state = settled_in im s.images (peer k 0) x some ∙ ap im.go (at_own f here);
               is = rw (going, lt-ltb (peer k 0) s.images some);
               below = peer_below k s.images lk 0 (omega arith);
               other = peer_other k 0;
@@ -149,13 +149,13 @@ alone_course {S} {V} im s v w r c k lk going free whole more none =
               arrived = at_other (at w.arrived k true) k _ j ne ∙ at_other w.arrived k _ j ne;
             })
             (rw (
-              at_same v.state k (synced im s.images (peer k 0) x) k refl,
+              at_same v.state k (settled im s.images (peer k 0) x) k refl,
               at_same v.next k (peer k 0) k refl,
               at_same w.phase k (suc (w.phase k)) k refl,
               at_same w.place k 0 k refl,
               at_same (at w.arrived k true) k false k refl,
             ) (record {
-              state = synced_out im s.images (peer k 0) x none ∙ passed_state im s k (w.phase k) (w.place k) x whole (ap im.go (at_own f here));
+              state = settled_out im s.images (peer k 0) x none ∙ passed_state im s k (w.phase k) (w.place k) x whole (ap im.go (at_own f here));
               is = rw (going, le-ltb (peer k 0) s.images none);
               below = peer_below k s.images lk 0 (omega arith);
               other = peer_other k 0;

@@ -3,10 +3,10 @@ use Rattle.std.proofs.Common.{◌≡◌, ◌≢◌, ℕ, zero, suc, ◌+◌, ◌
 use Rattle.std.proofs.lemmas.Bool.{cases_eq, cases_lt, cases_Bool, lt-ltb, le-ltb}
 use Rattle.xmp_script.specs.Script.{Script, at}
 use Rattle.xmp_script.specs.World.{World, MayPass, arrivals, passed, Passes, Reached, Then}
-use Rattle.xmp_script.specs.Images.{Images, Standing, peer, synced, takes}
+use Rattle.xmp_script.specs.Images.{Images, Standing, peer, settled, takes}
 use Rattle.xmp_script.proofs.Words.{at_same, at_other}
 use Rattle.xmp_script.proofs.Course.{Stands, Course, SameRow, row_update, peer_other, peer_below, puts, took, puts_in, puts_out, took_out, took_not, took_it, waits, at_stop}
-use Rattle.xmp_script.proofs.Syncs.{synced_in, synced_out, take_queue_other, take_queue_another, take_queue_it, passed_state}
+use Rattle.xmp_script.proofs.Syncs.{settled_in, settled_out, take_queue_other, take_queue_another, take_queue_it, passed_state}
 
 -- what image k took of i, as it takes one of its peer p
 took_same : (images phase k p i : ℕ) → i ≢ k → i ≢ p → p < images → peer k (suc p) < images → took images phase (peer k (suc p)) i ≡ took images phase p i
@@ -97,8 +97,8 @@ take_course im s v w c k rest lk waiting lies more =
       words = c.words;
       each = row_update im s v (takes im s.images v k (suc rest)) w w k c.each
           (λ j ne. record { state = at_other v.state k _ j ne; next = at_other v.next k _ j ne; ended = refl; phase = refl; place = refl; arrived = refl })
-          (rw (at_same v.state k (synced im s.images next (v.state k)) k refl, at_same v.next k next k refl) (record {
-            state = synced_in im s.images next (v.state k) more ∙ f.state;
+          (rw (at_same v.state k (settled im s.images next (v.state k)) k refl, at_same v.next k next k refl) (record {
+            state = settled_in im s.images next (v.state k) more ∙ f.state;
             is = there ∙ rw (going.1, lt-ltb next s.images more) refl;
             below = peer_below k s.images lk (suc (v.next k)) waiting;
             other = peer_other k (suc (v.next k));
@@ -163,13 +163,13 @@ last_course {S} {V} im s v w r c k rest lk waiting lies none =
               arrived = at_other w.arrived k _ j ne;
             })
             (rw (
-              at_same v.state k (synced im s.images next (v.state k)) k refl,
+              at_same v.state k (settled im s.images next (v.state k)) k refl,
               at_same v.next k next k refl,
               at_same w.phase k (suc (w.phase k)) k refl,
               at_same w.place k 0 k refl,
               at_same w.arrived k false k refl,
             ) (record {
-              state = synced_out im s.images next (v.state k) none ∙ passed_state im s k (w.phase k) (w.place k) (v.state k) (f.whole there) (at_stop f there);
+              state = settled_out im s.images next (v.state k) none ∙ passed_state im s k (w.phase k) (w.place k) (v.state k) (f.whole there) (at_stop f there);
               is = rw (going.1, le-ltb next s.images none);
               below = peer_below k s.images lk (suc (v.next k)) waiting;
               other = peer_other k (suc (v.next k));

@@ -40,8 +40,8 @@ abbrev pub begun : {S V : Type 0} → Images S V → ℕ → (ℕ → V) → Sta
 begun im images words = record { words = words; state = im.begin; next = λ k. images; ended = λ k. false; queue = λ i j. 0 }
 
 -- an image in a sync, whose next awaited image this is: where none is awaited, the sync is behind it
-abbrev pub synced : {S V : Type 0} → Images S V → ℕ → ℕ → S → S
-synced im images next x = if nat_lt next images then x else im.pass x
+abbrev pub settled : {S V : Type 0} → Images S V → ℕ → ℕ → S → S
+settled im images next x = if nat_lt next images then x else im.pass x
 
 -- the state behind an access, over these words
 abbrev pub behind : {S V : Type 0} → Images S V → (ℕ → V) → S → Access V → S
@@ -53,7 +53,7 @@ abbrev pub does : {S V : Type 0} → Images S V → ℕ → Standing S V → ℕ
 does im images v k x (AtAccess a) = record v { words = after v.words a; state = at v.state k (behind im v.words x a) }
 does im images v k x AtSync =
     record v {
-      state = at v.state k (synced im images (peer k 0) x);
+      state = at v.state k (settled im images (peer k 0) x);
       next = at v.next k (peer k 0);
       queue = λ i j. if (i == k) && not (j == k) then suc (v.queue i j) else v.queue i j;
     }
@@ -65,7 +65,7 @@ takes im images v k zero = v
 takes im images v k (suc rest) =
     let next = peer k (suc (v.next k)) in
     record v {
-      state = at v.state k (synced im images next (v.state k));
+      state = at v.state k (settled im images next (v.state k));
       next = at v.next k next;
       queue = λ i j. if (i == v.next k) && (j == k) then rest else v.queue i j;
     }

@@ -6,3 +6,4 @@ pub mod Carries
 pub mod Orders
 pub mod Walkers
 pub mod Laws
+pub mod Examples
