@@ -1,0 +1,32 @@
+//! Nodes that exchange messages: in every order of their moves they come to the same end.
+#![tactic(auto)]
+
+ghost use Rattle.std.specs.Prelude.{◌≡◌, ℕ, ◌<◌};
+ghost use Rattle.xmp_net.specs.Nodes.{Nodes, run, start};
+ghost use Rattle.xmp_net.specs.Traffic.{Traffic, AllCarry, AllEnded};
+ghost use Rattle.xmp_net.specs.Orders.{rounds};
+ghost use Rattle.xmp_net.specs.Tables.{Carried};
+ghost use Rattle.xmp_net.specs.Laws.{StaysOnCourse, SomeCanMove, FewSteps, OneEnd, EndsEmpty, LockstepEnds, ChoicesEnd, FirstsPickSteps, OneTraffic, OneTable};
+ghost use Rattle.xmp_net.specs.Examples.{pair, told};
+
+/// Of nodes whose states are `S` and whose messages are `M`.
+pub fn every_order<S, M>()
+    ensures course { (n : Nodes S M) (all : Traffic M) → AllCarry n all → StaysOnCourse n all }
+    ensures moves { (n : Nodes S M) (all : Traffic M) → AllCarry n all → SomeCanMove n }
+    ensures few { (n : Nodes S M) (all : Traffic M) → AllCarry n all → FewSteps n all }
+    ensures one { (n : Nodes S M) (all : Traffic M) → AllCarry n all → OneEnd n }
+    ensures empty { (n : Nodes S M) (all : Traffic M) → AllCarry n all → EndsEmpty n }
+    ensures lockstep { (n : Nodes S M) (all : Traffic M) → AllCarry n all → LockstepEnds n all }
+    ensures chosen { (n : Nodes S M) (all : Traffic M) → AllCarry n all → ChoicesEnd n all }
+    ensures ordered { (n : Nodes S M) → FirstsPickSteps n }
+    ensures one_traffic { (n : Nodes S M) → 0 < n.count → OneTraffic n }
+    ensures table { (n : Nodes S M) (all : Traffic M) (none : M) → AllCarry n all → Carried n none }
+    ensures one_table { (n : Nodes S M) → 0 < n.count → OneTable n }
+{}
+
+/// Two nodes that tell each other their numbers carry a traffic, and three rounds bring them to their end.
+pub fn two_nodes_carry()
+    ensures carry { AllCarry pair told }
+    ensures ended { AllEnded pair (run pair (rounds 2 3) (start pair)) }
+    ensures heard { (((run pair (rounds 2 3) (start pair)).state 0).1 ≡ 7) × (((run pair (rounds 2 3) (start pair)).state 1).1 ≡ 8) }
+{}
