@@ -146,3 +146,8 @@ received-there streams old now new x same (e, is) =
     let F : End → Type 0 = λ o. IsReceived (streams o.ring) o x (more o x) in
     let G : End → Type 0 = λ n. IsReceived (streams old.ring) old x n in
     subst G (sym (e ∙ ap (λ o. more o x) same)) (subst F same (taken-received (streams now.ring) now x is))
+
+-- the message behind those that were sent is the next
+pub next-behind : (sent rest : List Message) (m : Message) → IsNext (sent ++ m ∷ rest) (map Data sent) m
+next-behind [] rest m = refl
+next-behind (x ∷ sent) rest m = next-behind sent rest m

@@ -12,6 +12,13 @@ pub trait Streams {
     ghost stream: { ℕ → List Message };
 }
 
+/// With this type a caller names the streams at the call, in its proof.
+impl Streams for Brand {
+    ghost use Rattle.std.specs.Prelude.{[]};
+
+    ghost stream = { λ ring. [] };
+}
+
 /// The rule of a ring.
 pub struct InStream<S>(PhantomData<S>);
 
