@@ -1,5 +1,5 @@
 -- Places of names in the table, and the log read by them.
-use Rattle.std.proofs.Common.{◌≡◌, ◌++◌, ◌<◌, ◌∙◌, ℕ, zero, suc, Bool, true, false, cond, List, [], ◌∷◌, length, map, Option, None, Some, refl, sym, ap, subst, arith}
+use Rattle.std.proofs.Common.{◌≡◌, ◌++◌, ◌<◌, ◌∙◌, ℕ, zero, suc, Bool, true, false, cond, List, [], ◌∷◌, length, Option, None, refl, sym, ap, subst, arith}
 use Rattle.xmp_scopes.specs.declared.current.Held.{Held}
 use Rattle.xmp_scopes.specs.declared.scopes.Entry.{Entry}
 use Rattle.xmp_scopes.specs.declared.scopes.Entry.TheVariants as entry

@@ -1,12 +1,12 @@
 -- What the table holds is the innermost declaration, and undoing a declaration brings back what it hid.
-use Rattle.std.proofs.Common.{◌≡◌, ℕ, suc, ◌-◌, ◌<◌, ◌≤◌, Bool, true, false, cond, List, [], ◌∷◌, ◌++◌, length, drop, reverse, max, Option, None, Some, is_some, IsSome, nat_eq, refl, sym, ◌∙◌, ap, subst, arith}
+use Rattle.std.proofs.Common.{◌≡◌, ℕ, suc, ◌-◌, ◌<◌, ◌≤◌, Bool, true, false, cond, List, [], ◌∷◌, ◌++◌, length, drop, reverse, max, Option, None, Some, is_some, nat_eq, refl, sym, ◌∙◌, ap, arith}
 use Rattle.std.specs.Option.{option_or}
 use Rattle.std.proofs.lemmas.List.{reverse-append}
 use Rattle.xmp_scopes.specs.declared.current.Held.{Held}
 use Rattle.xmp_scopes.specs.Names.{Name, is_same, in_scope, nearest, depth_of, is_declared_here, declare}
 use Rattle.xmp_scopes.specs.Table.{visible}
 use Rattle.xmp_scopes.specs.Log.{Step, Opened, Declared, scopes_of, held}
-use Rattle.xmp_scopes.proofs.Entries.{equal_of_same, same_of_equal}
+use Rattle.xmp_scopes.proofs.Entries.{equal_of_same}
 
 here_now : (d : ℕ) → true ≡ nat_eq d d
 here_now d = grind arith

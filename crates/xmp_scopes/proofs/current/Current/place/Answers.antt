@@ -1,4 +1,4 @@
-use Rattle.std.proofs.Common.{◌∙◌, sym, subst, ap}
+use Rattle.std.proofs.Common.{sym, subst}
 use Rattle.xmp_scopes.specs.Table.{IsPlace, Grows}
 use Rattle.xmp_scopes.proofs.Entries.{table, found, found_at, placed_as, grows_as, stays_as}
 use Rattle.xmp_scopes.proofs.current.Current.place.Goals as goal

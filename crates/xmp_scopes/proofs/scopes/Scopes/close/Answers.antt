@@ -2,7 +2,7 @@ use Rattle.std.proofs.Common.{◌≡◌, ◌∙◌, sym, ap, subst, reverse, dro
 use Rattle.xmp_scopes.specs.declared.scopes.Entry.{Entry}
 use Rattle.xmp_scopes.specs.declared.scopes.Entry.TheVariants.{Opened, Declared}
 use Rattle.xmp_scopes.specs.Names.{Name}
-use Rattle.xmp_scopes.specs.Table.{visible, name_at, put}
+use Rattle.xmp_scopes.specs.Table.{visible, name_at}
 use Rattle.xmp_scopes.specs.Log.{steps_of, scopes_of, held, Hides, HavePlaces}
 use Rattle.xmp_scopes.proofs.Undo.{last_first, none_left, drop-declare, closed_depth}
 use Rattle.xmp_scopes.proofs.Places.{place_within, put_steps, put_places}

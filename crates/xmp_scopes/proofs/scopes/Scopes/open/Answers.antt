@@ -1,4 +1,4 @@
-use Rattle.std.proofs.Common.{◌≡◌, ◌≤◌, ◌∙◌, ◌+◌, List, ap, reverse, length, arith, length-append, ◌∷◌, [], refl, suc}
+use Rattle.std.proofs.Common.{◌≡◌, ◌≤◌, ◌∙◌, ◌+◌, ap, reverse, length, arith, length-append, ◌∷◌, []}
 use Rattle.std.proofs.lemmas.List.{length-reverse}
 use Rattle.xmp_scopes.specs.declared.scopes.Entry.TheVariants.{Opened}
 use Rattle.xmp_scopes.specs.Log.{steps_of, scopes_of}
