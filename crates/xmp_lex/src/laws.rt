@@ -54,3 +54,17 @@ pub fn one_macro_refusal()
     ensures { (tokens : List Token) (rule other : ℕ) (at place : Place) → BreaksMacros tokens rule at → BreaksMacros tokens other place
         → (rule ≡ other) × (at ≡ place) }
 {}
+
+/// The law `never_cut_and_refused`, by the name that crates above still use.
+pub fn cut_or_refused()
+    ensures { (text : List ℕ) (tokens : List Token) (rule : ℕ) (at : Place) → Cut text tokens → BreaksLexRule text rule at → ⊥ }
+{
+    never_cut_and_refused();
+}
+
+/// The law `never_expanded_and_refused`, by the name that crates above still use.
+pub fn expanded_or_refused()
+    ensures { (tokens result : List Token) (rule : ℕ) (at : Place) → Expanded tokens result → BreaksMacros tokens rule at → ⊥ }
+{
+    never_expanded_and_refused();
+}

@@ -16,12 +16,9 @@ mod words;
 
 pub use cut::lex;
 pub use laws::{
-    fresh_line, never_cut_and_refused, never_expanded_and_refused, one_cut, one_expansion,
-    one_lex_refusal, one_macro_refusal, some_expansion, token_places,
-};
-// Names of these laws that crates above still use.
-pub use laws::{
-    never_cut_and_refused as cut_or_refused, never_expanded_and_refused as expanded_or_refused,
+    cut_or_refused, expanded_or_refused, fresh_line, never_cut_and_refused,
+    never_expanded_and_refused, one_cut, one_expansion, one_lex_refusal, one_macro_refusal,
+    some_expansion, token_places,
 };
 pub use macros::expand;
 pub use token::{Mark, Reserved, Token, TokenKind};
