@@ -19,3 +19,6 @@ pub mod Slots
 pub mod WrittenOnce
 pub mod TrapsRead
 pub mod NotesAdded
+pub mod AccessesApart
+pub mod WordsDue
+pub mod TrafficDue
