@@ -1,5 +1,5 @@
 -- Laws of traffic.
-use Rattle.std.specs.Prelude.{◌≡◌, ◌≢◌, ◌+◌, ◌*◌, ◌<◌, ◌^◌, ◌++◌, ◌&&◌, if◌then◌else◌, ℕ, ℤ, List, [], ◌∷◌, length, drop, Option, Some, None}
+use Rattle.std.specs.Prelude.{◌≡◌, ◌≢◌, ◌+◌, ◌*◌, ◌<◌, ◌^◌, ◌++◌, ◌&&◌, if◌then◌else◌, ℕ, ℤ, false, List, [], ◌∷◌, map, length, drop, slice_get, Option, Some, None}
 use Rattle.std.specs.List.{AllByRecursion, count_by, zip}
 use Rattle.xmp_map.specs.Boxes.{count_cells}
 use Rattle.xmp_map.specs.Held as held
@@ -16,11 +16,15 @@ use Rattle.xmp_prog.specs.declared.parts.ProgParts.{ProgParts}
 use Rattle.xmp_prog.specs.declared.statements.Stmt.{Stmt}
 use Rattle.xmp_prog.specs.Fits.{node_count}
 use Rattle.xmp_meaning.specs.Runs.{State, Step, Gave, Ended}
+use Rattle.xmp_prog.specs.Tests.{is_image}
+use Rattle.xmp_meaning.specs.Cells.{row_in}
+use Rattle.xmp_meaning.specs.Layouts.{Packed, row_length}
 use Rattle.xmp_meaning.specs.Context.{Context}
 use Rattle.xmp_meaning.specs.Statements.{stmt_of}
 use Rattle.xmp_meaning.specs.Exchanges.{PartEnd, Exchange, AtBarrier, Broadcast, Reflected, Moved, LoopEnd, TasksEnd, Notes, no_notes, traced}
 use Rattle.xmp_meaning.specs.TrapWords.{index_at, SaidTrap, trap_said}
 use Rattle.xmp_meaning.specs.Messages.{is_reflected, takes, gives, tells, part_words, words_alone, message}
+use Rattle.xmp_meaning.specs.Stores.{words_on, base_of, store_of}
 use Rattle.xmp_meaning.specs.Traffic.{traffic}
 
 -- ---- the words of a trap
@@ -104,3 +108,21 @@ pub record IsAsDue (p : ProgParts) (x : Exchange) : Type 0 where
 -- and so has each of those that a run of a program notes
 abbrev pub TrafficIsAsDue : ProgParts → (input : List ℕ) → (steps : ℕ) → Type 0
 TrafficIsAsDue p input steps = AllByRecursion (IsAsDue p) (traffic p input steps)
+
+-- ---- stores
+
+-- The state of a node in a program without coarrays: a scalar for each slot, and rows as long as the node keeps them.
+pub record IsNodeState {X : Type 0} (p : ProgParts) (node : ℕ) (s : State X) : Type 0 where
+  pub scalars : length s.scalars ≡ length p.scalars
+  pub rows : map length s.arrays ≡ map (row_length (Packed node) p) p.arrays
+  pub no_coarrays : AllByRecursion (λ a. is_image a.home ≡ false) p.arrays
+
+-- The store has the node's words, and the word of a cell stands behind the base of its array.
+pub record StoreIsLaid {X : Type 0} (p : ProgParts) (node : ℕ) (s : State X) : Type 0 where
+  pub words : length (store_of s) ≡ words_on p node
+  pub cells : (array n : ℕ) → n < length (row_in s.arrays array)
+      → slice_get (store_of s) (base_of p node array + n) ≡ slice_get (row_in s.arrays array) n
+
+-- the same of every such state
+abbrev pub StoresAreLaid : (X : Type 0) → ProgParts → Type 0
+StoresAreLaid X p = (node : ℕ) (s : State X) → IsNodeState p node s → StoreIsLaid p node s

@@ -6,7 +6,7 @@ ghost use Rattle.xmp_prog.specs.Fits.{PartsFit};
 ghost use Rattle.xmp_meaning.specs.Context.{Context};
 ghost use Rattle.xmp_meaning.specs.Exchanges.{PartEnd};
 ghost use Rattle.xmp_meaning.specs.Laws.{WholeNumbers, HeldNumbers};
-ghost use Rattle.xmp_meaning.specs.TrafficLaws.{EndsAreRead, NotesAreAdded, TrafficIsAsDue};
+ghost use Rattle.xmp_meaning.specs.TrafficLaws.{EndsAreRead, NotesAreAdded, StoresAreLaid, TrafficIsAsDue};
 
 /// A cell's number is row-major where rows are whole, and on a node that holds the cell its slot.
 pub fn cells_are_numbered()
@@ -27,4 +27,9 @@ pub fn notes_are_added()
 /// Each message of each exchange that a run notes has exactly the words that are due, and text for node 0 alone.
 pub fn messages_are_as_due()
     ensures { (p : ProgParts) (input : List ℕ) (steps : ℕ) → PartsFit p → TrafficIsAsDue p input steps }
+{}
+
+/// The store of a node has the node's words, and each cell's word stands behind the base of its array.
+pub fn stores_are_laid<X>()
+    ensures { (p : ProgParts) → StoresAreLaid X p }
 {}
