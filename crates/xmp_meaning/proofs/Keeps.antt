@@ -1,4 +1,5 @@
--- Relations between runs that every part of the meaning keeps.
+-- Relations between runs that every part of the meaning keeps. They ask nothing of what is read, and hold at every place of a text: so they show
+-- neither that a run depends on what it names alone, nor what holds at some places and not at others.
 use Rattle.std.proofs.Common.{◌≡◌, ℕ, zero, suc, ℤ, Bool, true, false, if◌then◌else◌, List, [], ◌∷◌, ◌++◌, map, Result, Ok, Err}
 use Rattle.xmp_base.specs.declared.place.Place.{Place}
 use Rattle.xmp_num.specs.declared.types.TrapKind.{TrapKind}

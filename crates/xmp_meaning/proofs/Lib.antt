@@ -11,6 +11,8 @@ pub mod MoreSteps
 pub mod Forms
 pub mod TenTurns
 pub mod ReadAndPrint
+pub mod PutAndGet
+pub mod StoresLaid
 pub mod Unrolled
 pub mod FormatLaws
 pub mod Counting
@@ -19,3 +21,6 @@ pub mod Slots
 pub mod WrittenOnce
 pub mod TrapsRead
 pub mod NotesAdded
+pub mod AccessesApart
+pub mod WordsDue
+pub mod TrafficDue

@@ -53,7 +53,7 @@ module _ (ss : List SpreadDim) (at : List ℕ) where
   unused_count l u =
       let one : l.extent ≡ 1 = eqb-true l.extent 1 (and_left (l.extent == 1) (is_none l.target.dim) u) in
       let holds : held.holds_on ss at l 0 ≡ true =
-          held_over_nothing l.target.dim (held.offset_of l.target.offset) l.low l.high 0 (and_right (l.extent == 1) (is_none l.target.dim) u) in
+      held_over_nothing l.target.dim (held.offset_of l.target.offset) l.low l.high 0 (and_right (l.extent == 1) (is_none l.target.dim) u) in
       ap (count_below (held.holds_on ss at l)) one ∙ count_below-yes (held.holds_on ss at l) 0 holds
       ∙ ap (λ n. n + 1) (count_below-zero (held.holds_on ss at l))
 

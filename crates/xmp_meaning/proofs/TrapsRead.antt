@@ -93,16 +93,18 @@ word_read : (line column : ℕ) → line < 4294967296 → column < 4294967296 �
 word_read line column a b true small =
     let lt : line < 2147483648 = ltb-true line 2147483648 small in
     let is : wrap Long (pos (line * 4294967296 + column)) ≡ pos (line * 4294967296 + column) =
-        int_wrap_fits w64 (pos (line * 4294967296 + column)) (record { sfits = omega (arith, lt, b) }) in
-    subst (λ w. Reads w line column) (sym is)
-    ((let e : (line * 4294967296 + column) / 4294967296 % 4294967296 ≡ line = omega (arith, a, b) in e),
-    (let e : (line * 4294967296 + column) % 4294967296 ≡ column = omega (arith, a, b) in e))
+    int_wrap_fits w64 (pos (line * 4294967296 + column)) (record { sfits = omega (arith, lt, b) }) in
+    subst (λ w. Reads w line column) (sym is) (
+      (let e : (line * 4294967296 + column) / 4294967296 % 4294967296 ≡ line = omega (arith, a, b) in e),
+      (let e : (line * 4294967296 + column) % 4294967296 ≡ column = omega (arith, a, b) in e),
+    )
 word_read line column a b false big =
     let le : 2147483648 ≤ line = ltb-false line 2147483648 big in
     let is : _ = wrapped_up (line * 4294967296 + column) (omega (arith, le)) (omega (arith, a, b)) in
-    subst (λ w. Reads w line column) (sym is)
-    ((let e : 4294967296 - 1 - ((18446744073709551615 - (line * 4294967296 + column)) / 4294967296) % 4294967296 ≡ line = omega (arith, a, b) in e),
-    (let e : 4294967296 - 1 - (18446744073709551615 - (line * 4294967296 + column)) % 4294967296 ≡ column = omega (arith, a, b) in e))
+    subst (λ w. Reads w line column) (sym is) (
+      (let e : 4294967296 - 1 - ((18446744073709551615 - (line * 4294967296 + column)) / 4294967296) % 4294967296 ≡ line = omega (arith, a, b) in e),
+      (let e : 4294967296 - 1 - (18446744073709551615 - (line * 4294967296 + column)) % 4294967296 ≡ column = omega (arith, a, b) in e),
+    )
 
 place_read : (line column : ℕ) → line < 4294967296 → column < 4294967296 → Reads (both_halves (pos line) (pos column)) line column
 place_read line column a b = subst (λ w. Reads w line column) (sym (place_word line column b)) (word_read line column a b (nat_lt line 2147483648) refl)

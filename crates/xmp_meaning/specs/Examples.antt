@@ -1,5 +1,5 @@
 -- Small programs, and what they come to.
-use Rattle.std.specs.Prelude.{ℕ, List, [], ◌∷◌, pos, Some}
+use Rattle.std.specs.Prelude.{ℕ, List, [], ◌∷◌, pos, Some, None}
 use Rattle.xmp_base.specs.declared.place.Place.{Place}
 use Rattle.xmp_num.specs.declared.types.Ty.TheVariants.{Int}
 use Rattle.xmp_num.specs.declared.types.BinOp.TheVariants as op
@@ -16,8 +16,12 @@ use Rattle.xmp_prog.specs.declared.statements.Stmt.{Stmt}
 use Rattle.xmp_prog.specs.declared.statements.Stmt.TheVariants as stmt
 use Rattle.xmp_prog.specs.declared.statements.Plain.TheVariants as plain
 use Rattle.xmp_prog.specs.declared.statements.Target.TheVariants as target
-use Rattle.xmp_prog.specs.declared.parts.Kind.TheVariants.{Global}
+use Rattle.xmp_prog.specs.declared.expressions.Access.{roll-Access}
+use Rattle.xmp_prog.specs.declared.parts.Array.{Array}
+use Rattle.xmp_prog.specs.declared.parts.Home.TheVariants as home
+use Rattle.xmp_prog.specs.declared.parts.Kind.TheVariants.{Global, Coarray}
 use Rattle.xmp_prog.specs.declared.parts.ProgParts.{ProgParts}
+use Rattle.xmp_meaning.specs.Phases.{Memory}
 
 -- a program over scalars alone
 abbrev pub over_scalars : Grid → List Stmt → ProgParts
@@ -81,3 +85,41 @@ cast_n at = plain.Cast (record { number = 0; at = at } ∷ []) (node_set 0) at
 -- Over the nodes `p[2]`: a task on `p[0]` reads a number, it is cast from `p[0]`, and a task on `p[1]` prints it.
 abbrev pub read_and_print : Place → ProgParts
 read_and_print at = over_scalars two_nodes (task_on at 0 (scan_n at) ∷ stmt.Plain (cast_n at) ∷ task_on at 1 (print_n at) ∷ [])
+
+-- ---- a coarray program over two nodes
+
+-- `int x[1]:[*];`
+abbrev pub one_cell : Array
+one_cell = record { ty = Int; extents = 1 ∷ []; home = home.Image }
+
+-- `x[0]:[(xmp_node_num() + 1) % 2] = xmp_node_num();`
+abbrev pub next_image : Place → Expr
+next_image at = expr.Binary op.Rem Int (expr.Binary op.Add Int expr.Node (number 1) at) (number 2) at
+
+abbrev pub put_next : Place → Stmt
+put_next at = stmt.Plain (plain.Set (target.Cell (roll-Access (record { array = 0; subscripts = number 0 ∷ []; image = Some (next_image at); at = at }))) None expr.Node)
+
+-- `xmp_sync_all(&st);`
+abbrev pub sync_st : Place → Stmt
+sync_st at = stmt.Plain (plain.Sync (record { number = 0; at = at }) at)
+
+-- `st = x[0];`
+abbrev pub get_own : Place → Stmt
+get_own at = stmt.Plain (plain.Set (target.Scalar 0 at) None (expr.Cell (roll-Access (record { array = 0; subscripts = number 0 ∷ []; image = None; at = at }))))
+
+-- the three one behind the other
+abbrev pub put_and_get : Place → ProgParts
+put_and_get at = record {
+  grid = two_nodes;
+  kind = Coarray;
+  scalars = Int ∷ [];
+  arrays = one_cell ∷ [];
+  templates = [];
+  functions = [];
+  start = [];
+  body = stmt.Block (put_next at ∷ sync_st at ∷ get_own at ∷ []);
+}
+
+-- the memory behind its first phase, which the second begins with: the cells of both images
+abbrev pub after_first : List Memory
+after_first = ((pos 1 ∷ pos 0 ∷ []) ∷ []) ∷ []

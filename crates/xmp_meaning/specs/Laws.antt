@@ -37,6 +37,7 @@ use Rattle.xmp_meaning.specs.Programs.{beginning, program, outcome_of, serial}
 use Rattle.xmp_meaning.specs.Exchanges.{Notes, no_notes, traced}
 use Rattle.xmp_meaning.specs.Parts.{owns_iteration, part_of}
 use Rattle.xmp_meaning.specs.Phases.{Memory, image_run, phases}
+use Rattle.xmp_meaning.specs.Accesses.{noted_image_run}
 
 -- one part, then two more, is two parts and then one more
 abbrev pub IsAssociative : (S A B C : Type 0) → Type 0
@@ -77,13 +78,20 @@ KeepsArray {X} array p = (s : State X) → slice_get (state_of (p s)).arrays arr
 
 -- ---- the run that notes each exchange
 
--- the state without what directives alone read and write
+-- the state, and a step, with another part in the place of what handlers alone read and write
+abbrev pub with_extra : {X Y : Type 0} → (X → Y) → State X → State Y
+with_extra f s = record { scalars = s.scalars; arrays = s.arrays; out = s.out; taken = s.taken; steps = s.steps; extra = f s.extra }
+
+abbrev pub step_with : {X Y A : Type 0} → (X → Y) → Step X A → Step Y A
+step_with f (Gave a s) = Gave a (with_extra f s)
+step_with f (Ended e s) = Ended e (with_extra f s)
+
+-- without it
 abbrev pub bare : {X : Type 0} → State X → State (Unit {0})
-bare s = record { scalars = s.scalars; arrays = s.arrays; out = s.out; taken = s.taken; steps = s.steps; extra = tt }
+bare s = with_extra (λ x. tt) s
 
 abbrev pub bare_step : {X A : Type 0} → Step X A → Step (Unit {0}) A
-bare_step (Gave a s) = Gave a (bare s)
-bare_step (Ended e s) = Ended e (bare s)
+bare_step step = step_with (λ x. tt) step
 
 -- the run that notes each exchange goes as the serial run does, the notes apart
 abbrev pub NotesApart : ProgParts → Context → Stmt → Type 0
@@ -127,6 +135,11 @@ SameOutcome o other = other ≡ o
 -- a coarray program of one image that comes to no `xmp_sync_all` means what its run with nothing at its directives means
 abbrev pub OneImage : ProgParts → Type 0
 OneImage p = node_count p ≡ 1 → ((t : State (List Memory)) → image_run p 0 [] ≢ Ended PhaseEnd t) → phases p ≡ serial p [] 0
+
+-- the run that notes its accesses goes as an image's run does, the accesses apart
+abbrev pub AccessesApart : ProgParts → Type 0
+AccessesApart p = (image : ℕ) (starts : List Memory)
+    → image_run p image starts ≡ step_with (λ a. a.starts) (noted_image_run p image starts)
 
 -- ---- calls
 

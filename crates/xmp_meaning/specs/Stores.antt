@@ -1,11 +1,12 @@
 -- A node's store (this project): the scalars by slot, then the cells that it keeps of each array that is no coarray, in the order of their
 -- declarations; in a world the own cells of each coarray stand behind them.
-use Rattle.std.specs.Prelude.{ℕ, ◌+◌, if◌then◌else◌, length, take}
-use Rattle.std.specs.List.{sum_by}
+use Rattle.std.specs.Prelude.{ℕ, ℤ, ◌+◌, ◌++◌, if◌then◌else◌, List, length, take}
+use Rattle.std.specs.List.{flat_map, sum_by}
 use Rattle.xmp_map.specs.RowMajor.{product}
 use Rattle.xmp_prog.specs.declared.parts.ProgParts.{ProgParts}
 use Rattle.xmp_prog.specs.declared.parts.Array.{Array}
 use Rattle.xmp_prog.specs.Tests.{is_image}
+use Rattle.xmp_meaning.specs.Runs.{State}
 use Rattle.xmp_meaning.specs.Declarations.{is_coarray}
 use Rattle.xmp_meaning.specs.Layouts.{Packed, words_of}
 
@@ -37,3 +38,7 @@ abbrev pub base_of : ProgParts → (node array : ℕ) → ℕ
 base_of p node array =
     if is_coarray p array then store_length p node + sum_by image_words (take array p.arrays)
     else length p.scalars + sum_by (store_words node) (take array p.arrays)
+
+-- the words of a node's store, from its state: a program without coarrays has all of them there
+abbrev pub store_of : {X : Type 0} → State X → List ℤ
+store_of s = s.scalars ++ flat_map (λ row. row) s.arrays

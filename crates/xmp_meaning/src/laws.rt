@@ -14,7 +14,7 @@ ghost use Rattle.xmp_meaning.specs.Calls.{context};
 ghost use Rattle.xmp_meaning.specs.Statements.{stmt_of};
 ghost use Rattle.xmp_meaning.specs.Programs.{serial};
 ghost use Rattle.xmp_meaning.specs.Writes.{scalars_written, arrays_written};
-ghost use Rattle.xmp_meaning.specs.Laws.{IsAssociative, StatementsAssociate, BlocksJoin, TurnsAdd, EndsAreFinal, OutputGrows, KeepsScalar, KeepsArray, CallTakesSteps, SameOutcome, NotesApart, TracedIsSerial, PartIsWhole, OneImage, LoopUnrolls, FormatsRead, TurnsAreCounted, CountedTurns};
+ghost use Rattle.xmp_meaning.specs.Laws.{IsAssociative, StatementsAssociate, BlocksJoin, TurnsAdd, EndsAreFinal, OutputGrows, KeepsScalar, KeepsArray, CallTakesSteps, SameOutcome, NotesApart, TracedIsSerial, PartIsWhole, OneImage, LoopUnrolls, FormatsRead, TurnsAreCounted, CountedTurns, WritesAreOne, AccessesApart};
 
 /// Parts of a run follow each other in one way, however they are grouped.
 pub fn sequences_associate<S, A, B, C>()
@@ -50,6 +50,11 @@ pub fn only_what_is_named<X>()
         → KeepsArray {X = X} array (stmt_of erased cx s) }
 {}
 
+/// The scalars that a statement writes are those by which the parts of a program are judged.
+pub fn writes_are_said_once()
+    ensures { (s : Stmt) → WritesAreOne s }
+{}
+
 /// A call of a function takes steps, and changes nothing else.
 pub fn calls_take_steps<X>()
     ensures { (cx : Context) → CallTakesSteps X cx }
@@ -74,6 +79,11 @@ pub fn parts_of_one_node<X>()
 /// A coarray program of one image that comes to no `xmp_sync_all` has its serial outcome.
 pub fn phases_of_one_image()
     ensures { (p : ProgParts) → OneImage p }
+{}
+
+/// The run that notes its accesses is an image's run, the accesses apart.
+pub fn accesses_apart()
+    ensures { (p : ProgParts) → AccessesApart p }
 {}
 
 /// An uncounted loop is its condition, and where that holds a turn, which takes a step, and the loop again.
