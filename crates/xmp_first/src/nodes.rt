@@ -1,8 +1,8 @@
 // The run of a program on its nodes.
 ghost use Rattle.std.specs.Prelude.{◌≡◌, ◌<◌, ◌++◌, ◌∷◌, [], length, slice_get, IfOk, IfSome};
 ghost use Rattle.std.specs.Fmt.{signed_decimal};
-ghost use Rattle.xmp_serial.specs.FirstMeaning.{total};
-ghost use Rattle.xmp_serial.specs.FirstTree.{tree_of};
+ghost use Rattle.xmp_first.specs.FirstMeaning.{total};
+ghost use Rattle.xmp_first.specs.FirstTree.{tree_of};
 ghost use Rattle.xmp_first.specs.Nodes.{Ran, tabulate, store_of, turns_of};
 ghost use Rattle.xmp_first.specs.Blocks.{IsBlocks, block_of};
 
@@ -13,7 +13,7 @@ use std::alloc::Global;
 use xmp_base::{Bytes, NoMemory, Table, Words};
 use xmp_dist::Dim;
 use xmp_num::render;
-use xmp_serial::First;
+use crate::first::First;
 
 /// The two loops on all nodes: each node's block of the cells, and the sum that the reduction at
 /// the second loop's end makes of the nodes' parts. Node 0's part begins at the old value of `s`

@@ -1,8 +1,8 @@
 // The whole text.
 ghost use Rattle.std.specs.Prelude.{◌≡◌, ◌<◌, ◌≤◌, ◌++◌, ℕ, List, true, length, IfOk, IfSome, IfNone};
 ghost use Rattle.std.specs.Fmt.{decimal};
-ghost use Rattle.xmp_serial.specs.declared.first_item.Item.{Item};
-ghost use Rattle.xmp_serial.specs.First.{is_expression};
+ghost use Rattle.xmp_first.specs.declared.first_item.Item.{Item};
+ghost use Rattle.xmp_first.specs.First.{is_expression};
 ghost use Rattle.xmp_first.specs.Reading.{NoMore};
 ghost use Rattle.xmp_first.specs.Layout.{value_text, middle, foot, Spells, IsNoProgram};
 
@@ -12,7 +12,8 @@ use crate::numbers::number_at;
 use std::alloc::Global;
 use xmp_base::{Bytes, NoMemory};
 use xmp_num::render;
-use xmp_serial::{First, Items};
+use crate::first::First;
+use crate::first_items::Items;
 
 const MOST_CELLS: u32 = 4_194_304;
 

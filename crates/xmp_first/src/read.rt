@@ -6,7 +6,7 @@ ghost use Rattle.xmp_first.specs.Accepts.{refused_at_start};
 use crate::program::program_at;
 use std::alloc::Global;
 use xmp_base::{Fault, NoMemory, Phase, Place, Refusal};
-use xmp_serial::First;
+use crate::first::First;
 
 /// The program that a text is. A text that no program has is refused at its first byte.
 pub fn read_first(alloc: Global, text: &[u8]) -> Result<First, Fault>

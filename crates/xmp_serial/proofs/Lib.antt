@@ -1,8 +1,5 @@
-pub mod FirstTrees
-pub mod FirstSteps
 pub mod Binds
 pub mod Ended
-pub mod Formats
 pub mod Images
 pub mod Inputs
 pub mod Knots

@@ -4,7 +4,7 @@ ghost use Rattle.xmp_meaning.specs.Formats.{printed};
 ghost use Rattle.xmp_meaning.specs.Cells.{cell_in, with_cell};
 ghost use Rattle.xmp_meaning.specs.Runs.{Does, take_step, write};
 
-use crate::print::print;
+use xmp_print::print;
 use crate::rows::{Rows, put};
 use sqlite_items::Items;
 use std::alloc::Global;
