@@ -3,11 +3,11 @@ ghost use Rattle.std.specs.Prelude.{◌≡◌, ◌≤◌, ◌-◌, pos, nat_le, 
 ghost use Rattle.xmp_first.specs.FirstTree.{tree_of};
 ghost use Rattle.xmp_first.specs.Blocks.{IsBlocks, cells_from, summed};
 
+use crate::first::First;
 use crate::sum::added;
 use std::alloc::Global;
 use xmp_base::{NoMemory, Words};
 use xmp_dist::{Dim, Dist};
-use crate::first::First;
 
 /// How the cells are spread.
 pub fn blocks_of(p: &First) -> Dim

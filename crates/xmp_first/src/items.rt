@@ -6,12 +6,12 @@ ghost use Rattle.xmp_first.specs.First.{is_operator};
 ghost use Rattle.xmp_first.specs.Layout.{operator_text};
 ghost use Rattle.xmp_first.specs.Reading.{NoDigit, NoMore, IsOperandAt, IsTailAt};
 
+use crate::first_item::Item;
+use crate::first_items::Items;
 use crate::numbers::number_at;
 use std::alloc::Global;
 use xmp_base::NoMemory;
 use xmp_num::BinOp;
-use crate::first_item::Item;
-use crate::first_items::Items;
 
 /// Whether a digit stands at the front.
 fn starts_with_digit(text: &[u8]) -> bool

@@ -7,13 +7,13 @@ ghost use Rattle.xmp_first.specs.Nodes.{Ran, tabulate, store_of, turns_of};
 ghost use Rattle.xmp_first.specs.Blocks.{IsBlocks, block_of};
 
 use crate::blocks::{blocks_of, first_loop, second_loop, word_at};
+use crate::first::First;
 use crate::sum::added;
 use crate::world::FirstWorld;
 use std::alloc::Global;
 use xmp_base::{Bytes, NoMemory, Table, Words};
 use xmp_dist::Dim;
 use xmp_num::render;
-use crate::first::First;
 
 /// The two loops on all nodes: each node's block of the cells, and the sum that the reduction at
 /// the second loop's end makes of the nodes' parts. Node 0's part begins at the old value of `s`

@@ -6,14 +6,14 @@ ghost use Rattle.xmp_first.specs.First.{is_expression};
 ghost use Rattle.xmp_first.specs.Reading.{NoMore};
 ghost use Rattle.xmp_first.specs.Layout.{value_text, middle, foot, Spells, IsNoProgram};
 
+use crate::first::First;
+use crate::first_items::Items;
 use crate::items::{after, operand_at, tail_at};
 use crate::layout::{FOOT, HEAD, TO_FIRST_LOOP, TO_NODES, TO_SECOND_LOOP, TO_TEMPLATE, TO_VALUE};
 use crate::numbers::number_at;
 use std::alloc::Global;
 use xmp_base::{Bytes, NoMemory};
 use xmp_num::render;
-use crate::first::First;
-use crate::first_items::Items;
 
 const MOST_CELLS: u32 = 4_194_304;
 

@@ -29,12 +29,7 @@ pub fn print(alloc: Global, out: &mut Bytes, format: &[u8], values: &[i64]) -> R
 }
 
 /// Appends what a format writes for these values; want of memory may leave a part of it written.
-fn print_onto(
-    alloc: Global,
-    out: &mut Bytes,
-    format: &[u8],
-    values: &[i64],
-) -> Result<(), NoMemory>
+fn print_onto(alloc: Global, out: &mut Bytes, format: &[u8], values: &[i64]) -> Result<(), NoMemory>
     ensures { OnOk result (out.new ≡ out.old ++ printed format.now values.now) }
 {
     let mut width = None;

@@ -9,4 +9,3 @@ pub mod CellNumbers
 pub mod Steps
 pub mod Stores
 pub mod Whiles
-mod EmptyProgram

@@ -1,9 +1,10 @@
 // The values of expressions.
-ghost use Rattle.std.specs.Prelude.{◌≡◌, ◌+◌, ◌*◌, map, if◌then◌else◌, IfSome};
-ghost use Rattle.xmp_meaning.specs.Runs.{Does};
+ghost use Rattle.std.specs.Prelude.{◌≡◌, ◌+◌, ◌*◌, [], map, if◌then◌else◌, IfSome};
+ghost use Rattle.xmp_prog.specs.declared.expressions.Expr.TheOpen.{Expr-F};
+ghost use Rattle.xmp_meaning.specs.Runs.{Does, and_then, cell};
 ghost use Rattle.xmp_meaning.specs.Calls.{context_with};
 ghost use Rattle.xmp_meaning.specs.Context.{is_coarray};
-ghost use Rattle.xmp_meaning.specs.Expressions.{as_truth, call, cell_number, cell_of, each, expr_of, natural, within};
+ghost use Rattle.xmp_meaning.specs.Expressions.{as_truth, call, cell_number, cell_of, each, expr_of, expr_step, natural, within};
 
 use crate::callee::Callee;
 use crate::declared::{cell_of_image, extents, is_coarray, node_count};
@@ -13,7 +14,7 @@ use sqlite_items::Items;
 use std::alloc::Global;
 use xmp_base::Place;
 use xmp_meaning::{End, Halt};
-use xmp_num::{TrapKind, binary, convert};
+use xmp_num::{BinOp, TrapKind, Ty, binary, convert};
 use xmp_prog::{Access, Expr, ProgParts};
 
 /// What a run is read against: the program, the number of the node that runs, the input, and the calls of functions.
@@ -27,7 +28,8 @@ pub struct Frame<'a, C> {
 }
 
 impl<C: Callee> Frame<'_, C> {
-    /// The value of an expression.
+    /// The value of an expression. A function sets all its locals to 0 when it begins, so the leaves wait for none, and each other
+    /// form has a function of its own.
     #[cycle(eval)]
     #[inline(always)]
     pub fn eval(&self, e: &Expr, state: &mut State) -> Result<i64, Halt>
@@ -37,64 +39,118 @@ impl<C: Callee> Frame<'_, C> {
         match e {
             Expr::Const(value, _) => Ok(*value),
             Expr::Scalar(slot, _) => Ok(state.scalar(*slot)),
-            _ => self.eval_whole(e, state),
-        }
-    }
-
-    /// The same with an arm for each form: a function sets all its locals to 0 when it begins, which the leaves needn't wait for.
-    #[cycle(eval)]
-    #[inline(never)]
-    fn eval_whole(&self, e: &Expr, state: &mut State) -> Result<i64, Halt>
-        requires { C.ready self.now.callee.now }
-        ensures { Does (expr_of (context_with self.now.program.now self.now.node self.now.input.now (C.calls self.now.callee.now)) e.now state.old) result state.new }
-    {
-        match e {
-            Expr::Const(value, _) => Ok(*value),
-            Expr::Scalar(slot, _) => Ok(state.scalar(*slot)),
-            Expr::Cell(access) => {
-                let at = self.cell_of(access, state)?;
-                Ok(state.cell(access.array, at))
-            }
+            Expr::Cell(access) => self.eval_cell(access, state),
             Expr::Binary(op, ty, a, b, at) => {
-                let x = self.eval(a.get(), state)?;
-                let y = self.eval(b.get(), state)?;
-                match binary(*op, *ty, x, y) {
-                    Ok(value) => Ok(value),
-                    Err(kind) => Err(Halt::End(End::Trapped(kind, *at))),
-                }
+                self.eval_binary(*op, *ty, a.get(), b.get(), *at, state)
             }
-            Expr::Both(a, b) => {
-                if self.eval(a.get(), state)? == 0 {
-                    return Ok(0);
-                }
-                let y = self.eval(b.get(), state)?;
-                Ok(truth_of(y))
-            }
-            Expr::Either(a, b) => {
-                if self.eval(a.get(), state)? == 0 {
-                    let y = self.eval(b.get(), state)?;
-                    return Ok(truth_of(y));
-                }
-                Ok(1)
-            }
-            Expr::Choose(a, b, c) => {
-                if self.eval(a.get(), state)? == 0 {
-                    self.eval(c.get(), state)
-                } else {
-                    self.eval(b.get(), state)
-                }
-            }
-            Expr::Convert(ty, a) => {
-                let x = self.eval(a.get(), state)?;
-                Ok(convert(x, *ty))
-            }
+            Expr::Both(a, b) => self.eval_both(a.get(), b.get(), state),
+            Expr::Either(a, b) => self.eval_either(a.get(), b.get(), state),
+            Expr::Choose(a, b, c) => self.eval_choice(a.get(), b.get(), c.get(), state),
+            Expr::Convert(ty, a) => self.eval_converted(*ty, a.get(), state),
             Expr::Call(function, arguments, _) => {
-                let values = self.eval_each(arguments.as_slice(), Items::new(self.alloc), state)?;
-                self.call(*function, values.as_slice(), state)
+                self.eval_call(*function, arguments.as_slice(), state)
             }
             Expr::Node => Ok(i64::from(self.node)),
             Expr::Nodes => Ok(i64::from(node_count(self.program))),
         }
+    }
+
+    /// The value of an element.
+    #[cycle(eval)]
+    #[inline(never)]
+    fn eval_cell(&self, access: &Access, state: &mut State) -> Result<i64, Halt>
+        requires { C.ready self.now.callee.now }
+        ensures { Does (and_then (cell_of (context_with self.now.program.now self.now.node self.now.input.now (C.calls self.now.callee.now)) access.now state.old) (cell access.now.array)) result state.new }
+    {
+        let at = self.cell_of(access, state)?;
+        Ok(state.cell(access.array, at))
+    }
+
+    /// An operator on the values of its operands.
+    #[cycle(eval)]
+    #[inline(never)]
+    fn eval_binary(
+        &self,
+        op: BinOp,
+        ty: Ty,
+        a: &Expr,
+        b: &Expr,
+        at: Place,
+        state: &mut State,
+    ) -> Result<i64, Halt>
+        requires { C.ready self.now.callee.now }
+        ensures { Does (expr_step (context_with self.now.program.now self.now.node self.now.input.now (C.calls self.now.callee.now)) (Expr-F.Binary op ty (expr_of (context_with self.now.program.now self.now.node self.now.input.now (C.calls self.now.callee.now)) a.now) (expr_of (context_with self.now.program.now self.now.node self.now.input.now (C.calls self.now.callee.now)) b.now) at) state.old) result state.new }
+    {
+        let x = self.eval(a, state)?;
+        let y = self.eval(b, state)?;
+        match binary(op, ty, x, y) {
+            Ok(value) => Ok(value),
+            Err(kind) => Err(Halt::End(End::Trapped(kind, at))),
+        }
+    }
+
+    /// `a && b`.
+    #[cycle(eval)]
+    #[inline(never)]
+    fn eval_both(&self, a: &Expr, b: &Expr, state: &mut State) -> Result<i64, Halt>
+        requires { C.ready self.now.callee.now }
+        ensures { Does (expr_step (context_with self.now.program.now self.now.node self.now.input.now (C.calls self.now.callee.now)) (Expr-F.Both (expr_of (context_with self.now.program.now self.now.node self.now.input.now (C.calls self.now.callee.now)) a.now) (expr_of (context_with self.now.program.now self.now.node self.now.input.now (C.calls self.now.callee.now)) b.now)) state.old) result state.new }
+    {
+        if self.eval(a, state)? == 0 {
+            return Ok(0);
+        }
+        let y = self.eval(b, state)?;
+        Ok(truth_of(y))
+    }
+
+    /// `a || b`.
+    #[cycle(eval)]
+    #[inline(never)]
+    fn eval_either(&self, a: &Expr, b: &Expr, state: &mut State) -> Result<i64, Halt>
+        requires { C.ready self.now.callee.now }
+        ensures { Does (expr_step (context_with self.now.program.now self.now.node self.now.input.now (C.calls self.now.callee.now)) (Expr-F.Either (expr_of (context_with self.now.program.now self.now.node self.now.input.now (C.calls self.now.callee.now)) a.now) (expr_of (context_with self.now.program.now self.now.node self.now.input.now (C.calls self.now.callee.now)) b.now)) state.old) result state.new }
+    {
+        if self.eval(a, state)? == 0 {
+            let y = self.eval(b, state)?;
+            return Ok(truth_of(y));
+        }
+        Ok(1)
+    }
+
+    /// `a ? b : c`.
+    #[cycle(eval)]
+    #[inline(never)]
+    fn eval_choice(&self, a: &Expr, b: &Expr, c: &Expr, state: &mut State) -> Result<i64, Halt>
+        requires { C.ready self.now.callee.now }
+        ensures { Does (expr_step (context_with self.now.program.now self.now.node self.now.input.now (C.calls self.now.callee.now)) (Expr-F.Choose (expr_of (context_with self.now.program.now self.now.node self.now.input.now (C.calls self.now.callee.now)) a.now) (expr_of (context_with self.now.program.now self.now.node self.now.input.now (C.calls self.now.callee.now)) b.now) (expr_of (context_with self.now.program.now self.now.node self.now.input.now (C.calls self.now.callee.now)) c.now)) state.old) result state.new }
+    {
+        if self.eval(a, state)? == 0 {
+            self.eval(c, state)
+        } else {
+            self.eval(b, state)
+        }
+    }
+
+    /// A value converted to a type.
+    #[cycle(eval)]
+    #[inline(never)]
+    fn eval_converted(&self, ty: Ty, a: &Expr, state: &mut State) -> Result<i64, Halt>
+        requires { C.ready self.now.callee.now }
+        ensures { Does (expr_step (context_with self.now.program.now self.now.node self.now.input.now (C.calls self.now.callee.now)) (Expr-F.Convert ty (expr_of (context_with self.now.program.now self.now.node self.now.input.now (C.calls self.now.callee.now)) a.now)) state.old) result state.new }
+    {
+        let x = self.eval(a, state)?;
+        Ok(convert(x, ty))
+    }
+
+    /// A call's value.
+    #[cycle(eval)]
+    #[inline(never)]
+    fn eval_call(&self, function: u32, arguments: &[Expr], state: &mut State) -> Result<i64, Halt>
+        requires { C.ready self.now.callee.now }
+        ensures { Does (and_then (each (map (expr_of (context_with self.now.program.now self.now.node self.now.input.now (C.calls self.now.callee.now))) arguments.now) [] state.old) (call (context_with self.now.program.now self.now.node self.now.input.now (C.calls self.now.callee.now)) function)) result state.new }
+    {
+        let values = self.eval_each(arguments, Items::new(self.alloc), state)?;
+        self.call(function, values.as_slice(), state)
     }
 
     /// The values so far, and then those of the expressions from left to right.

@@ -11,16 +11,10 @@ mod gmove;
 mod lists;
 mod outcome;
 mod plain;
-#[cfg(test)]
-mod postfix;
 mod program;
 mod rows;
 mod sections;
 mod state;
-#[cfg(test)]
-mod tests;
-#[cfg(test)]
-mod words;
 
 pub use program::serial;
 pub use xmp_meaning::Outcome;

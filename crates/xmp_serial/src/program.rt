@@ -99,7 +99,7 @@ pub fn serial(alloc: Global, p: &Prog, input: &[u8], steps: u64) -> Result<Outco
     serial_of_parts(alloc, p.parts(), input, steps)
 }
 
-pub(crate) fn serial_of_parts(
+fn serial_of_parts(
     alloc: Global,
     program: &ProgParts,
     input: &[u8],

@@ -4,13 +4,13 @@ ghost use Rattle.xmp_meaning.specs.Formats.{printed};
 ghost use Rattle.xmp_meaning.specs.Cells.{cell_in, with_cell};
 ghost use Rattle.xmp_meaning.specs.Runs.{Does, take_step, write};
 
-use xmp_print::print;
 use crate::rows::{Rows, put};
 use sqlite_items::Items;
 use std::alloc::Global;
 use std::marker::Model;
 use xmp_base::{Bytes, NoMemory};
 use xmp_meaning::{End, Halt};
+use xmp_print::print;
 
 /// The scalars by slot, the arrays by number, the output so far, how many bytes of the input are read, and how many steps
 /// are left. Contracts see it as a state of the meaning whose further part is empty.

@@ -1,4 +1,5 @@
-use Rattle.std.proofs.Common.{◌≡◌, map, drop}
+use Rattle.std.proofs.Common.{◌≡◌, ℕ, ◌+◌, ◌-◌, ◌*◌, map, drop}
+use Rattle.xmp_prog.proofs.expressions.Expr.TheLaws.{the_size}
 use Rattle.xmp_meaning.specs.Calls.{context_with}
 use Rattle.xmp_meaning.specs.Expressions.{cell_number, each, expr_of}
 use Rattle.xmp_serial.proofs.eval.Frame.+eval.Given as goal
@@ -13,3 +14,39 @@ abbrev pub invariant-eval_each-items : goal.invariant-eval_each-items
 invariant-eval_each-items g l =
     let f : _ = expr_of (context_with l.self.program.now l.self.node l.self.input.now (g.C.Callee.calls l.self.callee.now)) in
     each (map f l.fn.es) l.fn.values l.fn.state ≡ each (map f (drop l.e-index l.es)) l.values l.state
+
+-- depth first; at one depth the forms of an expression, and then the lists of its parts
+abbrev pub decreases-eval : goal.decreases-eval
+decreases-eval g l = 4 * goal.size-eval g l
+
+abbrev pub decreases-eval_cell : goal.decreases-eval_cell
+decreases-eval_cell g l = 4 * goal.size-eval_cell g l + 3
+
+abbrev pub decreases-cell_of : goal.decreases-cell_of
+decreases-cell_of g l = 4 * goal.size-cell_of g l + 2
+
+abbrev pub decreases-cell_number : goal.decreases-cell_number
+decreases-cell_number g l = 4 * goal.size-cell_number g l + 1
+
+abbrev pub decreases-eval_binary : goal.decreases-eval_binary
+decreases-eval_binary g l = 4 * (the_size l.a.now + (the_size l.b.now - the_size l.a.now)) + 1
+
+abbrev pub decreases-eval_both : goal.decreases-eval_both
+decreases-eval_both g l = 4 * (the_size l.a.now + (the_size l.b.now - the_size l.a.now)) + 1
+
+abbrev pub decreases-eval_either : goal.decreases-eval_either
+decreases-eval_either g l = 4 * (the_size l.a.now + (the_size l.b.now - the_size l.a.now)) + 1
+
+abbrev pub decreases-eval_choice : goal.decreases-eval_choice
+decreases-eval_choice g l =
+    let m : ℕ = the_size l.a.now + (the_size l.b.now - the_size l.a.now) in
+    4 * (m + (the_size l.c.now - m)) + 1
+
+abbrev pub decreases-eval_converted : goal.decreases-eval_converted
+decreases-eval_converted g l = 4 * goal.size-eval_converted g l + 1
+
+abbrev pub decreases-eval_call : goal.decreases-eval_call
+decreases-eval_call g l = 4 * goal.size-eval_call g l + 2
+
+abbrev pub decreases-eval_each : goal.decreases-eval_each
+decreases-eval_each g l = 4 * goal.size-eval_each g l + 1
