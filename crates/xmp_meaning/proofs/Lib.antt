@@ -11,7 +11,6 @@ pub mod MoreSteps
 pub mod Forms
 pub mod TenTurns
 pub mod Unrolled
-pub mod Talks
 pub mod FormatLaws
 pub mod Counting
 pub mod CountedTurns

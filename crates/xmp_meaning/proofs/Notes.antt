@@ -7,16 +7,18 @@ use Rattle.xmp_meaning.specs.declared.ends.End.TheVariants.{Trapped, OutOfSteps,
 use Rattle.xmp_meaning.specs.declared.ends.Flow.{Flow}
 use Rattle.xmp_meaning.specs.declared.ends.Flow.TheVariants.{Next}
 use Rattle.xmp_meaning.specs.Runs.{State, Step, Gave, Ended, Run, and_then, ◌>>=◌, step_of, take_step}
+use Rattle.xmp_meaning.specs.Blocks.{then_run}
+use Rattle.xmp_meaning.specs.Layouts.{Whole}
 use Rattle.xmp_meaning.specs.Context.{Context}
+use Rattle.xmp_meaning.specs.Handlers.{erased}
 use Rattle.xmp_meaning.specs.Expressions.{after_call}
-use Rattle.xmp_meaning.specs.Loops.{then_run, turn}
-use Rattle.xmp_meaning.specs.Directives.{erased}
+use Rattle.xmp_meaning.specs.Loops.{turn}
 use Rattle.xmp_meaning.specs.Calls.{main_context}
 use Rattle.xmp_meaning.specs.Programs.{beginning, program, outcome_of}
-use Rattle.xmp_meaning.specs.Exchanges.{Exchange, Moved, note, note_arrays, traced}
+use Rattle.xmp_meaning.specs.Exchanges.{Notes, no_notes, Moved, note, note_turn, note_arrays, traced}
 use Rattle.xmp_meaning.specs.Writes.{scalars_written, arrays_written}
 use Rattle.xmp_meaning.specs.Laws.{bare, bare_step, NotesApart, TracedIsSerial}
-use Rattle.xmp_meaning.proofs.Keeps.{Joins, Keeps, KeepsDirectives, turns_kept, tasks_kept}
+use Rattle.xmp_meaning.proofs.Keeps.{Joins, Keeps, KeepsHandlers, turns_kept, tasks_kept}
 use Rattle.xmp_meaning.proofs.RelatedStatements.{keeps-stmt, keeps-program}
 use Rattle.xmp_meaning.proofs.Stays.{Any, all_any}
 
@@ -41,7 +43,7 @@ module _ {X : Type 0} where
   forgets_step zero s = refl
   forgets_step (suc n) s = refl
 
-  pub forgets_joins : Joins (Unit {0}) X Forgets
+  pub forgets_joins : Joins (State (Unit {0})) (State X) Forgets
   forgets_joins = record { gives = λ a s. refl; goes_on = λ {A} {B} {p} {q} {f} {g} h i. forgets_on p q f g h i }
 
   pub forgets : (cx : Context) → Keeps (Unit {0}) X cx Any Any Forgets
@@ -62,17 +64,24 @@ module _ {X : Type 0} where
         (forgets_on take_step take_step (λ u. body) (λ u. body') (λ t. forgets_step t.steps t) (λ u. i)) s;
   }
 
-notes_of_arrays : (arrays : List Name) (s : State (List Exchange)) → Gave Next (bare s) ≡ bare_step (note_arrays arrays s)
+notes_of_arrays : (arrays : List Name) (s : State Notes) → Gave Next (bare s) ≡ bare_step (note_arrays arrays s)
 notes_of_arrays [] s = refl
 notes_of_arrays (a ∷ all) s = notes_of_arrays all _
 
-forgets_traced : (p : ProgParts) → KeepsDirectives (Unit {0}) (List Exchange) Forgets erased (traced p)
+pub forgets_traced : (p : ProgParts) → KeepsHandlers (Unit {0}) Notes Any Forgets erased (traced p)
 forgets_traced p = record {
-  loop = λ directive around around' body body' h i s. h body body' i _;
+  get = λ row at s. refl;
+  put = λ row may at v s. refl;
+  loop = λ directive around around' body body' h i s.
+      h body (then_run (note_turn p directive) body') (λ t. i (record t { extra = _ })) _;
   reflect = notes_of_arrays;
   barrier = λ s. refl;
   bcast = λ variables nodes s. refl;
-  gmove = λ target source m m' w w' h i. forgets_on m m' w (λ v. then_run (note (Moved v)) (w' v)) h (λ v s. i v _);
+  gmove = λ target source aim aim' read read' write write' h i j.
+      forgets_on aim aim' (λ a. read a.sources >>= write a.targets)
+      (λ a. read' a.sources >>= (λ vs. then_run (note (Moved target source a vs)) (write' a.targets vs))) h
+      (λ a. forgets_on (read a.sources) (read' a.sources) (write a.targets)
+      (λ vs. then_run (note (Moved target source a vs)) (write' a.targets vs)) (i a.sources) (λ vs s. j a.targets vs _));
   tasks = λ ts us alike s. tasks_kept forgets_joins ts us alike _;
   sync = λ s. refl;
 }
@@ -88,6 +97,6 @@ outcome_bare p (Ended PhaseEnd s) = refl
 
 pub traced_is_serial : (p : ProgParts) (input : List ℕ) (steps : ℕ) → TracedIsSerial p input steps
 traced_is_serial p input steps =
-    sym (outcome_bare p (program (traced p) (main_context p 0 input) (beginning p steps [])))
+    sym (outcome_bare p (program (traced p) (main_context p 0 input) (beginning Whole p steps (no_notes p))))
     ∙ ap (outcome_of p) (sym (keeps-program (main_context p 0 input) (forgets (main_context p 0 input)) (forgets_traced p)
-    (all_any _) (all_any _) (all_any _) (beginning p steps [])))
+    (all_any _) (all_any _) (all_any _) (beginning Whole p steps (no_notes p))))
