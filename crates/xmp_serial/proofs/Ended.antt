@@ -7,8 +7,9 @@ use Rattle.xmp_meaning.specs.declared.ends.Halt.{Halt}
 use Rattle.xmp_meaning.specs.declared.ends.Halt.TheVariants as halt
 use Rattle.xmp_meaning.specs.declared.outcome.Outcome.{Outcome}
 use Rattle.xmp_meaning.specs.Runs.{State, Step, Does}
+use Rattle.xmp_meaning.specs.Layouts.{Whole}
 use Rattle.xmp_meaning.specs.Calls.{call_of, context_with}
-use Rattle.xmp_meaning.specs.Directives.{erased}
+use Rattle.xmp_meaning.specs.Handlers.{erased}
 use Rattle.xmp_meaning.specs.Programs.{beginning, outcome_of, program, serial}
 use Rattle.xmp_serial.specs.Outcomes.{IsOutcome}
 
@@ -20,11 +21,11 @@ same_outcome p step (Err (halt.End e)) s o d h = h ∙ ap (outcome_of p) (sym d)
 same_outcome p step (Err halt.NoMemory) s o d h = absurd h
 
 pub is_serial : (p : ProgParts) (input : List ℕ) (steps functions : ℕ) (s new : State (Unit {0})) (ended : Result Flow Halt) (r : Result Outcome NoMemory)
-    → functions ≡ length p.functions → s ≡ beginning p steps tt
-    → Does (program erased (context_with p 0 input (call_of p 0 functions)) s) ended new
+    → functions ≡ length p.functions → s ≡ beginning Whole p steps tt
+    → Does (program erased (context_with p Whole 0 input (call_of p 0 functions)) s) ended new
     → IfOk r (λ o. IsOutcome p ended new o) → IfOk r (λ o. o ≡ serial p input steps)
 is_serial p input steps functions s new ended (Ok o) e b d h =
-    let P : ℕ → Type 0 = λ n. Does (program erased (context_with p 0 input (call_of p 0 n)) s) ended new in
-    let Q : State (Unit {0}) → Type 0 = λ x. Does (program erased (context_with p 0 input (call_of p 0 (length p.functions))) x) ended new in
-    same_outcome p (program erased (context_with p 0 input (call_of p 0 (length p.functions))) (beginning p steps tt)) ended new o (subst Q b (subst P e d)) h
+    let P : ℕ → Type 0 = λ n. Does (program erased (context_with p Whole 0 input (call_of p 0 n)) s) ended new in
+    let Q : State (Unit {0}) → Type 0 = λ x. Does (program erased (context_with p Whole 0 input (call_of p 0 (length p.functions))) x) ended new in
+    same_outcome p (program erased (context_with p Whole 0 input (call_of p 0 (length p.functions))) (beginning Whole p steps tt)) ended new o (subst Q b (subst P e d)) h
 is_serial p input steps functions s new ended (Err x) e b d h = h

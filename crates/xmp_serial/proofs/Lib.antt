@@ -1,9 +1,10 @@
 pub mod Binds
+pub mod Elements
+pub mod Laid
 pub mod Ended
 pub mod Images
 pub mod Inputs
 pub mod Knots
-pub mod Moved
 pub mod Ranges
 pub mod CellNumbers
 pub mod Steps

@@ -1,4 +1,6 @@
 pub mod Ends
+pub mod LineProps
+pub mod Lines
 pub mod Turns
 pub mod Moves
 pub mod Nests

@@ -1,7 +1,7 @@
 use Rattle.std.proofs.Common.{ℤ, List, ap, ◌∙◌, drop}
 use Rattle.xmp_meaning.specs.Calls.{bind}
 use Rattle.xmp_serial.proofs.Binds.{bind_none}
-use Rattle.xmp_serial.proofs.eval.Frame.bind.Goals as goal
+use Rattle.xmp_serial.proofs.frame.Frame.bind.Goals as goal
 
 pub returns-in-None : goal.returns-in-None
 returns-in-None g c =

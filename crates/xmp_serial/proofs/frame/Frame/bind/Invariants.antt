@@ -1,6 +1,6 @@
 use Rattle.std.proofs.Common.{◌≡◌, drop}
 use Rattle.xmp_meaning.specs.Calls.{bind}
-use Rattle.xmp_serial.proofs.eval.Frame.bind.Given as goal
+use Rattle.xmp_serial.proofs.frame.Frame.bind.Given as goal
 
 -- what is left to bind from here gives what the whole gives
 abbrev pub invariant-slots : goal.invariant-slots
