@@ -16,7 +16,7 @@ use crate::frame::Frame;
 use crate::lines::Axis;
 use crate::lists::push;
 use crate::state::State;
-use sqlite_items::Items;
+use sqlite_items::{Items, at};
 use xmp_base::Place;
 use xmp_meaning::{End, Halt};
 use xmp_num::{BinOp, TrapKind, Ty, binary, convert};
@@ -174,13 +174,15 @@ impl<C: Callee> Frame<'_, C> {
         ensures { Does (cell_of erased (context_at self.now.program.now self.now.packed self.now.node self.now.input.now (C.calls self.now.callee.now)) access.now state.old) result state.new }
     {
         let axes = self.axes(access.array);
-        let at = self.cell_number(access.subscripts.as_slice(), axes, access.at, state)?;
-        match &access.image {
-            None => self.in_image(access.array, self.own_image(access.array), at),
-            Some(e) => {
-                let image = self.eval(e.get(), state)?;
-                self.in_image(access.array, natural(image), at)
-            }
+        match self.cell_number(access.subscripts.as_slice(), axes, access.at, state) {
+            Ok(at) => match &access.image {
+                None => self.in_image(access.array, self.own_image(access.array), at),
+                Some(e) => match self.eval(e.get(), state) {
+                    Ok(image) => self.in_image(access.array, natural(image), at),
+                    Err(halt) => Err(halt),
+                },
+            },
+            Err(halt) => Err(halt),
         }
     }
 
@@ -218,7 +220,7 @@ impl<C: Callee> Frame<'_, C> {
     fn axes(&self, array: u32) -> &[Axis]
         ensures { AreAxes result.now (extents self.now.program.now array) (axes (layout_of self.now.packed) self.now.program.now array) }
     {
-        match self.lines.get(array as usize) {
+        match at(self.lines, array as usize) {
             Some(line) => line.axes.as_slice(),
             None => &[],
         }
@@ -227,7 +229,7 @@ impl<C: Callee> Frame<'_, C> {
     fn own_image(&self, array: u32) -> u64
         ensures { result ≡ (if is_coarray self.now.program.now array then self.now.node else 0) }
     {
-        match self.lines.get(array as usize) {
+        match at(self.lines, array as usize) {
             Some(line) => {
                 if line.of_images {
                     u64::from(self.node)
@@ -243,7 +245,7 @@ impl<C: Callee> Frame<'_, C> {
     fn image_cells(&self, array: u32) -> usize
         ensures { result ≡ product (extents self.now.program.now array) }
     {
-        match self.lines.get(array as usize) {
+        match at(self.lines, array as usize) {
             Some(line) => line.cells,
             None => 1,
         }

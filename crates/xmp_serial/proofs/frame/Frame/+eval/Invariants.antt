@@ -1,19 +1,22 @@
-use Rattle.std.proofs.Common.{◌≡◌, ℕ, ◌+◌, ◌-◌, ◌*◌, map, drop}
+use Rattle.std.proofs.Common.{◌≡◌, ℕ, ◌+◌, ◌-◌, ◌*◌, ℤ, pos, map, drop}
+use Rattle.xmp_prog.specs.declared.expressions.Expr.{Expr}
 use Rattle.xmp_prog.proofs.expressions.Expr.TheLaws.{the_size}
 use Rattle.xmp_meaning.specs.Handlers.{erased}
-use Rattle.xmp_serial.specs.Lines.{context_at}
-use Rattle.xmp_meaning.specs.Expressions.{cell_number, each, expr_of}
+use Rattle.xmp_meaning.specs.Runs.{Run, and_then, pure}
+use Rattle.xmp_serial.specs.Lines.{context_at, number_along}
+use Rattle.xmp_meaning.specs.Expressions.{checked, each, expr_of}
 use Rattle.xmp_serial.proofs.frame.Frame.+eval.Given as goal
 
 -- what is left to do from here gives what the whole gives
 abbrev pub invariant-cell_number-subscripts : goal.invariant-cell_number-subscripts
 invariant-cell_number-subscripts g l =
-    let f : _ = expr_of erased (context_at l.self.program.now l.self.packed l.self.node l.self.input.now (g.C.Callee.calls l.self.callee.now)) in
-    cell_number (map f l.fn.subscripts) l.fn.extents l.at l.fn.so_far l.fn.state ≡ cell_number (map f (drop l.e-index l.subscripts)) l.extents l.at l.so_far l.state
+    let f : Expr → Run (Unit {0}) ℤ = expr_of erased (context_at l.self.program.now l.self.packed l.self.node l.self.input.now (g.C.Callee.calls l.self.callee.now)) in
+    and_then (checked (map f l.fn.subscripts) (map (λ a. a.extent) l.fn.axes) l.at l.fn.state) (λ xs. pure (number_along l.fn.axes (pos 0) xs))
+    ≡ and_then (checked (map f (drop l.e-index l.subscripts)) (map (λ a. a.extent) l.axes) l.at l.state) (λ xs. pure (number_along l.axes l.so_far xs))
 
 abbrev pub invariant-eval_each-items : goal.invariant-eval_each-items
 invariant-eval_each-items g l =
-    let f : _ = expr_of erased (context_at l.self.program.now l.self.packed l.self.node l.self.input.now (g.C.Callee.calls l.self.callee.now)) in
+    let f : Expr → Run (Unit {0}) ℤ = expr_of erased (context_at l.self.program.now l.self.packed l.self.node l.self.input.now (g.C.Callee.calls l.self.callee.now)) in
     each (map f l.fn.es) l.fn.values l.fn.state ≡ each (map f (drop l.e-index l.es)) l.values l.state
 
 -- depth first; at one depth the forms of an expression, and then the lists of its parts
