@@ -11,7 +11,9 @@ StaysOnCourse n all = (ks : List ℕ) → AreNodes n ks → (runs : ℕ → ℕ)
 
 -- in every order, all have ended or some node can move
 abbrev pub SomeCanMove : {S M : Type 0} → Nodes S M → Type 0
-SomeCanMove n = (ks : List ℕ) → AreNodes n ks → AllEnded n (run n ks (start n)) ⊎ ((k : ℕ) × (k < n.count) × (answer n (run n ks (start n)) k ≡ Stepped))
+SomeCanMove n =
+    (ks : List ℕ) → AreNodes n ks →
+    AllEnded n (run n ks (start n)) ⊎ ((k : ℕ) × (k < n.count) × (answer n (run n ks (start n)) k ≡ Stepped))
 
 -- no run makes more steps than that
 abbrev pub FewSteps : {S M : Type 0} → Nodes S M → Traffic M → Type 0
@@ -19,12 +21,15 @@ FewSteps n all = (ks : List ℕ) → AreNodes n ks → AllStep n ks (start n) �
 
 -- two runs in which all end come to one world
 abbrev pub OneEnd : {S M : Type 0} → Nodes S M → Type 0
-OneEnd n = (ks ls : List ℕ) → AreNodes n ks → AreNodes n ls → AllEnded n (run n ks (start n)) → AllEnded n (run n ls (start n)) →
+OneEnd n =
+    (ks ls : List ℕ) → AreNodes n ks → AreNodes n ls → AllEnded n (run n ks (start n)) → AllEnded n (run n ls (start n)) →
     IsSameWorld n (run n ks (start n)) (run n ls (start n))
 
 -- there no queue between two nodes holds a message
 abbrev pub EndsEmpty : {S M : Type 0} → Nodes S M → Type 0
-EndsEmpty n = (ks : List ℕ) → AreNodes n ks → AllEnded n (run n ks (start n)) → (i k : ℕ) → i < n.count → k < n.count → i ≢ k → (run n ks (start n)).queue i k ≡ []
+EndsEmpty n =
+    (ks : List ℕ) → AreNodes n ks → AllEnded n (run n ks (start n)) → (i k : ℕ) → i < n.count → k < n.count → i ≢ k →
+    (run n ks (start n)).queue i k ≡ []
 
 -- lockstep comes to the end of all
 abbrev pub LockstepEnds : {S M : Type 0} → Nodes S M → Traffic M → Type 0

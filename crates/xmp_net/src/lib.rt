@@ -28,5 +28,6 @@ pub fn every_order<S, M>()
 pub fn two_nodes_carry()
     ensures carry { AllCarry pair told }
     ensures ended { AllEnded pair (run pair (rounds 2 3) (start pair)) }
-    ensures heard { (((run pair (rounds 2 3) (start pair)).state 0).1 ≡ 7) × (((run pair (rounds 2 3) (start pair)).state 1).1 ≡ 8) }
+    ensures zero { ((run pair (rounds 2 3) (start pair)).state 0).1 ≡ 7 }
+    ensures one { ((run pair (rounds 2 3) (start pair)).state 1).1 ≡ 8 }
 {}

@@ -1,4 +1,5 @@
-//! Scripts of one-sided words, and images that carry them: in every order of their steps each get finds what its image sees, and all come to one end.
+//! Scripts of one-sided words, and images that carry them: in every order of their steps each get finds what its image sees,
+//! and all come to one end.
 #![tactic(auto)]
 
 ghost use Rattle.std.specs.Prelude.{◌≡◌, ℕ, ◌<◌};
@@ -7,7 +8,7 @@ ghost use Rattle.xmp_script.specs.Images.{Images};
 ghost use Rattle.xmp_script.specs.Carries.{AllCarry, AllEnded};
 ghost use Rattle.xmp_script.specs.Orders.{rounds};
 ghost use Rattle.xmp_script.specs.Walkers.{walkers};
-ghost use Rattle.xmp_script.specs.Laws.{GetsSee, EndsWithFinalWords, SeesLastPut, InEveryOrder, played};
+ghost use Rattle.xmp_script.specs.Laws.{GetsSee, EndsWithFinalWords, SeesLastPut, InEveryOrder, FirstsPickSteps, played};
 ghost use Rattle.xmp_script.specs.Examples.{round_robin, keepers};
 
 /// Of scripts whose words have values `V`, and images whose states are `S`.
@@ -17,6 +18,7 @@ pub fn every_order<S, V>()
     ensures one_seen { (s : Script V) → IsFree s → SeesLastPut s }
     ensures synced { (s : Script V) → IsFree s → 0 < s.images → 0 < s.phases → InEveryOrder (walkers s) s }
     ensures played { (im : Images S V) (s : Script V) → AllCarry im s → InEveryOrder im s }
+    ensures ordered { FirstsPickSteps S V }
 {}
 
 /// Three images write to the words of the next ones without conflict, and find the numbers of those before.
