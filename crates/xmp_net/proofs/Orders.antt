@@ -2,7 +2,7 @@
 -- end of all.
 use Rattle.std.proofs.Common.{◌≡◌, ◌≢◌, ℕ, zero, suc, ◌+◌, ◌<◌, ◌≤◌, List, [], ◌∷◌, ◌++◌, length, refl, sym, ap, arith, subst, ◌∙◌, All, eq-or-lt_of_le, le_refl, lt_trans, ◌⊎◌, inl, inr}
 use Rattle.xmp_net.specs.Nodes.{Nodes, World, Moved, Stepped, NotYet, AlreadyEnded, start, moved, answer, run}
-use Rattle.xmp_net.specs.Traffic.{Traffic, AllCarry, OnCourse, AllEnded, AreNodes, IsSameWorld, firsts}
+use Rattle.xmp_net.specs.Traffic.{Traffic, own, AllCarry, OnCourse, AllEnded, AreNodes, IsSameWorld, firsts}
 use Rattle.xmp_net.specs.Orders.{rounds, AllStep, most_steps, Choice, PicksSteps, picked}
 use Rattle.xmp_net.specs.Laws.{EndsBy}
 use Rattle.xmp_net.proofs.Course.{run_course, start_course}
@@ -195,6 +195,12 @@ same_end n all carry ks ls oks ols e f =
     let x = one_end n all carry (run n ks (start n)) c.0 c.1 e in
     let y = one_end n all carry (run n ls (start n)) d.0 d.1 f in
     record { state = λ k lt. x.0 k lt ∙ sym (y.0 k lt); next = λ k lt. x.1 k lt ∙ sym (y.1 k lt); queue = λ i k li lk ne. x.2 i k li lk ne ∙ sym (y.2 i k li lk ne) }
+
+-- there each node stands at the end of its own list
+pub ends_own : {S M : Type 0} (n : Nodes S M) (all : Traffic M) → AllCarry n all → (ks : List ℕ) → AreNodes n ks →
+    AllEnded n (run n ks (start n)) → (k : ℕ) → k < n.count → (run n ks (start n)).state k ≡ own n all k (suc all.exchanges) 0
+ends_own n all carry ks ok e k lk =
+    let c = on_course n all carry ks ok in (one_end n all carry (run n ks (start n)) c.0 c.1 e).0 k lk
 
 -- there all queues are empty
 pub ends_empty : {S M : Type 0} (n : Nodes S M) (all : Traffic M) → AllCarry n all → (ks : List ℕ) → AreNodes n ks →

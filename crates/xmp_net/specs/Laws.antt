@@ -1,7 +1,7 @@
 -- What holds of nodes that carry a traffic, in every order of their moves.
-use Rattle.std.specs.Prelude.{◌≡◌, ◌≢◌, ℕ, ◌<◌, ◌≤◌, List, [], length, ◌⊎◌}
+use Rattle.std.specs.Prelude.{◌≡◌, ◌≢◌, ℕ, suc, ◌<◌, ◌≤◌, List, [], length, ◌⊎◌}
 use Rattle.xmp_net.specs.Nodes.{Nodes, Stepped, start, answer, run}
-use Rattle.xmp_net.specs.Traffic.{Traffic, AllCarry, OnCourse, AllEnded, AreNodes, IsSameWorld, IsSameTraffic}
+use Rattle.xmp_net.specs.Traffic.{Traffic, own, AllCarry, OnCourse, AllEnded, AreNodes, IsSameWorld, IsSameTraffic}
 use Rattle.xmp_net.specs.Orders.{rounds, AllStep, most_steps, Choice, PicksSteps, picked, first_able}
 use Rattle.xmp_net.specs.Tables.{Carried}
 
@@ -25,7 +25,13 @@ OneEnd n =
     (ks ls : List ℕ) → AreNodes n ks → AreNodes n ls → AllEnded n (run n ks (start n)) → AllEnded n (run n ls (start n)) →
     IsSameWorld n (run n ks (start n)) (run n ls (start n))
 
--- there no queue between two nodes holds a message
+-- there each node stands at the end of its own list
+abbrev pub EndsOwn : {S M : Type 0} → Nodes S M → Traffic M → Type 0
+EndsOwn n all =
+    (ks : List ℕ) → AreNodes n ks → AllEnded n (run n ks (start n)) → (k : ℕ) → k < n.count →
+    (run n ks (start n)).state k ≡ own n all k (suc all.exchanges) 0
+
+-- and no queue between two nodes holds a message
 abbrev pub EndsEmpty : {S M : Type 0} → Nodes S M → Type 0
 EndsEmpty n =
     (ks : List ℕ) → AreNodes n ks → AllEnded n (run n ks (start n)) → (i k : ℕ) → i < n.count → k < n.count → i ≢ k →

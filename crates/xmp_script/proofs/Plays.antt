@@ -1,10 +1,10 @@
 -- Every order of the moves of images that carry a script: no run has more steps than a bound, and lockstep and every
 -- choice of images that can move come to the end of all.
-use Rattle.std.proofs.Common.{◌≡◌, ◌≢◌, ℕ, zero, suc, ◌+◌, ◌<◌, ◌≤◌, List, [], ◌∷◌, ◌++◌, length, refl, sym, ap, arith, subst, ◌∙◌, All, eq-or-lt_of_le, le_refl, lt_trans, ◌⊎◌, inl, inr}
+use Rattle.std.proofs.Common.{◌≡◌, ◌≢◌, ℕ, zero, suc, ◌+◌, ◌-◌, ◌<◌, ◌≤◌, List, [], ◌∷◌, ◌++◌, length, refl, sym, ap, arith, subst, ◌∙◌, All, eq-or-lt_of_le, le_refl, lt_trans, ◌⊎◌, inl, inr}
 use Rattle.xmp_script.specs.Script.{Script}
 use Rattle.xmp_script.specs.World.{World, start, Reached, Begun}
 use Rattle.xmp_script.specs.Images.{Images, Standing, Stepped, AlreadyEnded, begun, moved, answer, run}
-use Rattle.xmp_script.specs.Carries.{AllCarry, AllEnded, AreImages}
+use Rattle.xmp_script.specs.Carries.{own, AllCarry, AllEnded, AreImages}
 use Rattle.xmp_script.specs.Orders.{below, rounds, AllStep, most_steps, Choice, PicksSteps, picked}
 use Rattle.xmp_script.specs.Laws.{played, EndsBy, InEveryOrder}
 use Rattle.xmp_script.proofs.Course.{Course}
@@ -212,7 +212,13 @@ in_every_order im s carry = record {
         next = λ k lk. x.next k lk ∙ sym (y.next k lk);
         queue = λ i k li lk ne. x.queue i k li lk ne ∙ sym (y.queue i k li lk ne);
       };
-  last = λ ks ok e. let x = ended_so im s carry ks ok e in record { words = x.words; empty = x.queue };
+  last = λ ks ok e. let x = ended_so im s carry ks ok e in record {
+    words = x.words;
+    state = λ q k end lk.
+        let e : s.phases - 1 ≡ q = omega (arith, sym end) in
+        x.state k lk ∙ ap (λ r. im.go (own im s k r (length (s.accesses r k)))) e;
+    empty = x.queue;
+  };
   lockstep = lockstep_ends im s carry;
   chosen = choices_end im s carry;
 }

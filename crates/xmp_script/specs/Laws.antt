@@ -1,10 +1,10 @@
 -- What holds of a script without conflicts, and of images that carry it, in every order of their steps.
-use Rattle.std.specs.Prelude.{◌≡◌, ◌≢◌, ℕ, ◌<◌, ◌≤◌, List, length, ◌⊎◌}
+use Rattle.std.specs.Prelude.{◌≡◌, ◌≢◌, ℕ, suc, ◌<◌, ◌≤◌, List, length, ◌⊎◌}
 use Rattle.xmp_script.specs.Script.{Script, Get, seen, words_at}
 use Rattle.xmp_script.specs.World.{World, Reached, MayAccess}
 use Rattle.xmp_script.specs.LastPuts.{IsSeen}
 use Rattle.xmp_script.specs.Images.{Images, Standing, Stepped, begun, answer, run}
-use Rattle.xmp_script.specs.Carries.{StandsAs, AllEnded, AreImages, IsSameStanding}
+use Rattle.xmp_script.specs.Carries.{own, StandsAs, AllEnded, AreImages, IsSameStanding}
 use Rattle.xmp_script.specs.Orders.{rounds, AllStep, most_steps, Choice, PicksSteps, picked, first_able}
 
 -- in every order a get finds what its image sees
@@ -53,14 +53,15 @@ OneEnd im s =
     AllEnded s.images (played im s ls) →
     IsSameStanding s.images (played im s ks) (played im s ls)
 
--- that is the script's final words, and no message
-pub record Ends {S V : Type 0} (s : Script V) (v : Standing S V) : Type 0 where
+-- that is the script's final words, each image at the end of its own list, and no message
+pub record Ends {S V : Type 0} (im : Images S V) (s : Script V) (v : Standing S V) : Type 0 where
   pub words : (e : ℕ) → v.words e ≡ words_at s s.phases e
+  pub state : (q k : ℕ) → suc q ≡ s.phases → k < s.images → v.state k ≡ im.go (own im s k q (length (s.accesses q k)))
   pub empty : (i k : ℕ) → i < s.images → k < s.images → i ≢ k → v.queue i k ≡ 0
 
 abbrev pub EndsAsTheScript : {S V : Type 0} → Images S V → Script V → Type 0
 EndsAsTheScript im s =
-    (ks : List ℕ) → AreImages s.images ks → AllEnded s.images (played im s ks) → Ends s (played im s ks)
+    (ks : List ℕ) → AreImages s.images ks → AllEnded s.images (played im s ks) → Ends im s (played im s ks)
 
 -- lockstep comes to the end of all
 abbrev pub LockstepEnds : {S V : Type 0} → Images S V → Script V → Type 0
