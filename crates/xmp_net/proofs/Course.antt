@@ -12,10 +12,12 @@ at_same f k v j e = grind arith
 pub at_other : {A : Type 0} → (f : ℕ → A) (k : ℕ) (v : A) (j : ℕ) → j ≢ k → at f k v j ≡ f j
 at_other f k v j ne = grind arith
 
-pub fed_step : {S M : Type 0} → (n : Nodes S M) (all : Traffic M) (k t p : ℕ) (s : S) → p ≢ k → fed n all k t (suc p) s ≡ n.into (fed n all k t p s) p (all.message t p k)
+pub fed_step : {S M : Type 0} → (n : Nodes S M) (all : Traffic M) (k t p : ℕ) (s : S) → p ≢ k →
+    fed n all k t (suc p) s ≡ n.into (fed n all k t p s) p (all.message t p k)
 fed_step n all k t p s ne = grind arith
 
-pub fed_peer : {S M : Type 0} → (n : Nodes S M) (all : Traffic M) (k t i : ℕ) (s : S) → fed n all k t (peer k i) s ≡ fed n all k t i s
+pub fed_peer : {S M : Type 0} → (n : Nodes S M) (all : Traffic M) (k t i : ℕ) (s : S) →
+    fed n all k t (peer k i) s ≡ fed n all k t i s
 fed_peer n all k t i s = grind arith
 
 pub length_firsts : {A : Type 0} → (f : ℕ → A) (c : ℕ) → length (firsts f c) ≡ c
@@ -34,7 +36,8 @@ get_firsts f (suc c) j d lt =
     ]
 
 -- the item behind the first c
-next_first : {A : Type 0} → (f : ℕ → A) (c d : ℕ) (m : A) (rest : List A) → firsts f c ++ m ∷ rest ≡ firsts f d → (m ≡ f c) × (firsts f (suc c) ++ rest ≡ firsts f d)
+next_first : {A : Type 0} → (f : ℕ → A) (c d : ℕ) (m : A) (rest : List A) → firsts f c ++ m ∷ rest ≡ firsts f d →
+    (m ≡ f c) × (firsts f (suc c) ++ rest ≡ firsts f d)
 next_first {A} f c d m rest e =
     let long : c < d = omega (arith, length-append (firsts f c) (m ∷ rest), length_firsts f c, length_firsts f d, ap length e) in
     let P : ℕ → Type 0 = λ n. get_or (firsts f c ++ m ∷ rest) n m ≡ m in
@@ -49,18 +52,21 @@ pub peer_other : (k i : ℕ) → peer k i ≢ k
 peer_other k i = grind arith
 
 -- what a node took, as it runs on
-took_run : (ex runs k count i : ℕ) → i < count → i ≢ k → runs ≤ ex → took ex (suc runs) (peer k 0) i ≡ took ex runs count i
+took_run : (ex runs k count i : ℕ) → i < count → i ≢ k → runs ≤ ex →
+    took ex (suc runs) (peer k 0) i ≡ took ex runs count i
 took_run ex runs k count i lt ne le = grind arith
 
 -- what a node took from i, as it takes one of its peer p
 took_same : (ex runs k p i : ℕ) → i ≢ k → i ≢ p → took ex runs (peer k (suc p)) i ≡ took ex runs p i
 took_same ex runs k p i ne np = grind arith
 
-pub took_more : (ex t k p : ℕ) → suc t ≤ ex → p ≢ k → (took ex (suc t) p p ≡ t) × (took ex (suc t) (peer k (suc p)) p ≡ suc t)
+pub took_more : (ex t k p : ℕ) → suc t ≤ ex → p ≢ k →
+    (took ex (suc t) p p ≡ t) × (took ex (suc t) (peer k (suc p)) p ≡ suc t)
 took_more ex t k p le ne = (grind arith, grind arith)
 
 -- what holds at k of the new values, and elsewhere of the old ones, holds everywhere
-everywhere : {A B : Type 0} (f : ℕ → A) (g : ℕ → B) (k : ℕ) (v : A) (u : B) (P : ℕ → A → B → Type 0) → P k v u → ((j : ℕ) → j ≢ k → P j (f j) (g j)) →
+everywhere : {A B : Type 0} (f : ℕ → A) (g : ℕ → B) (k : ℕ) (v : A) (u : B) (P : ℕ → A → B → Type 0) → P k v u →
+    ((j : ℕ) → j ≢ k → P j (f j) (g j)) →
     (j : ℕ) → P j (at f k v j) (at g k u j)
 everywhere {A} {B} f g k v u P here others j =
     elim (cases_eq j k) [
@@ -68,7 +74,9 @@ everywhere {A} {B} f g k v u P here others j =
       | inr ne ↦ rw (at_other f k v j ne, at_other g k u j ne) (others j ne)
     ]
 
-everywhere3 : {A B C : Type 0} (f : ℕ → A) (g : ℕ → B) (h : ℕ → C) (k : ℕ) (v : A) (u : B) (z : C) (P : ℕ → A → B → C → Type 0) → P k v u z → ((j : ℕ) → j ≢ k → P j (f j) (g j) (h j)) →
+everywhere3 :
+    {A B C : Type 0} (f : ℕ → A) (g : ℕ → B) (h : ℕ → C) (k : ℕ) (v : A) (u : B) (z : C) (P : ℕ → A → B → C → Type 0) →
+    P k v u z → ((j : ℕ) → j ≢ k → P j (f j) (g j) (h j)) →
     (j : ℕ) → P j (at f k v j) (at g k u j) (at h k z j)
 everywhere3 {A} {B} {C} f g h k v u z P here others j =
     elim (cases_eq j k) [
@@ -76,19 +84,24 @@ everywhere3 {A} {B} {C} f g h k v u z P here others j =
       | inr ne ↦ rw (at_other f k v j ne, at_other g k u j ne, at_other h k z j ne) (others j ne)
     ]
 
-ran_queue_else : {S M : Type 0} (n : Nodes S M) (w : World S M) (k i j : ℕ) → i ≢ k → (ran n w k).queue i j ≡ w.queue i j
+ran_queue_else : {S M : Type 0} (n : Nodes S M) (w : World S M) (k i j : ℕ) → i ≢ k →
+    (ran n w k).queue i j ≡ w.queue i j
 ran_queue_else n w k i j ne = grind arith
 
-ran_queue_over : {S M : Type 0} (n : Nodes S M) (w : World S M) (k j : ℕ) → n.over (n.go (w.state k)) ≡ true → (ran n w k).queue k j ≡ w.queue k j
+ran_queue_over : {S M : Type 0} (n : Nodes S M) (w : World S M) (k j : ℕ) → n.over (n.go (w.state k)) ≡ true →
+    (ran n w k).queue k j ≡ w.queue k j
 ran_queue_over n w k j e = grind arith
 
-ran_queue_put : {S M : Type 0} (n : Nodes S M) (w : World S M) (k j : ℕ) → n.over (n.go (w.state k)) ≡ false → j ≢ k → (ran n w k).queue k j ≡ w.queue k j ++ n.out (n.go (w.state k)) j ∷ []
+ran_queue_put : {S M : Type 0} (n : Nodes S M) (w : World S M) (k j : ℕ) → n.over (n.go (w.state k)) ≡ false → j ≢ k →
+    (ran n w k).queue k j ≡ w.queue k j ++ n.out (n.go (w.state k)) j ∷ []
 ran_queue_put n w k j e ne = grind arith
 
 -- the queue from k, as it runs
 ran_queue : {S M : Type 0} → (n : Nodes S M) (all : Traffic M) (w : World S M) (k t j : ℕ) → Carries n all k →
-    k < n.count → t ≤ all.exchanges → n.go (w.state k) ≡ own n all k (suc t) 0 → j < n.count → j ≢ k → (firstly : List M) →
-    firstly ++ w.queue k j ≡ firsts (λ x. all.message x k j) (sent all.exchanges t) → firstly ++ (ran n w k).queue k j ≡ firsts (λ x. all.message x k j) (sent all.exchanges (suc t))
+    k < n.count → t ≤ all.exchanges → n.go (w.state k) ≡ own n all k (suc t) 0 → j < n.count → j ≢ k →
+    (firstly : List M) →
+    firstly ++ w.queue k j ≡ firsts (λ x. all.message x k j) (sent all.exchanges t) →
+    firstly ++ (ran n w k).queue k j ≡ firsts (λ x. all.message x k j) (sent all.exchanges (suc t))
 ran_queue {S} {M} n all w k t j carries lt early is lj ne firstly before =
     elim (eq-or-lt_of_le early) [
       | inl e ↦
@@ -103,8 +116,10 @@ ran_queue {S} {M} n all w k t j carries lt early is lj ne firstly before =
           rw (ran_queue_put n w k j going ne, more, message) (sym (append_assoc firstly (w.queue k j) (all.message t k j ∷ [])) ∙ ap (λ xs. xs ++ all.message t k j ∷ []) (before ∙ ap (firsts (λ x. all.message x k j)) is-sent))
     ]
 
-ran_queue_from : {S M : Type 0} → (n : Nodes S M) (all : Traffic M) (w : World S M) (runs : ℕ → ℕ) (k i x : ℕ) → Carries n all k → OnCourse n all w runs →
-    k < n.count → runs k ≤ all.exchanges → n.go (w.state k) ≡ own n all k (suc (runs k)) 0 → x < n.count → i ≡ k → x ≢ k → i ≢ x →
+ran_queue_from : {S M : Type 0} → (n : Nodes S M) (all : Traffic M) (w : World S M) (runs : ℕ → ℕ) (k i x : ℕ) →
+    Carries n all k → OnCourse n all w runs →
+    k < n.count → runs k ≤ all.exchanges → n.go (w.state k) ≡ own n all k (suc (runs k)) 0 → x < n.count → i ≡ k →
+    x ≢ k → i ≢ x →
     firsts (λ t. all.message t i x) (took all.exchanges (runs x) (w.next x) i) ++ (ran n w k).queue i x ≡ firsts (λ t. all.message t i x) (sent all.exchanges (at runs k (suc (runs k)) i))
 ran_queue_from {S} {M} n all w runs k i x carries c lt early is lx e nx ne =
     let P : ℕ → Type 0 = λ i. firsts (λ t. all.message t i x) (took all.exchanges (runs x) (w.next x) i) ++ (ran n w k).queue i x ≡ firsts (λ t. all.message t i x) (sent all.exchanges (at runs k (suc (runs k)) i)) in
@@ -112,7 +127,8 @@ ran_queue_from {S} {M} n all w runs k i x carries c lt early is lx e nx ne =
     (ran_queue n all w k (runs k) x carries lt early is lx nx (firsts (λ t. all.message t k x) (took all.exchanges (runs x) (w.next x) k)) (c.queue k x lt lx (λ e'. nx (sym e')))))
 
 -- a run of node k, which does not await anything and is not over
-ran_at : {S M : Type 0} → (n : Nodes S M) (all : Traffic M) (w : World S M) (runs : ℕ → ℕ) (k : ℕ) → Carries n all k → OnCourse n all w runs →
+ran_at : {S M : Type 0} → (n : Nodes S M) (all : Traffic M) (w : World S M) (runs : ℕ → ℕ) (k : ℕ) → Carries n all k →
+    OnCourse n all w runs →
     k < n.count → w.next k ≡ n.count → runs k ≤ all.exchanges → n.go (w.state k) ≡ own n all k (suc (runs k)) 0 →
     OnCourse n all (ran n w k) (at runs k (suc (runs k)))
 ran_at {S} {M} n all w runs k carries c lt next early is =
@@ -134,26 +150,34 @@ ran_at {S} {M} n all w runs k carries c lt next early is =
           (λ x nx lx ne. elim (cases_eq i k) [ inl e ↦ ran_queue_from n all w runs k i x carries c lt early is lx e nx ne | inr nk ↦ rw (ran_queue_else n w k i x nk, at_other runs k (suc (runs k)) i nk) (c.queue i x li lx ne) ]) j lj;
     }
 
-pub ran_course : {S M : Type 0} → (n : Nodes S M) (all : Traffic M) (w : World S M) (runs : ℕ → ℕ) (k : ℕ) → Carries n all k → OnCourse n all w runs →
-    k < n.count → n.count ≤ w.next k → n.over (w.state k) ≡ false → OnCourse n all (ran n w k) (at runs k (suc (runs k)))
+pub ran_course : {S M : Type 0} → (n : Nodes S M) (all : Traffic M) (w : World S M) (runs : ℕ → ℕ) (k : ℕ) →
+    Carries n all k → OnCourse n all w runs →
+    k < n.count → n.count ≤ w.next k → n.over (w.state k) ≡ false →
+    OnCourse n all (ran n w k) (at runs k (suc (runs k)))
 ran_course {S} {M} n all w runs k carries c lt free going =
     let next : w.next k ≡ n.count = omega (arith, c.below k lt) in
     let early : runs k ≤ all.exchanges = elim (eq-or-lt_of_le (c.within k lt)) [ inl e ↦ absurd (true≢false (sym (c.ended k lt e).1 ∙ going)) | inr less ↦ omega arith ] in
     let is : n.go (w.state k) ≡ own n all k (suc (runs k)) 0 = ap n.go (c.state k lt ∙ ap (own n all k (runs k)) next) in
     ran_at n all w runs k carries c lt next early is
 
-received_queue_other : {S M : Type 0} (n : Nodes S M) (w : World S M) (k i j : ℕ) (m : M) (rest : List M) → j ≢ k → (received n w k (m ∷ rest)).queue i j ≡ w.queue i j
+received_queue_other : {S M : Type 0} (n : Nodes S M) (w : World S M) (k i j : ℕ) (m : M) (rest : List M) → j ≢ k →
+    (received n w k (m ∷ rest)).queue i j ≡ w.queue i j
 received_queue_other n w k i j m rest ne = grind arith
 
-received_queue_another : {S M : Type 0} (n : Nodes S M) (w : World S M) (k i : ℕ) (m : M) (rest : List M) → i ≢ w.next k → (received n w k (m ∷ rest)).queue i k ≡ w.queue i k
+received_queue_another : {S M : Type 0} (n : Nodes S M) (w : World S M) (k i : ℕ) (m : M) (rest : List M) →
+    i ≢ w.next k → (received n w k (m ∷ rest)).queue i k ≡ w.queue i k
 received_queue_another n w k i m rest ne = grind arith
 
-received_queue_same : {S M : Type 0} (n : Nodes S M) (w : World S M) (k i : ℕ) (m : M) (rest : List M) → i ≡ w.next k → (received n w k (m ∷ rest)).queue i k ≡ rest
+received_queue_same : {S M : Type 0} (n : Nodes S M) (w : World S M) (k i : ℕ) (m : M) (rest : List M) → i ≡ w.next k →
+    (received n w k (m ∷ rest)).queue i k ≡ rest
 received_queue_same n w k i m rest e = grind arith
 
 -- node k takes a message
-received_at : {S M : Type 0} → (n : Nodes S M) (all : Traffic M) (w : World S M) (runs : ℕ → ℕ) (k t : ℕ) (m : M) (rest : List M) → OnCourse n all w runs →
-    k < n.count → w.next k < n.count → runs k ≡ suc t → suc t ≤ all.exchanges → w.queue (w.next k) k ≡ m ∷ rest → OnCourse n all (received n w k (m ∷ rest)) runs
+received_at : {S M : Type 0} →
+    (n : Nodes S M) (all : Traffic M) (w : World S M) (runs : ℕ → ℕ) (k t : ℕ) (m : M) (rest : List M) →
+    OnCourse n all w runs →
+    k < n.count → w.next k < n.count → runs k ≡ suc t → suc t ≤ all.exchanges → w.queue (w.next k) k ≡ m ∷ rest →
+    OnCourse n all (received n w k (m ∷ rest)) runs
 received_at {S} {M} n all w runs k t m rest c lt waits is early at-head =
     let p : ℕ = w.next k in
     let np : p ≢ k = c.other k lt in
@@ -186,8 +210,10 @@ received_at {S} {M} n all w runs k t m rest c lt waits is early at-head =
     }
 
 -- node k, which is not over and awaits a message
-pub receive_course : {S M : Type 0} → (n : Nodes S M) (all : Traffic M) (w : World S M) (runs : ℕ → ℕ) (k : ℕ) → OnCourse n all w runs → k < n.count → w.next k < n.count →
-    n.over (w.state k) ≡ false → (items : List M) → w.queue (w.next k) k ≡ items → OnCourse n all (received n w k items) runs
+pub receive_course : {S M : Type 0} → (n : Nodes S M) (all : Traffic M) (w : World S M) (runs : ℕ → ℕ) (k : ℕ) →
+    OnCourse n all w runs → k < n.count → w.next k < n.count →
+    n.over (w.state k) ≡ false → (items : List M) → w.queue (w.next k) k ≡ items →
+    OnCourse n all (received n w k items) runs
 receive_course n all w runs k c lt waits going [] e = c
 receive_course n all w runs k c lt waits going (m ∷ rest) e =
     let early : runs k ≤ all.exchanges = elim (eq-or-lt_of_le (c.within k lt)) [ inl e ↦ absurd (true≢false (sym (c.ended k lt e).1 ∙ going)) | inr less ↦ omega arith ] in
@@ -195,7 +221,8 @@ receive_course n all w runs k c lt waits going (m ∷ rest) e =
     received_at n all w runs k (runs k - 1) m rest c lt waits (omega arith) (omega arith) e
 
 -- A move keeps every node on its own list, and every queue on the traffic.
-pub moved_course : {S M : Type 0} → (n : Nodes S M) (all : Traffic M) (w : World S M) (runs : ℕ → ℕ) (k : ℕ) → Carries n all k → OnCourse n all w runs → k < n.count →
+pub moved_course : {S M : Type 0} → (n : Nodes S M) (all : Traffic M) (w : World S M) (runs : ℕ → ℕ) (k : ℕ) →
+    Carries n all k → OnCourse n all w runs → k < n.count →
     (runs' : ℕ → ℕ) × OnCourse n all (moved n w k) runs'
 moved_course {S} {M} n all w runs k carries c lt =
     elim (cases_Bool (n.over (w.state k))) [
@@ -218,7 +245,8 @@ start_course n all = record {
 }
 
 -- every schedule
-pub run_course : {S M : Type 0} → (n : Nodes S M) (all : Traffic M) → AllCarry n all → (ks : List ℕ) → All (λ k. k < n.count) ks → (w : World S M) (runs : ℕ → ℕ) → OnCourse n all w runs →
+pub run_course : {S M : Type 0} → (n : Nodes S M) (all : Traffic M) → AllCarry n all → (ks : List ℕ) →
+    All (λ k. k < n.count) ks → (w : World S M) (runs : ℕ → ℕ) → OnCourse n all w runs →
     (runs' : ℕ → ℕ) × OnCourse n all (run n ks w) runs'
 run_course n all carry [] ok w runs c = (runs, c)
 run_course n all carry (k ∷ ks) ok w runs c =

@@ -1,4 +1,5 @@
--- Loops over states of any kind that show worlds: a fact of all turns that are left follows without an induction of one's own.
+-- Loops over states of any kind that show worlds: a fact of all turns that are left follows without an induction of
+-- one's own.
 use Rattle.std.proofs.Common.{◌≡◌, ℕ, zero, suc, ◌+◌, ◌<◌, ◌≤◌, arith, subst, le_refl, inl, inr}
 use Rattle.xmp_net.specs.Nodes.{Nodes, World, Stepped, moved, answer, run}
 use Rattle.xmp_net.specs.Traffic.{Traffic, AllCarry, OnCourse, AllEnded, firsts}
@@ -7,11 +8,13 @@ use Rattle.xmp_net.proofs.Progress.{some_moves, effort, effort_most, stepped}
 use Rattle.xmp_net.proofs.Orders.{turn, run_turn, turn_either}
 
 -- what holds where all have ended, and before a turn if behind it, holds with so many turns left
-choice_by : {S M X : Type 0} (n : Nodes S M) (all : Traffic M) → AllCarry n all → (shows : X → World S M → Type 0) (onward : X → X) (holds : ℕ → X → Type 0) →
+choice_by : {S M X : Type 0} (n : Nodes S M) (all : Traffic M) → AllCarry n all →
+    (shows : X → World S M → Type 0) (onward : X → X) (holds : ℕ → X → Type 0) →
     ((d : ℕ) (x : X) (w : World S M) → shows x w → AllEnded n w → holds d x) →
     ((d : ℕ) (x : X) → holds d (onward x) → holds (suc d) x) →
     ((x : X) (w : World S M) (k : ℕ) → shows x w → k < n.count → answer n w k ≡ Stepped → (j : ℕ) × (j < n.count) × (answer n w j ≡ Stepped) × shows (onward x) (moved n w j)) →
-    (d : ℕ) (x : X) (w : World S M) (runs : ℕ → ℕ) → shows x w → OnCourse n all w runs → most_steps n all ≤ effort n w runs + d → holds d x
+    (d : ℕ) (x : X) (w : World S M) (runs : ℕ → ℕ) → shows x w → OnCourse n all w runs →
+    most_steps n all ≤ effort n w runs + d → holds d x
 choice_by {S} {M} n all carry shows onward holds end back step zero x w runs here course enough = elim (some_moves n all carry w runs course) [
   | inl ended ↦ end 0 x w here ended
   | inr can ↦
@@ -29,7 +32,8 @@ choice_by {S} {M} n all carry shows onward holds end back step (suc d) x w runs 
 ]
 
 -- a loop that moves one node that can move in each turn
-pub choice_to_end : {S M X : Type 0} (n : Nodes S M) (all : Traffic M) → AllCarry n all → (shows : X → World S M → Type 0) (onward : X → X) (holds : ℕ → X → Type 0) →
+pub choice_to_end : {S M X : Type 0} (n : Nodes S M) (all : Traffic M) → AllCarry n all →
+    (shows : X → World S M → Type 0) (onward : X → X) (holds : ℕ → X → Type 0) →
     ((d : ℕ) (x : X) (w : World S M) → shows x w → AllEnded n w → holds d x) →
     ((d : ℕ) (x : X) → holds d (onward x) → holds (suc d) x) →
     ((x : X) (w : World S M) (k : ℕ) → shows x w → k < n.count → answer n w k ≡ Stepped → (j : ℕ) × (j < n.count) × (answer n w j ≡ Stepped) × shows (onward x) (moved n w j)) →
@@ -37,11 +41,13 @@ pub choice_to_end : {S M X : Type 0} (n : Nodes S M) (all : Traffic M) → AllCa
 choice_to_end n all carry shows onward holds end back step x w runs here course =
     choice_by n all carry shows onward holds end back step (most_steps n all) x w runs here course (omega arith)
 
-rounds_by : {S M X : Type 0} (n : Nodes S M) (all : Traffic M) → AllCarry n all → (shows : X → World S M → Type 0) (onward : X → X) (holds : ℕ → X → Type 0) →
+rounds_by : {S M X : Type 0} (n : Nodes S M) (all : Traffic M) → AllCarry n all →
+    (shows : X → World S M → Type 0) (onward : X → X) (holds : ℕ → X → Type 0) →
     ((d : ℕ) (x : X) (w : World S M) → shows x w → AllEnded n w → holds d x) →
     ((d : ℕ) (x : X) → holds d (onward x) → holds (suc d) x) →
     ((x : X) (w : World S M) → shows x w → shows (onward x) (run n (firsts (λ k. k) n.count) w)) →
-    (d : ℕ) (x : X) (w : World S M) (runs : ℕ → ℕ) → shows x w → OnCourse n all w runs → most_steps n all ≤ effort n w runs + d → holds d x
+    (d : ℕ) (x : X) (w : World S M) (runs : ℕ → ℕ) → shows x w → OnCourse n all w runs →
+    most_steps n all ≤ effort n w runs + d → holds d x
 rounds_by {S} {M} n all carry shows onward holds end back step zero x w runs here course enough = elim (some_moves n all carry w runs course) [
   | inl ended ↦ end 0 x w here ended
   | inr can ↦
@@ -61,7 +67,8 @@ rounds_by {S} {M} {X} n all carry shows onward holds end back step (suc d) x w r
 ]
 
 -- a loop that moves all nodes in each turn
-pub rounds_to_end : {S M X : Type 0} (n : Nodes S M) (all : Traffic M) → AllCarry n all → (shows : X → World S M → Type 0) (onward : X → X) (holds : ℕ → X → Type 0) →
+pub rounds_to_end : {S M X : Type 0} (n : Nodes S M) (all : Traffic M) → AllCarry n all →
+    (shows : X → World S M → Type 0) (onward : X → X) (holds : ℕ → X → Type 0) →
     ((d : ℕ) (x : X) (w : World S M) → shows x w → AllEnded n w → holds d x) →
     ((d : ℕ) (x : X) → holds d (onward x) → holds (suc d) x) →
     ((x : X) (w : World S M) → shows x w → shows (onward x) (run n (firsts (λ k. k) n.count) w)) →

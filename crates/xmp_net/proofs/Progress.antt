@@ -16,20 +16,24 @@ least f (suc c) =
       | inr other ↦ (rec.0, omega (arith, rec.1), λ j lj. elim (eq-or-lt_of_le lj) [ inl e ↦ (let e' : j ≡ suc c = omega arith in rw e' other) | inr below ↦ rec.2 j (omega arith) ])
     ]
 
-pub answer_over : {S M : Type 0} (n : Nodes S M) (w : World S M) (k : ℕ) → n.over (w.state k) ≡ true → answer n w k ≡ AlreadyEnded
+pub answer_over : {S M : Type 0} (n : Nodes S M) (w : World S M) (k : ℕ) → n.over (w.state k) ≡ true →
+    answer n w k ≡ AlreadyEnded
 answer_over n w k e = rw e
 
-pub answer_run : {S M : Type 0} (n : Nodes S M) (w : World S M) (k : ℕ) → n.over (w.state k) ≡ false → n.count ≤ w.next k → answer n w k ≡ Stepped
+pub answer_run : {S M : Type 0} (n : Nodes S M) (w : World S M) (k : ℕ) → n.over (w.state k) ≡ false →
+    n.count ≤ w.next k → answer n w k ≡ Stepped
 answer_run n w k e le = rw (e, le-ltb (w.next k) n.count le)
 
-pub answer_found : {S M : Type 0} (n : Nodes S M) (w : World S M) (k : ℕ) → n.over (w.state k) ≡ false → w.next k < n.count → answer n w k ≡ found (w.queue (w.next k) k)
+pub answer_found : {S M : Type 0} (n : Nodes S M) (w : World S M) (k : ℕ) → n.over (w.state k) ≡ false →
+    w.next k < n.count → answer n w k ≡ found (w.queue (w.next k) k)
 answer_found n w k e lt = rw (e, lt-ltb (w.next k) n.count lt)
 
 pub found_ended : {M : Type 0} (items : List M) → found items ≢ AlreadyEnded
 found_ended [] e = cc
 found_ended (m ∷ rest) e = cc
 
-pub over_ended : {S M : Type 0} (n : Nodes S M) (w : World S M) (k : ℕ) → answer n w k ≡ AlreadyEnded → n.over (w.state k) ≡ true
+pub over_ended : {S M : Type 0} (n : Nodes S M) (w : World S M) (k : ℕ) → answer n w k ≡ AlreadyEnded →
+    n.over (w.state k) ≡ true
 over_ended n w k e =
     elim (cases_Bool (n.over (w.state k))) [
       | inl over ↦ over
@@ -40,7 +44,8 @@ over_ended n w k e =
     ]
 
 -- a node that is over has run once more than there are exchanges
-pub over_late : {S M : Type 0} → (n : Nodes S M) (all : Traffic M) (w : World S M) (runs : ℕ → ℕ) (k : ℕ) → Carries n all k → OnCourse n all w runs → k < n.count →
+pub over_late : {S M : Type 0} → (n : Nodes S M) (all : Traffic M) (w : World S M) (runs : ℕ → ℕ) (k : ℕ) →
+    Carries n all k → OnCourse n all w runs → k < n.count →
     n.over (w.state k) ≡ true → runs k ≡ suc all.exchanges
 over_late n all w runs k carries c lt over =
     elim (eq-or-lt_of_le (c.within k lt)) [
@@ -48,13 +53,16 @@ over_late n all w runs k carries c lt over =
       | inr less ↦ absurd (true≢false (sym over ∙ ap n.over (c.state k lt) ∙ carries.goes (runs k) (w.next k) (omega arith) (c.below k lt)))
     ]
 
-pub going_early : {S M : Type 0} → (n : Nodes S M) (all : Traffic M) (w : World S M) (runs : ℕ → ℕ) (k : ℕ) → OnCourse n all w runs → k < n.count →
+pub going_early : {S M : Type 0} → (n : Nodes S M) (all : Traffic M) (w : World S M) (runs : ℕ → ℕ) (k : ℕ) →
+    OnCourse n all w runs → k < n.count →
     n.over (w.state k) ≡ false → runs k ≤ all.exchanges
 going_early n all w runs k c lt going = elim (eq-or-lt_of_le (c.within k lt)) [ inl e ↦ absurd (true≢false (sym (c.ended k lt e).1 ∙ going)) | inr less ↦ omega arith ]
 
 -- what a node with the fewest runs awaits is there
-least_found : {S M : Type 0} → (n : Nodes S M) (all : Traffic M) (w : World S M) (runs : ℕ → ℕ) (k : ℕ) → OnCourse n all w runs → k < n.count → w.next k < n.count →
-    runs k ≤ all.exchanges → runs k ≤ runs (w.next k) → (items : List M) → w.queue (w.next k) k ≡ items → found items ≡ Stepped
+least_found : {S M : Type 0} → (n : Nodes S M) (all : Traffic M) (w : World S M) (runs : ℕ → ℕ) (k : ℕ) →
+    OnCourse n all w runs → k < n.count → w.next k < n.count →
+    runs k ≤ all.exchanges → runs k ≤ runs (w.next k) → (items : List M) → w.queue (w.next k) k ≡ items →
+    found items ≡ Stepped
 least_found n all w runs k c lt waits early fewest [] e =
     let p : ℕ = w.next k in
     let some : 0 < runs k = c.awaits k lt waits in
@@ -74,7 +82,8 @@ least_found n all w runs k c lt waits early fewest [] e =
 least_found n all w runs k c lt waits early fewest (m ∷ rest) e = refl
 
 -- While not all have ended, some node can move.
-some_node : {S M : Type 0} → (n : Nodes S M) (all : Traffic M) → AllCarry n all → (w : World S M) (runs : ℕ → ℕ) → OnCourse n all w runs → 0 < n.count →
+some_node : {S M : Type 0} → (n : Nodes S M) (all : Traffic M) → AllCarry n all → (w : World S M) (runs : ℕ → ℕ) →
+    OnCourse n all w runs → 0 < n.count →
     AllEnded n w ⊎ ((k : ℕ) × (k < n.count) × (answer n w k ≡ Stepped))
 some_node n all carry w runs c some =
     let l = least runs (n.count - 1) in
@@ -96,7 +105,8 @@ some_node n all carry w runs c some =
           )
     ]
 
-pub some_moves : {S M : Type 0} → (n : Nodes S M) (all : Traffic M) → AllCarry n all → (w : World S M) (runs : ℕ → ℕ) → OnCourse n all w runs →
+pub some_moves : {S M : Type 0} → (n : Nodes S M) (all : Traffic M) → AllCarry n all → (w : World S M) (runs : ℕ → ℕ) →
+    OnCourse n all w runs →
     AllEnded n w ⊎ ((k : ℕ) × (k < n.count) × (answer n w k ≡ Stepped))
 some_moves n all carry w runs c = elim (cases_lt 0 n.count) [
   | inl some ↦ some_node n all carry w runs c some
@@ -111,7 +121,8 @@ took_all : (ex k i : ℕ) → i ≢ k → took ex (suc ex) (peer k 0) i ≡ ex
 took_all ex k i ne = grind arith
 
 -- the end of every run that ends
-pub one_end : {S M : Type 0} → (n : Nodes S M) (all : Traffic M) → AllCarry n all → (w : World S M) (runs : ℕ → ℕ) → OnCourse n all w runs → AllEnded n w →
+pub one_end : {S M : Type 0} → (n : Nodes S M) (all : Traffic M) → AllCarry n all → (w : World S M) (runs : ℕ → ℕ) →
+    OnCourse n all w runs → AllEnded n w →
     ((k : ℕ) → k < n.count → w.state k ≡ own n all k (suc all.exchanges) 0) × ((k : ℕ) → k < n.count → w.next k ≡ peer k 0) × ((i k : ℕ) → i < n.count → k < n.count → i ≢ k → w.queue i k ≡ [])
 one_end n all carry w runs c ended = (
   (λ k lt.
@@ -134,7 +145,8 @@ one_end n all carry w runs c ended = (
 )
 
 -- a move that comes to nothing changes nothing
-found_nothing : {S M : Type 0} (n : Nodes S M) (w : World S M) (k : ℕ) (items : List M) → found items ≢ Stepped → received n w k items ≡ w
+found_nothing : {S M : Type 0} (n : Nodes S M) (w : World S M) (k : ℕ) (items : List M) → found items ≢ Stepped →
+    received n w k items ≡ w
 found_nothing n w k [] no-step = refl
 found_nothing n w k (m ∷ rest) no-step = absurd (no-step refl)
 
@@ -182,22 +194,26 @@ ran_far n w runs k lt next =
     (rw (at_same runs k (suc (runs k)) k refl, at_same w.next k (peer k 0) k refl, next) (omega (arith, mul-suc (suc n.count) (runs k))))
     (λ j ne. rw (at_other runs k (suc (runs k)) j ne, at_other w.next k (peer k 0) j ne))
 
-received_far : {S M : Type 0} → (n : Nodes S M) (w : World S M) (runs : ℕ → ℕ) (k : ℕ) (m : M) (rest : List M) → k < n.count →
+received_far : {S M : Type 0} → (n : Nodes S M) (w : World S M) (runs : ℕ → ℕ) (k : ℕ) (m : M) (rest : List M) →
+    k < n.count →
     effort n w runs < effort n (received n w k (m ∷ rest)) runs
 received_far n w runs k m rest lt =
     sum_rises (far n w runs) (far n (received n w k (m ∷ rest)) runs) k n.count lt
     (rw (at_same w.next k (peer k (suc (w.next k))) k refl) (let h : w.next k < peer k (suc (w.next k)) = grind arith in omega arith))
     (λ j ne. rw (at_other w.next k (peer k (suc (w.next k))) j ne))
 
-receive_steps : {S M : Type 0} → (n : Nodes S M) (all : Traffic M) (w : World S M) (runs : ℕ → ℕ) (k : ℕ) → OnCourse n all w runs → k < n.count → w.next k < n.count →
+receive_steps : {S M : Type 0} → (n : Nodes S M) (all : Traffic M) (w : World S M) (runs : ℕ → ℕ) (k : ℕ) →
+    OnCourse n all w runs → k < n.count → w.next k < n.count →
     n.over (w.state k) ≡ false → (items : List M) → w.queue (w.next k) k ≡ items → found items ≡ Stepped →
     OnCourse n all (received n w k items) runs × (effort n w runs < effort n (received n w k items) runs)
 receive_steps n all w runs k c lt waits going [] e f = absurd (let h : NotYet ≡ Stepped = f in (cc))
 receive_steps n all w runs k c lt waits going (m ∷ rest) e f = (receive_course n all w runs k c lt waits going (m ∷ rest) e, received_far n w runs k m rest lt)
 
 -- a step brings the nodes further
-pub stepped : {S M : Type 0} → (n : Nodes S M) (all : Traffic M) (w : World S M) (runs : ℕ → ℕ) (k : ℕ) → Carries n all k → OnCourse n all w runs → k < n.count →
-    answer n w k ≡ Stepped → (runs' : ℕ → ℕ) × OnCourse n all (moved n w k) runs' × (effort n w runs < effort n (moved n w k) runs')
+pub stepped : {S M : Type 0} → (n : Nodes S M) (all : Traffic M) (w : World S M) (runs : ℕ → ℕ) (k : ℕ) →
+    Carries n all k → OnCourse n all w runs → k < n.count →
+    answer n w k ≡ Stepped →
+    (runs' : ℕ → ℕ) × OnCourse n all (moved n w k) runs' × (effort n w runs < effort n (moved n w k) runs')
 stepped {S} {M} n all w runs k carries c lt is =
     elim (cases_Bool (n.over (w.state k))) [
       | inl over ↦ absurd (let h : AlreadyEnded ≡ Stepped = sym (answer_over n w k over) ∙ is in (cc))
@@ -211,7 +227,8 @@ stepped {S} {M} n all w runs k carries c lt is =
     ]
 
 -- and no further than that
-pub effort_most : {S M : Type 0} → (n : Nodes S M) (all : Traffic M) (w : World S M) (runs : ℕ → ℕ) → OnCourse n all w runs → effort n w runs ≤ most_steps n all
+pub effort_most : {S M : Type 0} → (n : Nodes S M) (all : Traffic M) (w : World S M) (runs : ℕ → ℕ) →
+    OnCourse n all w runs → effort n w runs ≤ most_steps n all
 effort_most n all w runs c =
     sum_bound (far n w runs) n.count (suc all.exchanges * suc n.count + n.count)
     (λ j lj. let h = mul-le-mul_right (suc n.count) (c.within j lj) in let h' = c.below j lj in omega arith)

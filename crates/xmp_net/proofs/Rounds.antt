@@ -19,8 +19,10 @@ round_back : (count k : ℕ) → count ≤ suc k → round count k ≡ 0
 round_back count k le = rw (le-ltb (suc k) count le)
 
 -- node j, which can move, stands so far behind k, counted round
-first_able_from : {S M : Type 0} (n : Nodes S M) (w : World S M) (nodes k j far : ℕ) → k < n.count → j < n.count → answer n w j ≡ Stepped → far < nodes →
-    ((k + far ≡ j) ⊎ (k + far ≡ n.count + j)) → (first_from n w nodes k < n.count) × (answer n w (first_from n w nodes k) ≡ Stepped)
+first_able_from : {S M : Type 0} (n : Nodes S M) (w : World S M) (nodes k j far : ℕ) → k < n.count → j < n.count →
+    answer n w j ≡ Stepped → far < nodes →
+    ((k + far ≡ j) ⊎ (k + far ≡ n.count + j)) →
+    (first_from n w nodes k < n.count) × (answer n w (first_from n w nodes k) ≡ Stepped)
 first_able_from n w zero k j far lk lj step near at-j = absurd (omega arith)
 first_able_from {S} {M} n w (suc nodes) k j zero lk lj step near (inl e) =
     let P : ℕ → Type 0 = λ x. answer n w x ≡ Stepped in
@@ -35,7 +37,8 @@ first_able_from {S} {M} n w (suc nodes) k j (suc far) lk lj step near at-j = eli
   ]
 ]
 
-pub firsts_pick : {S M : Type 0} (n : Nodes S M) (from onward : ℕ → ℕ) → ((x : ℕ) → from x < n.count) → PicksSteps n (first_able n from onward)
+pub firsts_pick : {S M : Type 0} (n : Nodes S M) (from onward : ℕ → ℕ) → ((x : ℕ) → from x < n.count) →
+    PicksSteps n (first_able n from onward)
 firsts_pick n from onward low x w j lj step = elim (cases_lt j (from x)) [
   | inl before ↦ first_able_from n w n.count (from x) j ((n.count - from x) + j) (low x) lj step (let h = low x in omega arith) (inr (let h = low x in omega arith))
   | inr behind ↦ first_able_from n w n.count (from x) j (j - from x) (low x) lj step (omega arith) (inl (omega arith))

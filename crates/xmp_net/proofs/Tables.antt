@@ -24,20 +24,24 @@ rows_of count none all t = firsts (row_of count none all t) count
 abbrev table_of : {M : Type 0} → ℕ → M → Traffic M → Table M
 table_of count none all = firsts (rows_of count none all) all.exchanges
 
-row_at : {M : Type 0} (count : ℕ) (none : M) (all : Traffic M) (t i : ℕ) → t < all.exchanges → i < count → get_or (get_or (table_of count none all) t []) i [] ≡ row_of count none all t i
+row_at : {M : Type 0} (count : ℕ) (none : M) (all : Traffic M) (t i : ℕ) → t < all.exchanges → i < count →
+    get_or (get_or (table_of count none all) t []) i [] ≡ row_of count none all t i
 row_at count none all t i lt li =
     ap (λ rows. get_or rows i []) (get_firsts (rows_of count none all) all.exchanges t [] lt) ∙ get_firsts (row_of count none all t) count i [] li
 
-message_at : {M : Type 0} (count : ℕ) (none : M) (all : Traffic M) (t i j : ℕ) → t < all.exchanges → i < count → j < count → (traffic_of none (table_of count none all)).message t i j ≡ message_or none all t i j
+message_at : {M : Type 0} (count : ℕ) (none : M) (all : Traffic M) (t i j : ℕ) → t < all.exchanges → i < count →
+    j < count → (traffic_of none (table_of count none all)).message t i j ≡ message_or none all t i j
 message_at count none all t i j lt li lj = ap (λ row. get_or row j none) (row_at count none all t i lt li) ∙ get_firsts (message_or none all t i) count j none lj
 
 message_itself : {M : Type 0} (none : M) (all : Traffic M) (t i : ℕ) → message_or none all t i i ≡ none
 message_itself none all t i = grind arith
 
-message_other : {M : Type 0} (none : M) (all : Traffic M) (t i j : ℕ) → i ≢ j → message_or none all t i j ≡ all.message t i j
+message_other : {M : Type 0} (none : M) (all : Traffic M) (t i j : ℕ) → i ≢ j →
+    message_or none all t i j ≡ all.message t i j
 message_other none all t i j ne = grind arith
 
-table_same : {S M : Type 0} (n : Nodes S M) (none : M) (all : Traffic M) → IsSameTraffic n all (traffic_of none (table_of n.count none all))
+table_same : {S M : Type 0} (n : Nodes S M) (none : M) (all : Traffic M) →
+    IsSameTraffic n all (traffic_of none (table_of n.count none all))
 table_same n none all = record {
   exchanges = sym (length_firsts (rows_of n.count none all) all.exchanges);
   message = λ t i j lt li lj ne. sym (message_at n.count none all t i j lt li lj ∙ message_other none all t i j ne);

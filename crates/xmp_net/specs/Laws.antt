@@ -1,7 +1,7 @@
 -- What holds of nodes that carry a traffic, in every order of their moves.
-use Rattle.std.specs.Prelude.{◌≡◌, ◌≢◌, ℕ, ◌<◌, ◌≤◌, List, [], length, ◌⊎◌}
+use Rattle.std.specs.Prelude.{◌≡◌, ◌≢◌, ℕ, suc, ◌<◌, ◌≤◌, List, [], length, ◌⊎◌}
 use Rattle.xmp_net.specs.Nodes.{Nodes, Stepped, start, answer, run}
-use Rattle.xmp_net.specs.Traffic.{Traffic, AllCarry, OnCourse, AllEnded, AreNodes, IsSameWorld, IsSameTraffic}
+use Rattle.xmp_net.specs.Traffic.{Traffic, own, AllCarry, OnCourse, AllEnded, AreNodes, IsSameWorld, IsSameTraffic}
 use Rattle.xmp_net.specs.Orders.{rounds, AllStep, most_steps, Choice, PicksSteps, picked, first_able}
 use Rattle.xmp_net.specs.Tables.{Carried}
 
@@ -11,7 +11,9 @@ StaysOnCourse n all = (ks : List ℕ) → AreNodes n ks → (runs : ℕ → ℕ)
 
 -- in every order, all have ended or some node can move
 abbrev pub SomeCanMove : {S M : Type 0} → Nodes S M → Type 0
-SomeCanMove n = (ks : List ℕ) → AreNodes n ks → AllEnded n (run n ks (start n)) ⊎ ((k : ℕ) × (k < n.count) × (answer n (run n ks (start n)) k ≡ Stepped))
+SomeCanMove n =
+    (ks : List ℕ) → AreNodes n ks →
+    AllEnded n (run n ks (start n)) ⊎ ((k : ℕ) × (k < n.count) × (answer n (run n ks (start n)) k ≡ Stepped))
 
 -- no run makes more steps than that
 abbrev pub FewSteps : {S M : Type 0} → Nodes S M → Traffic M → Type 0
@@ -19,12 +21,21 @@ FewSteps n all = (ks : List ℕ) → AreNodes n ks → AllStep n ks (start n) �
 
 -- two runs in which all end come to one world
 abbrev pub OneEnd : {S M : Type 0} → Nodes S M → Type 0
-OneEnd n = (ks ls : List ℕ) → AreNodes n ks → AreNodes n ls → AllEnded n (run n ks (start n)) → AllEnded n (run n ls (start n)) →
+OneEnd n =
+    (ks ls : List ℕ) → AreNodes n ks → AreNodes n ls → AllEnded n (run n ks (start n)) → AllEnded n (run n ls (start n)) →
     IsSameWorld n (run n ks (start n)) (run n ls (start n))
 
--- there no queue between two nodes holds a message
+-- there each node stands at the end of its own list
+abbrev pub EndsOwn : {S M : Type 0} → Nodes S M → Traffic M → Type 0
+EndsOwn n all =
+    (ks : List ℕ) → AreNodes n ks → AllEnded n (run n ks (start n)) → (k : ℕ) → k < n.count →
+    (run n ks (start n)).state k ≡ own n all k (suc all.exchanges) 0
+
+-- and no queue between two nodes holds a message
 abbrev pub EndsEmpty : {S M : Type 0} → Nodes S M → Type 0
-EndsEmpty n = (ks : List ℕ) → AreNodes n ks → AllEnded n (run n ks (start n)) → (i k : ℕ) → i < n.count → k < n.count → i ≢ k → (run n ks (start n)).queue i k ≡ []
+EndsEmpty n =
+    (ks : List ℕ) → AreNodes n ks → AllEnded n (run n ks (start n)) → (i k : ℕ) → i < n.count → k < n.count → i ≢ k →
+    (run n ks (start n)).queue i k ≡ []
 
 -- lockstep comes to the end of all
 abbrev pub LockstepEnds : {S M : Type 0} → Nodes S M → Traffic M → Type 0

@@ -1,4 +1,5 @@
--- Nodes that exchange messages (this project, after the message passing of XcalableMP 1.4): the world that they stand in, and its moves.
+-- Nodes that exchange messages (this project, after the message passing of XcalableMP 1.4): the world that they stand
+-- in, and its moves.
 use Rattle.std.specs.Prelude.{ℕ, suc, Bool, not, ◌&&◌, ◌==◌, nat_lt, if◌then◌else◌, List, [], ◌∷◌, ◌++◌}
 
 -- Programs of some nodes. Each runs from stop to stop: a stop is an exchange or the end.

@@ -24,7 +24,9 @@ pub record Choice (S M : Type 0) : Type 0 where
 
 -- it picks a node that can move while one can
 abbrev pub PicksSteps : {S M : Type 0} → Nodes S M → Choice S M → Type 0
-PicksSteps {S} {M} n c = (x : ℕ) (w : World S M) (k : ℕ) → k < n.count → answer n w k ≡ Stepped → (c.pick x w < n.count) × (answer n w (c.pick x w) ≡ Stepped)
+PicksSteps {S} {M} n c =
+    (x : ℕ) (w : World S M) (k : ℕ) → k < n.count → answer n w k ≡ Stepped →
+    (c.pick x w < n.count) × (answer n w (c.pick x w) ≡ Stepped)
 
 -- the nodes of d moves by a choice, from number x
 abbrev pub picked : {S M : Type 0} → Nodes S M → Choice S M → ℕ → ℕ → World S M → List ℕ

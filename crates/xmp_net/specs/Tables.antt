@@ -1,4 +1,5 @@
--- Traffics as tables (this project): lists, which code can't have but ghost values can, and one alone for nodes that carry it.
+-- Traffics as tables (this project): lists, which code can't have but ghost values can, and one alone for nodes that
+-- carry it.
 use Rattle.std.specs.Prelude.{◌≡◌, ℕ, ◌<◌, List, [], length, get_or}
 use Rattle.xmp_net.specs.Nodes.{Nodes}
 use Rattle.xmp_net.specs.Traffic.{Traffic, AllCarry}
@@ -9,7 +10,10 @@ Table M = List (List (List M))
 
 -- the traffic of a table
 abbrev pub traffic_of : {M : Type 0} → M → Table M → Traffic M
-traffic_of none table = record { exchanges = length table; message = λ t i j. get_or (get_or (get_or table t []) i []) j none }
+traffic_of none table = record {
+  exchanges = length table;
+  message = λ t i j. get_or (get_or (get_or table t []) i []) j none;
+}
 
 -- Each exchange has a row for each node, and each row a message for each node, where the one to itself is `none`.
 pub record IsTable {S M : Type 0} (n : Nodes S M) (none : M) (table : Table M) : Type 0 where

@@ -12,7 +12,8 @@ abbrev pub fed : {S M : Type 0} → Nodes S M → Traffic M → ℕ → ℕ → 
 fed n all k t zero s = s
 fed n all k t (suc i) s = if i == k then fed n all k t i s else n.into (fed n all k t i s) i (all.message t i k)
 
--- Node k's own list of states, fed with the traffic: after so many runs, with the messages of its peers below i taken in at the last stop.
+-- Node k's own list of states, fed with the traffic: after so many runs, with the messages of its peers below i taken
+-- in at the last stop.
 abbrev pub own : {S M : Type 0} → Nodes S M → Traffic M → ℕ → ℕ → ℕ → S
 own n all k zero i = n.begin k
 own n all k (suc t) i = fed n all k t i (n.go (own n all k t n.count))
@@ -40,8 +41,8 @@ took exchanges runs next i = min exchanges (if nat_lt i next then runs else runs
 abbrev pub sent : ℕ → ℕ → ℕ
 sent exchanges runs = min exchanges runs
 
--- Each node stands on its own list of states, after `runs k` runs. From each node to each other, the messages taken and then those on the queue are a
--- front of the traffic.
+-- Each node stands on its own list of states, after `runs k` runs. From each node to each other, the messages taken and
+-- then those on the queue are a front of the traffic.
 pub record OnCourse {S M : Type 0} (n : Nodes S M) (all : Traffic M) (w : World S M) (runs : ℕ → ℕ) : Type 0 where
   pub within : (k : ℕ) → k < n.count → runs k ≤ suc all.exchanges
   pub below : (k : ℕ) → k < n.count → w.next k ≤ n.count
@@ -50,7 +51,8 @@ pub record OnCourse {S M : Type 0} (n : Nodes S M) (all : Traffic M) (w : World 
   pub ended : (k : ℕ) → k < n.count → runs k ≡ suc all.exchanges → (w.next k ≡ peer k 0) × (n.over (w.state k) ≡ true)
   pub state : (k : ℕ) → k < n.count → w.state k ≡ own n all k (runs k) (w.next k)
   pub queue : (i k : ℕ) → i < n.count → k < n.count → i ≢ k →
-      firsts (λ t. all.message t i k) (took all.exchanges (runs k) (w.next k) i) ++ w.queue i k ≡ firsts (λ t. all.message t i k) (sent all.exchanges (runs i))
+      firsts (λ t. all.message t i k) (took all.exchanges (runs k) (w.next k) i) ++ w.queue i k
+      ≡ firsts (λ t. all.message t i k) (sent all.exchanges (runs i))
 
 -- no node has a move left
 abbrev pub AllEnded : {S M : Type 0} → Nodes S M → World S M → Type 0
@@ -69,4 +71,5 @@ pub record IsSameWorld {S M : Type 0} (n : Nodes S M) (w v : World S M) : Type 0
 -- two traffics have equally many exchanges, and the same messages between two nodes
 pub record IsSameTraffic {S M : Type 0} (n : Nodes S M) (all other : Traffic M) : Type 0 where
   pub exchanges : all.exchanges ≡ other.exchanges
-  pub message : (t i j : ℕ) → t < all.exchanges → i < n.count → j < n.count → i ≢ j → all.message t i j ≡ other.message t i j
+  pub message : (t i j : ℕ) → t < all.exchanges → i < n.count → j < n.count → i ≢ j →
+      all.message t i j ≡ other.message t i j

@@ -9,3 +9,5 @@ pub mod Progress
 pub mod Plays
 pub mod Walkers
 pub mod RoundRobin
+pub mod Rounds
+pub mod Loops

@@ -1,18 +1,19 @@
 -- While not all images have ended some image can move, and where all have, they stand in one way.
-use Rattle.std.proofs.Common.{◌≡◌, ◌≢◌, ℕ, zero, suc, ◌+◌, ◌-◌, ◌<◌, ◌≤◌, Bool, true, false, ◌||◌, ◌==◌, nat_lt, if◌then◌else◌, List, [], ◌∷◌, length, slice_get, Option, Some, None, refl, sym, ap, ◌∙◌, subst, arith, true≢false, eq-or-lt_of_le, le_refl, ◌⊎◌, inl, inr}
-use Rattle.std.proofs.lemmas.Bool.{cases_eq, cases_lt, cases_Bool, lt-ltb, le-ltb}
+use Rattle.std.proofs.Common.{◌≡◌, ◌≢◌, ℕ, zero, suc, ◌-◌, ◌<◌, ◌≤◌, Bool, true, false, ◌||◌, nat_lt, List, [], ◌∷◌, length, slice_get, Option, Some, None, refl, sym, ap, ◌∙◌, subst, arith, true≢false, eq-or-lt_of_le, le_refl, ◌⊎◌, inl, inr}
+use Rattle.std.proofs.lemmas.Bool.{cases_lt, cases_Bool, lt-ltb, le-ltb}
 use Rattle.xmp_script.specs.Script.{Access, Get, Script, seen, words_at}
-use Rattle.xmp_script.specs.World.{World, start, MayAccess, arrivals, Reached, Begun}
-use Rattle.xmp_script.specs.Images.{Images, Standing, Stand, AtAccess, AtSync, AtEnd, Moved, Stepped, NotYet, AlreadyEnded, begun, found, moved, answer, run}
+use Rattle.xmp_script.specs.World.{World, start, MayAccess, arrivals, Reached}
+use Rattle.xmp_script.specs.Images.{Images, Standing, AtAccess, AtSync, AtEnd, Moved, Stepped, NotYet, AlreadyEnded, begun, found, moved, answer, run}
 use Rattle.xmp_script.specs.Carries.{own, AllCarry, AllEnded, AreImages, StandsAs}
-use Rattle.xmp_script.specs.Orders.{sum_below, moves_below, most_steps}
+use Rattle.xmp_script.specs.Orders.{moves_below, most_steps}
 use Rattle.xmp_script.proofs.Orders.{gets_see, done_words}
-use Rattle.xmp_script.proofs.Course.{Stands, Course, puts, took, puts_in, puts_out, took_out, took_not, runs, waits, at_stop}
-use Rattle.xmp_script.proofs.Moves.{Onward, far_of, effort, sum_most, get_none, stand_is, answer_ended, answer_runs, answer_waits, stepped, stays}
+use Rattle.xmp_script.proofs.Course.{Stands, Course, puts, puts_in, puts_out, took_out, took_not, runs, waits, at_stop}
+use Rattle.xmp_script.proofs.Moves.{far_of, effort, sum_most, get_none, stand_is, answer_ended, answer_runs, answer_waits, stepped, stays}
 
 -- ---- the beginning
 
-pub begun_course : {S V : Type 0} (im : Images S V) (s : Script V) → AllCarry im s → Course im s (begun im s.images s.start) (start s)
+pub begun_course : {S V : Type 0} (im : Images S V) (s : Script V) → AllCarry im s →
+    Course im s (begun im s.images s.start) (start s)
 begun_course im s carry = record {
   words = λ e. refl;
   each = λ k lk. record {
@@ -36,7 +37,8 @@ is_step Stepped = inl refl
 is_step NotYet = inr (λ e. cc)
 is_step AlreadyEnded = inr (λ e. cc)
 
-pub run_course : {S V : Type 0} (im : Images S V) (s : Script V) → AllCarry im s → (ks : List ℕ) → AreImages s.images ks → (v : Standing S V) (w : World V) → Reached s w → Course im s v w →
+pub run_course : {S V : Type 0} (im : Images S V) (s : Script V) → AllCarry im s → (ks : List ℕ) →
+    AreImages s.images ks → (v : Standing S V) (w : World V) → Reached s w → Course im s v w →
     (z : World V) × Reached s z × Course im s (run im s.images ks v) z
 run_course im s carry [] ok v w r c = (w, r, c)
 run_course {S} {V} im s carry (k ∷ ks) ok v w r c =
@@ -61,7 +63,9 @@ one_of true b e = inl refl
 one_of false true e = inr refl
 one_of false false e = absurd (true≢false e)
 
-running : {S V : Type 0} {im : Images S V} {s : Script V} {k : ℕ} {x : S} {next : ℕ} {ended : Bool} {phase place : ℕ} {arrived : Bool} → Stands im s k x next ended phase place arrived →
+running :
+    {S V : Type 0} {im : Images S V} {s : Script V} {k : ℕ} {x : S} {next : ℕ} {ended : Bool} {phase place : ℕ} {arrived : Bool} →
+    Stands im s k x next ended phase place arrived →
     arrived ≡ false → (ended ≡ false) × (s.images ≤ next)
 running {s} {next} {ended} f e =
     let both = neither ended (nat_lt next s.images) (sym e ∙ f.is) in
@@ -77,8 +81,10 @@ end_none : {V : Type 0} (a : Access V) → AtEnd ≡ AtAccess a → ⊥
 end_none a e = cc
 
 -- an image that stands at a get is about to find what it sees
-gets_find : {S V : Type 0} (im : Images S V) (s : Script V) → AllCarry im s → (v : Standing S V) (w : World V) → Reached s w → Course im s v w → (k e : ℕ) → k < s.images →
-    w.arrived k ≡ false → im.stands (im.go (v.state k)) ≡ AtAccess (Get e) → (o : Option (Access V)) → slice_get (s.accesses (w.phase k) k) (w.place k) ≡ o →
+gets_find : {S V : Type 0} (im : Images S V) (s : Script V) → AllCarry im s → (v : Standing S V) (w : World V) →
+    Reached s w → Course im s v w → (k e : ℕ) → k < s.images →
+    w.arrived k ≡ false → im.stands (im.go (v.state k)) ≡ AtAccess (Get e) → (o : Option (Access V)) →
+    slice_get (s.accesses (w.phase k) k) (w.place k) ≡ o →
     v.words e ≡ seen s k (w.phase k) (w.place k) e
 gets_find {S} {V} im s carry v w r c k e lk here stands (Some a) at-place =
     let f = c.each k lk in
@@ -98,7 +104,8 @@ gets_find {S} {V} im s carry v w r c k e lk here stands None at-place =
       | inr least ↦ absurd (end_none (Get e) (sym (st ∙ (carry.each k lk).ends (w.phase k) (omega (arith, f.low))) ∙ stands))
     ]
 
-pub stands_as : {S V : Type 0} (im : Images S V) (s : Script V) → AllCarry im s → (v : Standing S V) (w : World V) → Reached s w → Course im s v w → StandsAs im s v w
+pub stands_as : {S V : Type 0} (im : Images S V) (s : Script V) → AllCarry im s → (v : Standing S V) (w : World V) →
+    Reached s w → Course im s v w → StandsAs im s v w
 stands_as im s carry v w r c = record {
   words = c.words;
   state = λ k lk. (c.each k lk).state;
@@ -117,14 +124,22 @@ least f zero = (0, omega arith, λ j lj. let e : j ≡ 0 = omega arith in rw e (
 least f (suc c) =
     let rec = least f c in
     elim (cases_lt (f (suc c)) (f rec.0)) [
-      | inl less ↦ (suc c, omega arith, λ j lj. elim (eq-or-lt_of_le lj) [
-        | inl e ↦ (let e' : j ≡ suc c = omega arith in rw e' (le_refl (f (suc c))))
-        | inr below ↦ (let h = rec.2 j (omega arith) in omega arith)
-      ])
-      | inr other ↦ (rec.0, omega (arith, rec.1), λ j lj. elim (eq-or-lt_of_le lj) [
-        | inl e ↦ (let e' : j ≡ suc c = omega arith in rw e' other)
-        | inr below ↦ rec.2 j (omega arith)
-      ])
+      | inl less ↦ (
+        suc c,
+        omega arith,
+        λ j lj. elim (eq-or-lt_of_le lj) [
+          | inl e ↦ (let e' : j ≡ suc c = omega arith in rw e' (le_refl (f (suc c))))
+          | inr below ↦ (let h = rec.2 j (omega arith) in omega arith)
+        ],
+      )
+      | inr other ↦ (
+        rec.0,
+        omega (arith, rec.1),
+        λ j lj. elim (eq-or-lt_of_le lj) [
+          | inl e ↦ (let e' : j ≡ suc c = omega arith in rw e' other)
+          | inr below ↦ rec.2 j (omega arith)
+        ],
+      )
     ]
 
 arrivals_yes : {V : Type 0} (w : World V) (k : ℕ) → w.arrived k ≡ true → arrivals w k ≡ suc (w.phase k)
@@ -133,12 +148,15 @@ arrivals_yes w k e = rw e
 arrivals_not : {V : Type 0} (w : World V) (k : ℕ) → w.arrived k ≡ false → arrivals w k ≡ w.phase k
 arrivals_not w k e = rw e
 
-over_arrived : {S V : Type 0} {im : Images S V} {s : Script V} {k : ℕ} {x : S} {next : ℕ} {ended : Bool} {phase place : ℕ} {arrived : Bool} → Stands im s k x next ended phase place arrived →
+over_arrived :
+    {S V : Type 0} {im : Images S V} {s : Script V} {k : ℕ} {x : S} {next : ℕ} {ended : Bool} {phase place : ℕ} {arrived : Bool} →
+    Stands im s k x next ended phase place arrived →
     ended ≡ true → arrived ≡ true
 over_arrived f e = f.is ∙ rw e refl
 
 -- an image that has arrived as often as there are phases has ended
-most_over : {S V : Type 0} (im : Images S V) (s : Script V) (v : Standing S V) (w : World V) → Course im s v w → (j : ℕ) → j < s.images → s.phases ≤ arrivals w j → v.ended j ≡ true
+most_over : {S V : Type 0} (im : Images S V) (s : Script V) (v : Standing S V) (w : World V) → Course im s v w →
+    (j : ℕ) → j < s.images → s.phases ≤ arrivals w j → v.ended j ≡ true
 most_over im s v w c j lj most =
     let f = c.each j lj in
     elim (cases_Bool (w.arrived j)) [
@@ -153,7 +171,8 @@ most_over im s v w c j lj most =
     ]
 
 -- an image has put as many messages as it has arrived, but for its end
-puts_enough : {S V : Type 0} (im : Images S V) (s : Script V) (v : Standing S V) (w : World V) → Course im s v w → (p n : ℕ) → p < s.images → n ≤ arrivals w p → n < s.phases → n ≤ puts s.images (w.phase p) (v.next p)
+puts_enough : {S V : Type 0} (im : Images S V) (s : Script V) (v : Standing S V) (w : World V) → Course im s v w →
+    (p n : ℕ) → p < s.images → n ≤ arrivals w p → n < s.phases → n ≤ puts s.images (w.phase p) (v.next p)
 puts_enough im s v w c p n lp le less =
     let f = c.each p lp in
     elim (cases_lt (v.next p) s.images) [
@@ -171,7 +190,8 @@ found_some zero lt = absurd (omega arith)
 found_some (suc rest) lt = refl
 
 -- what an image awaits that has arrived least is there
-least_found : {S V : Type 0} (im : Images S V) (s : Script V) (v : Standing S V) (w : World V) → Course im s v w → (k : ℕ) → k < s.images → v.next k < s.images →
+least_found : {S V : Type 0} (im : Images S V) (s : Script V) (v : Standing S V) (w : World V) → Course im s v w →
+    (k : ℕ) → k < s.images → v.next k < s.images →
     ((j : ℕ) → j < s.images → arrivals w k ≤ arrivals w j) → 0 < v.queue (v.next k) k
 least_found im s v w c k lk waiting fewest =
     let p = v.next k in
@@ -183,7 +203,8 @@ least_found im s v w c k lk waiting fewest =
     omega (arith, was, before, enough)
 
 -- While not all have ended, some image can move.
-pub some_moves : {S V : Type 0} (im : Images S V) (s : Script V) → AllCarry im s → (v : Standing S V) (w : World V) → Course im s v w →
+pub some_moves : {S V : Type 0} (im : Images S V) (s : Script V) → AllCarry im s → (v : Standing S V) (w : World V) →
+    Course im s v w →
     AllEnded s.images v ⊎ ((k : ℕ) × (k < s.images) × (answer s.images v k ≡ Stepped))
 some_moves im s carry v w c =
     let some = carry.images in
@@ -197,10 +218,14 @@ some_moves im s carry v w c =
           let a = arrivals_yes w k (over_arrived f over) in
           let end = (f.last over).0 in
           inl (λ j lj. answer_ended s.images v j (most_over im s v w c j lj (let h = fewest j lj in omega arith)))
-      | inr going ↦ inr (k, lk, elim (cases_lt (v.next k) s.images) [
-        | inl waiting ↦ answer_waits s.images v k going waiting ∙ found_some (v.queue (v.next k) k) (least_found im s v w c k lk waiting fewest)
-        | inr free ↦ answer_runs s.images v k going free
-      ])
+      | inr going ↦ inr (
+        k,
+        lk,
+        elim (cases_lt (v.next k) s.images) [
+          | inl waiting ↦ answer_waits s.images v k going waiting ∙ found_some (v.queue (v.next k) k) (least_found im s v w c k lk waiting fewest)
+          | inr free ↦ answer_runs s.images v k going free
+        ],
+      )
     ]
 
 -- ---- the bound
@@ -212,7 +237,8 @@ moves_more s k q (suc r) le = elim (eq-or-lt_of_le le) [
   | inr less ↦ (let h = moves_more s k q r (omega arith) in omega arith)
 ]
 
-far_most : {S V : Type 0} (im : Images S V) (s : Script V) (v : Standing S V) (w : World V) → Course im s v w → (k : ℕ) → k < s.images → far_of s v w k ≤ moves_below s k s.phases
+far_most : {S V : Type 0} (im : Images S V) (s : Script V) (v : Standing S V) (w : World V) → Course im s v w →
+    (k : ℕ) → k < s.images → far_of s v w k ≤ moves_below s k s.phases
 far_most im s v w c k lk =
     let f = c.each k lk in
     let within = f.within in
@@ -222,7 +248,8 @@ far_most im s v w c k lk =
       | inr free ↦ rw (le-ltb (v.next k) s.images free) (elim (cases_Bool (v.ended k)) [ inl over ↦ rw over (omega arith) | inr going ↦ rw going (omega arith) ])
     ]
 
-pub effort_most : {S V : Type 0} (im : Images S V) (s : Script V) (v : Standing S V) (w : World V) → Course im s v w → effort s v w ≤ most_steps s
+pub effort_most : {S V : Type 0} (im : Images S V) (s : Script V) (v : Standing S V) (w : World V) → Course im s v w →
+    effort s v w ≤ most_steps s
 effort_most im s v w c = sum_most (far_of s v w) (λ k. moves_below s k s.phases) s.images (λ k lk. far_most im s v w c k lk)
 
 -- ---- the end
@@ -231,7 +258,8 @@ found_ended : (items : ℕ) → found items ≢ AlreadyEnded
 found_ended zero e = cc
 found_ended (suc rest) e = cc
 
-pub ended_over : {S V : Type 0} (images : ℕ) (v : Standing S V) (k : ℕ) → answer images v k ≡ AlreadyEnded → v.ended k ≡ true
+pub ended_over : {S V : Type 0} (images : ℕ) (v : Standing S V) (k : ℕ) → answer images v k ≡ AlreadyEnded →
+    v.ended k ≡ true
 ended_over images v k e = elim (cases_Bool (v.ended k)) [
   | inl over ↦ over
   | inr going ↦ elim (cases_lt (v.next k) images) [
@@ -240,14 +268,17 @@ ended_over images v k e = elim (cases_Bool (v.ended k)) [
   ]
 ]
 
--- where all have ended, the words are the script's final ones, each image stands at the end of its own list, and nothing lies between two
+-- where all have ended, the words are the script's final ones, each image stands at the end of its own list, and
+-- nothing lies between two
 pub record AtTheEnd {S V : Type 0} (im : Images S V) (s : Script V) (v : Standing S V) : Type 0 where
   pub words : (e : ℕ) → v.words e ≡ words_at s s.phases e
-  pub state : (k : ℕ) → k < s.images → v.state k ≡ im.go (own im s k (s.phases - 1) (length (s.accesses (s.phases - 1) k)))
+  pub state : (k : ℕ) → k < s.images →
+      v.state k ≡ im.go (own im s k (s.phases - 1) (length (s.accesses (s.phases - 1) k)))
   pub next : (k : ℕ) → k < s.images → v.next k ≡ s.images
   pub queue : (i k : ℕ) → i < s.images → k < s.images → i ≢ k → v.queue i k ≡ 0
 
-pub at_the_end : {S V : Type 0} (im : Images S V) (s : Script V) → AllCarry im s → (v : Standing S V) (w : World V) → Reached s w → Course im s v w → AllEnded s.images v → AtTheEnd im s v
+pub at_the_end : {S V : Type 0} (im : Images S V) (s : Script V) → AllCarry im s → (v : Standing S V) (w : World V) →
+    Reached s w → Course im s v w → AllEnded s.images v → AtTheEnd im s v
 at_the_end im s carry v w r c all =
     let over : (k : ℕ) → k < s.images → v.ended k ≡ true = λ k lk. ended_over s.images v k (all k lk) in
     let end : (k : ℕ) → k < s.images → suc (w.phase k) ≡ s.phases = λ k lk. ((c.each k lk).last (over k lk)).0 in

@@ -1,8 +1,8 @@
 -- The script of the example is free of conflicts, and its images carry it.
-use Rattle.std.proofs.Common.{◌≡◌, ◌≢◌, ℕ, zero, suc, ◌<◌, ◌≤◌, ◌==◌, if◌then◌else◌, List, [], ◌∷◌, length, slice_get, Some, None, refl, sym, ap, ◌∙◌, subst, arith}
-use Rattle.xmp_script.specs.Script.{Access, Get, Put, IsPutTo, IsTo, IsFree, Touches, Puts}
-use Rattle.xmp_script.specs.Images.{Stand, AtAccess, AtSync, AtEnd, AlreadyEnded, answer}
-use Rattle.xmp_script.specs.Carries.{own, AllCarry, AllEnded}
+use Rattle.std.proofs.Common.{◌≡◌, ℕ, zero, suc, ◌<◌, [], ◌∷◌, length, slice_get, Some, None, refl, sym, ap, ◌∙◌, subst, arith}
+use Rattle.xmp_script.specs.Script.{Access, Get, Put, IsPutTo, IsTo, IsFree}
+use Rattle.xmp_script.specs.Images.{AtAccess, AtSync, AtEnd, AlreadyEnded, answer}
+use Rattle.xmp_script.specs.Carries.{own, AllCarry}
 use Rattle.xmp_script.specs.Orders.{rounds}
 use Rattle.xmp_script.specs.Laws.{played}
 use Rattle.xmp_script.specs.Examples.{neighbour, handed, round_robin, keepers}
@@ -26,18 +26,21 @@ is_free zero k j e lq lk lj ne t p =
 is_free (suc zero) k j e lq lk lj ne t p = (let Q : Access ℕ → Type 0 = λ a. IsPutTo e a in subst Q (sym (one_access (Get j) p.1 p.0 p.2)) p.3)
 is_free (suc (suc q)) k j e lq lk lj ne t p = absurd (omega arith)
 
-keeps : (k q i : ℕ) (a : Access ℕ) → q < 2 → slice_get (handed q k) i ≡ Some a → keepers.stands (keepers.go (own keepers round_robin k q i)) ≡ AtAccess a
+keeps : (k q i : ℕ) (a : Access ℕ) → q < 2 → slice_get (handed q k) i ≡ Some a →
+    keepers.stands (keepers.go (own keepers round_robin k q i)) ≡ AtAccess a
 keeps k zero zero a lq at-i = ap (λ b. AtAccess b) (some_inj at-i)
 keeps k zero (suc i) a lq at-i = absurd (let h : None ≡ Some a = at-i in (cc))
 keeps k (suc zero) zero a lq at-i = ap (λ b. AtAccess b) (some_inj at-i)
 keeps k (suc zero) (suc i) a lq at-i = absurd (let h : None ≡ Some a = at-i in (cc))
 keeps k (suc (suc q)) i a lq at-i = absurd (omega arith)
 
-keeper_syncs : (k q : ℕ) → suc q < 2 → keepers.stands (keepers.go (own keepers round_robin k q (length (handed q k)))) ≡ AtSync
+keeper_syncs : (k q : ℕ) → suc q < 2 →
+    keepers.stands (keepers.go (own keepers round_robin k q (length (handed q k)))) ≡ AtSync
 keeper_syncs k zero lq = refl
 keeper_syncs k (suc q) lq = absurd (omega arith)
 
-keeper_ends : (k q : ℕ) → suc q ≡ 2 → keepers.stands (keepers.go (own keepers round_robin k q (length (handed q k)))) ≡ AtEnd
+keeper_ends : (k q : ℕ) → suc q ≡ 2 →
+    keepers.stands (keepers.go (own keepers round_robin k q (length (handed q k)))) ≡ AtEnd
 keeper_ends k zero e = absurd (omega arith)
 keeper_ends k (suc zero) e = refl
 keeper_ends k (suc (suc q)) e = absurd (omega arith)

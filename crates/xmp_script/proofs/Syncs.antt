@@ -1,41 +1,49 @@
 -- Syncs and ends of images that carry a script are steps of the script.
-use Rattle.std.proofs.Common.{◌≡◌, ◌≢◌, ℕ, zero, suc, ◌+◌, ◌<◌, ◌≤◌, Bool, true, false, not, ◌&&◌, ◌||◌, ◌==◌, nat_lt, if◌then◌else◌, length, refl, sym, ap, ◌∙◌, subst, arith, true≢false, ◌⊎◌, inl, inr}
-use Rattle.std.proofs.lemmas.Bool.{cases_eq, cases_lt, cases_Bool, lt-ltb, le-ltb}
+use Rattle.std.proofs.Common.{◌≡◌, ◌≢◌, ℕ, suc, ◌+◌, ◌<◌, ◌≤◌, true, false, length, refl, sym, ap, ◌∙◌, subst, arith, true≢false, inl, inr}
+use Rattle.std.proofs.lemmas.Bool.{cases_eq, lt-ltb, le-ltb}
 use Rattle.xmp_script.specs.Script.{Script, at}
 use Rattle.xmp_script.specs.World.{World, MayArrive, MayPass, arrivals, has_arrived, passed, Arrives, Passes, Reached, Then}
 use Rattle.xmp_script.specs.Images.{Images, Standing, AtSync, AtEnd, peer, settled, does, takes}
 use Rattle.xmp_script.specs.Carries.{own}
 use Rattle.xmp_script.proofs.Words.{at_same, at_other}
-use Rattle.xmp_script.proofs.Course.{Stands, Course, SameRow, row_update, peer_other, peer_below, puts, took, puts_in, puts_out, took_out, took_not, took_it, runs, at_own, waits, at_stop}
+use Rattle.xmp_script.proofs.Course.{Course, row_update, peer_other, peer_below, puts, took, puts_in, puts_out, took_out, took_not, runs, at_own}
 
-pub settled_in : {S V : Type 0} (im : Images S V) (images next : ℕ) (x : S) → next < images → settled im images next x ≡ x
+pub settled_in : {S V : Type 0} (im : Images S V) (images next : ℕ) (x : S) → next < images →
+    settled im images next x ≡ x
 settled_in im images next x lt = rw (lt-ltb next images lt)
 
-pub settled_out : {S V : Type 0} (im : Images S V) (images next : ℕ) (x : S) → images ≤ next → settled im images next x ≡ im.pass x
+pub settled_out : {S V : Type 0} (im : Images S V) (images next : ℕ) (x : S) → images ≤ next →
+    settled im images next x ≡ im.pass x
 settled_out im images next x le = rw (le-ltb next images le)
 
 -- ---- the queues
 
-sync_queue_other : {S V : Type 0} (im : Images S V) (images : ℕ) (v : Standing S V) (k i j : ℕ) (x : S) → i ≢ k → (does im images v k x AtSync).queue i j ≡ v.queue i j
+sync_queue_other : {S V : Type 0} (im : Images S V) (images : ℕ) (v : Standing S V) (k i j : ℕ) (x : S) → i ≢ k →
+    (does im images v k x AtSync).queue i j ≡ v.queue i j
 sync_queue_other im images v k i j x ne = grind arith
 
-sync_queue_put : {S V : Type 0} (im : Images S V) (images : ℕ) (v : Standing S V) (k j : ℕ) (x : S) → j ≢ k → (does im images v k x AtSync).queue k j ≡ suc (v.queue k j)
+sync_queue_put : {S V : Type 0} (im : Images S V) (images : ℕ) (v : Standing S V) (k j : ℕ) (x : S) → j ≢ k →
+    (does im images v k x AtSync).queue k j ≡ suc (v.queue k j)
 sync_queue_put im images v k j x ne = grind arith
 
-pub take_queue_other : {S V : Type 0} (im : Images S V) (images : ℕ) (v : Standing S V) (k rest i j : ℕ) → j ≢ k → (takes im images v k (suc rest)).queue i j ≡ v.queue i j
+pub take_queue_other : {S V : Type 0} (im : Images S V) (images : ℕ) (v : Standing S V) (k rest i j : ℕ) → j ≢ k →
+    (takes im images v k (suc rest)).queue i j ≡ v.queue i j
 take_queue_other im images v k rest i j ne = grind arith
 
-pub take_queue_another : {S V : Type 0} (im : Images S V) (images : ℕ) (v : Standing S V) (k rest i : ℕ) → i ≢ v.next k → (takes im images v k (suc rest)).queue i k ≡ v.queue i k
+pub take_queue_another : {S V : Type 0} (im : Images S V) (images : ℕ) (v : Standing S V) (k rest i : ℕ) →
+    i ≢ v.next k → (takes im images v k (suc rest)).queue i k ≡ v.queue i k
 take_queue_another im images v k rest i ne = grind arith
 
-pub take_queue_it : {S V : Type 0} (im : Images S V) (images : ℕ) (v : Standing S V) (k rest i : ℕ) → i ≡ v.next k → (takes im images v k (suc rest)).queue i k ≡ rest
+pub take_queue_it : {S V : Type 0} (im : Images S V) (images : ℕ) (v : Standing S V) (k rest i : ℕ) → i ≡ v.next k →
+    (takes im images v k (suc rest)).queue i k ≡ rest
 take_queue_it im images v k rest i e = grind arith
 
 first_peer : (k i : ℕ) → i ≢ k → peer k 0 ≤ i
 first_peer k i ne = grind arith
 
 -- image k puts its messages
-sync_queue : {S V : Type 0} (im : Images S V) (s : Script V) (v : Standing S V) (w : World V) → Course im s v w → (k : ℕ) (x : S) → k < s.images → s.images ≤ v.next k → peer k 0 < s.images →
+sync_queue : {S V : Type 0} (im : Images S V) (s : Script V) (v : Standing S V) (w : World V) → Course im s v w →
+    (k : ℕ) (x : S) → k < s.images → s.images ≤ v.next k → peer k 0 < s.images →
     (i j : ℕ) → i < s.images → j < s.images → i ≢ j →
     took s.images (w.phase j) (at v.next k (peer k 0) j) i + (does im s.images v k x AtSync).queue i j ≡ puts s.images (w.phase i) (at v.next k (peer k 0) i)
 sync_queue im s v w c k x lk free some i j li lj ne = elim (cases_eq j k) [
@@ -56,19 +64,20 @@ sync_queue im s v w c k x lk free some i j li lj ne = elim (cases_eq j k) [
   ]
 ]
 
-arrive_may : {S V : Type 0} (im : Images S V) (s : Script V) (v : Standing S V) (w : World V) → Course im s v w → (k : ℕ) → k < s.images → v.ended k ≡ false → s.images ≤ v.next k →
+arrive_may : {S V : Type 0} (im : Images S V) (s : Script V) (v : Standing S V) (w : World V) → Course im s v w →
+    (k : ℕ) → k < s.images → v.ended k ≡ false → s.images ≤ v.next k →
     w.place k ≡ length (s.accesses (w.phase k) k) → MayArrive s w k
 arrive_may im s v w c k lk going free whole = let f = c.each k lk in (f.low, runs f going free, whole)
 
 -- image k comes to a sync with others
-pub sync_course : {S V : Type 0} (im : Images S V) (s : Script V) (v : Standing S V) (w : World V) → Reached s w → Course im s v w → (k : ℕ) → k < s.images → v.ended k ≡ false → s.images ≤ v.next k →
+pub sync_course : {S V : Type 0} (im : Images S V) (s : Script V) (v : Standing S V) (w : World V) → Reached s w →
+    Course im s v w → (k : ℕ) → k < s.images → v.ended k ≡ false → s.images ≤ v.next k →
     w.place k ≡ length (s.accesses (w.phase k) k) → suc (w.phase k) < s.phases → peer k 0 < s.images →
     Reached s (has_arrived w k) × Course im s (does im s.images v k (im.go (v.state k)) AtSync) (has_arrived w k)
 sync_course im s v w r c k lk going free whole more some =
     let f = c.each k lk in
     let x = im.go (v.state k) in
-    let here : w.arrived k ≡ false = runs f going free in
-    (
+    let here : w.arrived k ≡ false = runs f going free in (
       Then r (Arrives k lk (arrive_may im s v w c k lk going free whole)),
       record {
         words = c.words;
@@ -90,14 +99,14 @@ sync_course im s v w r c k lk going free whole more some =
     )
 
 -- image k comes to its end
-pub end_course : {S V : Type 0} (im : Images S V) (s : Script V) (v : Standing S V) (w : World V) → Reached s w → Course im s v w → (k : ℕ) → k < s.images → v.ended k ≡ false → s.images ≤ v.next k →
+pub end_course : {S V : Type 0} (im : Images S V) (s : Script V) (v : Standing S V) (w : World V) → Reached s w →
+    Course im s v w → (k : ℕ) → k < s.images → v.ended k ≡ false → s.images ≤ v.next k →
     w.place k ≡ length (s.accesses (w.phase k) k) → suc (w.phase k) ≡ s.phases →
     Reached s (has_arrived w k) × Course im s (does im s.images v k (im.go (v.state k)) AtEnd) (has_arrived w k)
 end_course im s v w r c k lk going free whole end =
     let f = c.each k lk in
     let x = im.go (v.state k) in
-    let here : w.arrived k ≡ false = runs f going free in
-    (
+    let here : w.arrived k ≡ false = runs f going free in (
       Then r (Arrives k lk (arrive_may im s v w c k lk going free whole)),
       record {
         words = c.words;
@@ -119,11 +128,13 @@ end_course im s v w r c k lk going free whole end =
     )
 
 -- the state behind a sync begins the next phase
-pub passed_state : {S V : Type 0} (im : Images S V) (s : Script V) (k phase place : ℕ) (x : S) → place ≡ length (s.accesses phase k) → x ≡ im.go (own im s k phase place) → im.pass x ≡ own im s k (suc phase) 0
+pub passed_state : {S V : Type 0} (im : Images S V) (s : Script V) (k phase place : ℕ) (x : S) →
+    place ≡ length (s.accesses phase k) → x ≡ im.go (own im s k phase place) → im.pass x ≡ own im s k (suc phase) 0
 passed_state im s k phase place x whole e = ap im.pass (e ∙ ap (λ i. im.go (own im s k phase i)) whole)
 
 -- image k, alone, comes to a sync
-pub alone_course : {S V : Type 0} (im : Images S V) (s : Script V) (v : Standing S V) (w : World V) → Reached s w → Course im s v w → (k : ℕ) → k < s.images → v.ended k ≡ false → s.images ≤ v.next k →
+pub alone_course : {S V : Type 0} (im : Images S V) (s : Script V) (v : Standing S V) (w : World V) → Reached s w →
+    Course im s v w → (k : ℕ) → k < s.images → v.ended k ≡ false → s.images ≤ v.next k →
     w.place k ≡ length (s.accesses (w.phase k) k) → suc (w.phase k) < s.phases → s.images ≤ peer k 0 →
     Reached s (passed (has_arrived w k) k) × Course im s (does im s.images v k (im.go (v.state k)) AtSync) (passed (has_arrived w k) k)
 alone_course {S} {V} im s v w r c k lk going free whole more none =
@@ -134,8 +145,7 @@ alone_course {S} {V} im s v w r c k lk going free whole more none =
     let may : MayPass s (has_arrived w k) k = (
       at_same w.arrived k true k refl,
       λ j lj. (let P : ℕ → Type 0 = λ y. w.phase k < arrivals (has_arrived w k) y in subst P (sym (itself j lj)) (rw (at_same w.arrived k true k refl) (omega arith))),
-    ) in
-    (
+    ) in (
       Then (Then r (Arrives k lk (arrive_may im s v w c k lk going free whole))) (Passes k lk may),
       record {
         words = c.words;

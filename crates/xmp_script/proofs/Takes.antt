@@ -1,27 +1,31 @@
 -- What an image takes at a sync lets it pass, as the script says, when all has come.
-use Rattle.std.proofs.Common.{◌≡◌, ◌≢◌, ℕ, zero, suc, ◌+◌, ◌<◌, ◌≤◌, Bool, true, false, not, ◌&&◌, ◌||◌, ◌==◌, nat_lt, if◌then◌else◌, length, refl, sym, ap, ◌∙◌, subst, arith, true≢false, ◌⊎◌, inl, inr}
+use Rattle.std.proofs.Common.{◌≡◌, ◌≢◌, ℕ, suc, ◌+◌, ◌<◌, ◌≤◌, true, false, refl, sym, ap, ◌∙◌, subst, arith, true≢false, inl, inr}
 use Rattle.std.proofs.lemmas.Bool.{cases_eq, cases_lt, cases_Bool, lt-ltb, le-ltb}
 use Rattle.xmp_script.specs.Script.{Script, at}
 use Rattle.xmp_script.specs.World.{World, MayPass, arrivals, passed, Passes, Reached, Then}
 use Rattle.xmp_script.specs.Images.{Images, Standing, peer, settled, takes}
 use Rattle.xmp_script.proofs.Words.{at_same, at_other}
-use Rattle.xmp_script.proofs.Course.{Stands, Course, SameRow, row_update, peer_other, peer_below, puts, took, puts_in, puts_out, took_out, took_not, took_it, waits, at_stop}
+use Rattle.xmp_script.proofs.Course.{Course, row_update, peer_other, peer_below, puts, took, puts_in, puts_out, took_out, took_not, waits, at_stop}
 use Rattle.xmp_script.proofs.Syncs.{settled_in, settled_out, take_queue_other, take_queue_another, take_queue_it, passed_state}
 
 -- what image k took of i, as it takes one of its peer p
-took_same : (images phase k p i : ℕ) → i ≢ k → i ≢ p → p < images → peer k (suc p) < images → took images phase (peer k (suc p)) i ≡ took images phase p i
+took_same : (images phase k p i : ℕ) → i ≢ k → i ≢ p → p < images → peer k (suc p) < images →
+    took images phase (peer k (suc p)) i ≡ took images phase p i
 took_same images phase k p i nk np lp ln = grind arith
 
 took_more : (images phase k p : ℕ) → p ≢ k → peer k (suc p) < images → took images phase (peer k (suc p)) p ≡ suc phase
 took_more images phase k p np ln = grind arith
 
 -- what it took of all others, as it takes the last
-took_last : (images phase k p i : ℕ) → i < images → i ≢ k → i ≢ p → p < images → images ≤ peer k (suc p) → took images phase p i ≡ suc phase
+took_last : (images phase k p i : ℕ) → i < images → i ≢ k → i ≢ p → p < images → images ≤ peer k (suc p) →
+    took images phase p i ≡ suc phase
 took_last images phase k p i li nk np lp le = grind arith
 
 -- image k takes a message and awaits another
-take_queue : {S V : Type 0} (im : Images S V) (s : Script V) (v : Standing S V) (w : World V) → Course im s v w → (k rest : ℕ) → k < s.images → v.next k < s.images →
-    v.queue (v.next k) k ≡ suc rest → peer k (suc (v.next k)) < s.images → (i j : ℕ) → i < s.images → j < s.images → i ≢ j →
+take_queue : {S V : Type 0} (im : Images S V) (s : Script V) (v : Standing S V) (w : World V) → Course im s v w →
+    (k rest : ℕ) → k < s.images → v.next k < s.images →
+    v.queue (v.next k) k ≡ suc rest → peer k (suc (v.next k)) < s.images → (i j : ℕ) → i < s.images → j < s.images →
+    i ≢ j →
     took s.images (w.phase j) (at v.next k (peer k (suc (v.next k))) j) i + (takes im s.images v k (suc rest)).queue i j ≡ puts s.images (w.phase i) (at v.next k (peer k (suc (v.next k))) i)
 take_queue {S} {V} im s v w c k rest lk waiting lies more i j li lj ne =
     let p : ℕ = v.next k in
@@ -49,10 +53,12 @@ take_queue {S} {V} im s v w c k rest lk waiting lies more i j li lj ne =
     ]
 
 -- image k takes the last message
-last_queue : {S V : Type 0} (im : Images S V) (s : Script V) (v : Standing S V) (w : World V) → Course im s v w → (k rest : ℕ) → k < s.images → v.next k < s.images →
-    v.queue (v.next k) k ≡ suc rest → s.images ≤ peer k (suc (v.next k)) → (i j : ℕ) → i < s.images → j < s.images → i ≢ j →
+last_queue : {S V : Type 0} (im : Images S V) (s : Script V) (v : Standing S V) (w : World V) → Course im s v w →
+    (k rest : ℕ) → k < s.images → v.next k < s.images →
+    v.queue (v.next k) k ≡ suc rest → s.images ≤ peer k (suc (v.next k)) → (i j : ℕ) → i < s.images → j < s.images →
+    i ≢ j →
     took s.images (at w.phase k (suc (w.phase k)) j) (at v.next k (peer k (suc (v.next k))) j) i + (takes im s.images v k (suc rest)).queue i j
-      ≡ puts s.images (at w.phase k (suc (w.phase k)) i) (at v.next k (peer k (suc (v.next k))) i)
+    ≡ puts s.images (at w.phase k (suc (w.phase k)) i) (at v.next k (peer k (suc (v.next k))) i)
 last_queue {S} {V} im s v w c k rest lk waiting lies none i j li lj ne =
     let p : ℕ = v.next k in
     let next : ℕ = peer k (suc p) in
@@ -86,8 +92,10 @@ last_queue {S} {V} im s v w c k rest lk waiting lies none i j li lj ne =
     ]
 
 -- image k takes a message and awaits another
-pub take_course : {S V : Type 0} (im : Images S V) (s : Script V) (v : Standing S V) (w : World V) → Course im s v w → (k rest : ℕ) → k < s.images → v.next k < s.images →
-    v.queue (v.next k) k ≡ suc rest → peer k (suc (v.next k)) < s.images → Course im s (takes im s.images v k (suc rest)) w
+pub take_course : {S V : Type 0} (im : Images S V) (s : Script V) (v : Standing S V) (w : World V) → Course im s v w →
+    (k rest : ℕ) → k < s.images → v.next k < s.images →
+    v.queue (v.next k) k ≡ suc rest → peer k (suc (v.next k)) < s.images →
+    Course im s (takes im s.images v k (suc rest)) w
 take_course im s v w c k rest lk waiting lies more =
     let f = c.each k lk in
     let next = peer k (suc (v.next k)) in
@@ -112,14 +120,17 @@ take_course im s v w c k rest lk waiting lies more =
     }
 
 -- an image from which a message has come, or lies there, has arrived
-puts_arrivals : {S V : Type 0} (im : Images S V) (s : Script V) (v : Standing S V) (w : World V) → Course im s v w → (j : ℕ) → j < s.images → puts s.images (w.phase j) (v.next j) ≤ arrivals w j
+puts_arrivals : {S V : Type 0} (im : Images S V) (s : Script V) (v : Standing S V) (w : World V) → Course im s v w →
+    (j : ℕ) → j < s.images → puts s.images (w.phase j) (v.next j) ≤ arrivals w j
 puts_arrivals im s v w c j lj = elim (cases_lt (v.next j) s.images) [
   | inl waiting ↦ rw (puts_in s.images (w.phase j) (v.next j) waiting, waits (c.each j lj) waiting) (omega arith)
   | inr free ↦ rw (puts_out s.images (w.phase j) (v.next j) free) (elim (cases_Bool (w.arrived j)) [ inl there ↦ rw there (omega arith) | inr away ↦ rw away (omega arith) ])
 ]
 
-last_may : {S V : Type 0} (im : Images S V) (s : Script V) (v : Standing S V) (w : World V) → Course im s v w → (k rest : ℕ) → k < s.images → v.next k < s.images →
-    v.queue (v.next k) k ≡ suc rest → s.images ≤ peer k (suc (v.next k)) → (j : ℕ) → j < s.images → w.phase k < arrivals w j
+last_may : {S V : Type 0} (im : Images S V) (s : Script V) (v : Standing S V) (w : World V) → Course im s v w →
+    (k rest : ℕ) → k < s.images → v.next k < s.images →
+    v.queue (v.next k) k ≡ suc rest → s.images ≤ peer k (suc (v.next k)) → (j : ℕ) → j < s.images →
+    w.phase k < arrivals w j
 last_may {S} {V} im s v w c k rest lk waiting lies none j lj =
     let p : ℕ = v.next k in
     let np : p ≢ k = (c.each k lk).other in
@@ -141,15 +152,16 @@ last_may {S} {V} im s v w c k rest lk waiting lies none j lj =
     ]
 
 -- image k takes the last message, and passes
-pub last_course : {S V : Type 0} (im : Images S V) (s : Script V) (v : Standing S V) (w : World V) → Reached s w → Course im s v w → (k rest : ℕ) → k < s.images → v.next k < s.images →
-    v.queue (v.next k) k ≡ suc rest → s.images ≤ peer k (suc (v.next k)) → Reached s (passed w k) × Course im s (takes im s.images v k (suc rest)) (passed w k)
+pub last_course : {S V : Type 0} (im : Images S V) (s : Script V) (v : Standing S V) (w : World V) → Reached s w →
+    Course im s v w → (k rest : ℕ) → k < s.images → v.next k < s.images →
+    v.queue (v.next k) k ≡ suc rest → s.images ≤ peer k (suc (v.next k)) →
+    Reached s (passed w k) × Course im s (takes im s.images v k (suc rest)) (passed w k)
 last_course {S} {V} im s v w r c k rest lk waiting lies none =
     let f = c.each k lk in
     let next = peer k (suc (v.next k)) in
     let there : w.arrived k ≡ true = waits f waiting in
     let going = f.syncing waiting in
-    let may : MayPass s w k = (there, last_may im s v w c k rest lk waiting lies none) in
-    (
+    let may : MayPass s w k = (there, last_may im s v w c k rest lk waiting lies none) in (
       Then r (Passes k lk may),
       record {
         words = c.words;

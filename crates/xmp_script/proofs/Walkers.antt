@@ -1,9 +1,9 @@
 -- The images of a script carry it.
-use Rattle.std.proofs.Common.{◌≡◌, ℕ, zero, suc, ◌<◌, ◌≤◌, true, nat_lt, if◌then◌else◌, List, [], ◌∷◌, length, slice_get, Option, Some, None, refl, sym, ap, ◌∙◌, subst, arith, le_refl}
+use Rattle.std.proofs.Common.{◌≡◌, ℕ, zero, suc, ◌<◌, ◌≤◌, nat_lt, if◌then◌else◌, List, [], ◌∷◌, length, slice_get, Some, None, refl, ap, ◌∙◌, arith, le_refl}
 use Rattle.std.proofs.lemmas.Bool.{lt-ltb, le-ltb}
 use Rattle.xmp_script.specs.Script.{Access, Get, Put, Script, IsFree, seen}
-use Rattle.xmp_script.specs.Images.{Stand, AtAccess, AtSync, AtEnd, behind}
-use Rattle.xmp_script.specs.Carries.{onward, own, at_phase, after_accesses, CarriesScript, AllCarry}
+use Rattle.xmp_script.specs.Images.{AtSync, AtEnd, behind}
+use Rattle.xmp_script.specs.Carries.{onward, own, at_phase, after_accesses, AllCarry}
 use Rattle.xmp_script.specs.Walkers as walk
 use Rattle.xmp_script.specs.Walkers.{Walker, stand_of, walkers}
 use Rattle.xmp_script.proofs.Course.{get_below}
@@ -20,11 +20,13 @@ nothing (x ∷ l) = nothing l
 abbrev at_place : ℕ → ℕ → ℕ → Walker
 at_place k q i = record { image = k; phase = q; place = i }
 
-walks : {V : Type 0} (s : Script V) (k q i : ℕ) (m : ℕ → V) (a : Access V) → slice_get (s.accesses q k) i ≡ Some a → behind (walkers s) m (at_place k q i) a ≡ at_place k q (suc i)
+walks : {V : Type 0} (s : Script V) (k q i : ℕ) (m : ℕ → V) (a : Access V) → slice_get (s.accesses q k) i ≡ Some a →
+    behind (walkers s) m (at_place k q i) a ≡ at_place k q (suc i)
 walks s k q i m (Get e) at-i = refl
 walks s k q i m (Put e v) at-i = ap (λ o. walk.onward o (at_place k q i)) at-i
 
-walked : {V : Type 0} (s : Script V) (k q i : ℕ) (x : Walker) → i ≤ length (s.accesses q k) → x ≡ at_place k q 0 → after_accesses (walkers s) s k q i x ≡ at_place k q i
+walked : {V : Type 0} (s : Script V) (k q i : ℕ) (x : Walker) → i ≤ length (s.accesses q k) → x ≡ at_place k q 0 →
+    after_accesses (walkers s) s k q i x ≡ at_place k q i
 walked s k q zero x le e = e
 walked s k q (suc i) x le e =
     let a = there (s.accesses q k) i le in
@@ -39,10 +41,12 @@ walk_phase s k (suc q) =
     ap (walkers s).pass (walked s k q long (at_phase (walkers s) s k q) (le_refl long) (walk_phase s k q))
     ∙ ap (λ o. walk.onward o (at_place k q long)) (nothing (s.accesses q k))
 
-walk_own : {V : Type 0} (s : Script V) (k q i : ℕ) → i ≤ length (s.accesses q k) → own (walkers s) s k q i ≡ at_place k q i
+walk_own : {V : Type 0} (s : Script V) (k q i : ℕ) → i ≤ length (s.accesses q k) →
+    own (walkers s) s k q i ≡ at_place k q i
 walk_own s k q i le = walked s k q i (at_phase (walkers s) s k q) le (walk_phase s k q)
 
-stand_last : {V : Type 0} (s : Script V) (k q : ℕ) → (walkers s).stands (own (walkers s) s k q (length (s.accesses q k))) ≡ (if nat_lt (suc q) s.phases then AtSync else AtEnd)
+stand_last : {V : Type 0} (s : Script V) (k q : ℕ) →
+    (walkers s).stands (own (walkers s) s k q (length (s.accesses q k))) ≡ (if nat_lt (suc q) s.phases then AtSync else AtEnd)
 stand_last s k q =
     let long = length (s.accesses q k) in
     ap (walkers s).stands (walk_own s k q long (le_refl long)) ∙ ap (stand_of s.phases q) (nothing (s.accesses q k))

@@ -1,5 +1,5 @@
 -- Images that make the accesses of a script (this project).
-use Rattle.std.specs.Prelude.{◌≡◌, ◌≢◌, ℕ, zero, suc, ◌<◌, ◌≤◌, Bool, true, false, if◌then◌else◌, List, length, slice_get, Option, Some, None, All, ◌⊎◌}
+use Rattle.std.specs.Prelude.{◌≡◌, ◌≢◌, ℕ, zero, suc, ◌<◌, ◌≤◌, true, false, if◌then◌else◌, List, length, slice_get, Option, Some, None, All, ◌⊎◌}
 use Rattle.xmp_script.specs.Script.{Access, Get, Script, IsFree, seen}
 use Rattle.xmp_script.specs.World.{World}
 use Rattle.xmp_script.specs.Images.{Images, Standing, AtAccess, AtSync, AtEnd, AlreadyEnded, behind, answer}
@@ -25,7 +25,8 @@ own im s k q i = after_accesses im s k q i (at_phase im s k q)
 
 -- Fed with what it sees, image k makes the script's accesses, a sync behind each phase but the last, and then ends.
 pub record CarriesScript {S V : Type 0} (im : Images S V) (s : Script V) (k : ℕ) : Type 0 where
-  pub accesses : (q i : ℕ) (a : Access V) → q < s.phases → slice_get (s.accesses q k) i ≡ Some a → im.stands (im.go (own im s k q i)) ≡ AtAccess a
+  pub accesses : (q i : ℕ) (a : Access V) → q < s.phases → slice_get (s.accesses q k) i ≡ Some a →
+      im.stands (im.go (own im s k q i)) ≡ AtAccess a
   pub syncs : (q : ℕ) → suc q < s.phases → im.stands (im.go (own im s k q (length (s.accesses q k)))) ≡ AtSync
   pub ends : (q : ℕ) → suc q ≡ s.phases → im.stands (im.go (own im s k q (length (s.accesses q k)))) ≡ AtEnd
 
@@ -36,14 +37,17 @@ pub record AllCarry {S V : Type 0} (im : Images S V) (s : Script V) : Type 0 whe
   pub phases : 0 < s.phases
   pub each : (k : ℕ) → k < s.images → CarriesScript im s k
 
--- Images stand as in a world of the script: over the same words, each at its own list's state for its phase and place; one that has arrived stands at its
--- sync, or at its end; one that stands at a get is about to find what its list is fed with.
+-- Images stand as in a world of the script: over the same words, each at its own list's state for its phase and place;
+-- one that has arrived stands at its sync, or at its end; one that stands at a get is about to find what its list is
+-- fed with.
 pub record StandsAs {S V : Type 0} (im : Images S V) (s : Script V) (v : Standing S V) (w : World V) : Type 0 where
   pub words : (e : ℕ) → v.words e ≡ w.words e
-  pub state : (k : ℕ) → k < s.images → v.state k ≡ (if w.arrived k then im.go (own im s k (w.phase k) (w.place k)) else own im s k (w.phase k) (w.place k))
+  pub state : (k : ℕ) → k < s.images →
+      v.state k ≡ (if w.arrived k then im.go (own im s k (w.phase k) (w.place k)) else own im s k (w.phase k) (w.place k))
   pub arrived : (k : ℕ) → k < s.images → w.arrived k ≡ true → (v.ended k ≡ true) ⊎ (v.next k < s.images)
   pub running : (k : ℕ) → k < s.images → w.arrived k ≡ false → (v.ended k ≡ false) × (s.images ≤ v.next k)
-  pub gets : (k e : ℕ) → k < s.images → w.arrived k ≡ false → im.stands (im.go (v.state k)) ≡ AtAccess (Get e) → v.words e ≡ seen s k (w.phase k) (w.place k) e
+  pub gets : (k e : ℕ) → k < s.images → w.arrived k ≡ false → im.stands (im.go (v.state k)) ≡ AtAccess (Get e) →
+      v.words e ≡ seen s k (w.phase k) (w.place k) e
 
 -- no image has a move left
 abbrev pub AllEnded : {S V : Type 0} → ℕ → Standing S V → Type 0

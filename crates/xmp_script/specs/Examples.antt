@@ -1,4 +1,5 @@
--- Three images, of which each writes its number to the word of the next, and reads its own behind a sync (this project).
+-- Three images, of which each writes its number to the word of the next, and reads its own behind a sync (this
+-- project).
 use Rattle.std.specs.Prelude.{◌≡◌, ℕ, zero, suc, ◌≤◌, ◌==◌, if◌then◌else◌, List, [], ◌∷◌}
 use Rattle.std.proofs.Common.{refl, arith}
 use Rattle.xmp_script.specs.Script.{Access, Get, Put, Script}

@@ -1,5 +1,5 @@
--- Images that run by themselves and share words (this project, after the coarrays of XcalableMP 1.4). At a sync an image puts an empty message to each
--- other image, and takes one of each, in the order of their numbers.
+-- Images that run by themselves and share words (this project, after the coarrays of XcalableMP 1.4). At a sync an
+-- image puts an empty message to each other image, and takes one of each, in the order of their numbers.
 use Rattle.std.specs.Prelude.{ℕ, zero, suc, Bool, true, false, not, ◌&&◌, ◌==◌, nat_lt, if◌then◌else◌, List, [], ◌∷◌}
 use Rattle.xmp_script.specs.Script.{Access, Get, Put, at, after}
 
@@ -17,7 +17,8 @@ pub record Images (S V : Type 0) : Type 0 where
   pub answer : S → V → S  -- behind a get, which found this value
   pub pass : S → S  -- behind a put, or behind a sync when its messages are in
 
--- The images as they stand, the words that they share, and for each ordered pair a queue of empty messages, which has no bound.
+-- The images as they stand, the words that they share, and for each ordered pair a queue of empty messages, which has
+-- no bound.
 pub record Standing (S V : Type 0) : Type 0 where
   pub words : ℕ → V
   pub state : ℕ → S
@@ -85,7 +86,10 @@ found (suc rest) = Stepped
 
 -- what that move comes to
 abbrev pub answer : {S V : Type 0} → ℕ → Standing S V → ℕ → Moved
-answer images v k = if v.ended k then AlreadyEnded else (if nat_lt (v.next k) images then found (v.queue (v.next k) k) else Stepped)
+answer images v k =
+    if v.ended k
+    then AlreadyEnded
+    else (if nat_lt (v.next k) images then found (v.queue (v.next k) k) else Stepped)
 
 -- a run: the chosen images move in turn
 abbrev pub run : {S V : Type 0} → Images S V → ℕ → List ℕ → Standing S V → Standing S V

@@ -1,7 +1,7 @@
 -- Orders of the images' moves (this project): all in turn, and by a choice.
-use Rattle.std.specs.Prelude.{◌≡◌, ℕ, zero, suc, ◌+◌, ◌<◌, List, [], ◌∷◌, ◌++◌, length}
+use Rattle.std.specs.Prelude.{◌≡◌, ℕ, zero, suc, ◌+◌, ◌<◌, Bool, true, false, nat_lt, if◌then◌else◌, List, [], ◌∷◌, ◌++◌, length}
 use Rattle.xmp_script.specs.Script.{Script}
-use Rattle.xmp_script.specs.Images.{Images, Standing, Stepped, moved, answer}
+use Rattle.xmp_script.specs.Images.{Images, Standing, Stepped, NotYet, AlreadyEnded, moved, answer}
 
 -- the sum of f below c
 abbrev pub sum_below : (ℕ → ℕ) → ℕ → ℕ
@@ -39,7 +39,8 @@ pub record Choice (S V : Type 0) : Type 0 where
 -- it picks an image that can move while one can
 abbrev pub PicksSteps : {S V : Type 0} → ℕ → Choice S V → Type 0
 PicksSteps {S} {V} images c =
-    (x : ℕ) (v : Standing S V) (k : ℕ) → k < images → answer images v k ≡ Stepped → (c.pick x v < images) × (answer images v (c.pick x v) ≡ Stepped)
+    (x : ℕ) (v : Standing S V) (k : ℕ) → k < images → answer images v k ≡ Stepped →
+    (c.pick x v < images) × (answer images v (c.pick x v) ≡ Stepped)
 
 -- the images of d moves by a choice, from number x
 abbrev pub picked : {S V : Type 0} → Images S V → ℕ → Choice S V → ℕ → ℕ → Standing S V → List ℕ
@@ -47,3 +48,20 @@ picked im images c zero x v = []
 picked im images c (suc d) x v =
     let k = c.pick (c.onward x) v in
     k ∷ picked im images c d (c.onward x) (moved im images v k)
+
+-- image k can move
+abbrev pub can_move : {S V : Type 0} → ℕ → Standing S V → ℕ → Bool
+can_move images v k = elim (answer images v k) [ Stepped ↦ true | NotYet ↦ false | AlreadyEnded ↦ false ]
+
+-- the image behind k, counted round
+abbrev pub round : ℕ → ℕ → ℕ
+round images k = if nat_lt (suc k) images then suc k else 0
+
+-- the first that can move of so many images from k on, counted round
+abbrev pub first_from : {S V : Type 0} → ℕ → Standing S V → ℕ → ℕ → ℕ
+first_from images v zero k = k
+first_from images v (suc many) k = if can_move images v k then k else first_from images v many (round images k)
+
+-- the choice of the first image that can move, from an image on that the number gives
+abbrev pub first_able : {S V : Type 0} → ℕ → (ℕ → ℕ) → (ℕ → ℕ) → Choice S V
+first_able images from onward = record { onward = onward; pick = λ x v. first_from images v images (from x) }

@@ -1,5 +1,5 @@
--- Images that go through a script (this project): single accesses of one image between those of others, and a barrier at the end of each phase,
--- at which an image arrives, and which it passes once all have arrived.
+-- Images that go through a script (this project): single accesses of one image between those of others, and a barrier
+-- at the end of each phase, at which an image arrives, and which it passes once all have arrived.
 use Rattle.std.specs.Prelude.{◌≡◌, ℕ, suc, ◌<◌, Bool, true, false, if◌then◌else◌, length, slice_get, Some}
 use Rattle.xmp_script.specs.Script.{Access, Script, at, after}
 

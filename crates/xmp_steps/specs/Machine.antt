@@ -52,10 +52,13 @@ fed_of resume s Stuck = Stuck
 abbrev pub fed : {S P : Type 0} → (S → Next S P) → (P → S → Option S) → S → Next S P
 fed next resume s = fed_of resume s (next s)
 
--- The stops of the plain machine on such a run: it is resumed at each but the last, which is an end in a state of this kind.
+-- The stops of the plain machine on such a run: it is resumed at each but the last, which is an end in a state of this
+-- kind.
 pub data Stopping {S P : Type 0} (next : S → Next S P) (resume : P → S → Option S) (goal : S → Type 0) : S → Type 0 where
-  Last : {s : S} (n : ℕ) (p : P) (t : S) → within next n s ≡ Some (p, t) → resume p t ≡ None → goal t → Stopping next resume goal s
-  Resumes : {s : S} (n : ℕ) (p : P) (t u : S) → within next n s ≡ Some (p, t) → resume p t ≡ Some u → Stopping next resume goal u → Stopping next resume goal s
+  Last : {s : S} (n : ℕ) (p : P) (t : S) → within next n s ≡ Some (p, t) → resume p t ≡ None → goal t →
+      Stopping next resume goal s
+  Resumes : {s : S} (n : ℕ) (p : P) (t u : S) → within next n s ≡ Some (p, t) → resume p t ≡ Some u →
+      Stopping next resume goal u → Stopping next resume goal s
 
 -- ---- a loop as a machine
 

@@ -1,4 +1,4 @@
-use Rattle.xmp_net.proofs.Orders.{on_course, moves_on, few_steps, same_end, ends_empty, lockstep_ends, choices_end}
+use Rattle.xmp_net.proofs.Orders.{on_course, moves_on, few_steps, same_end, ends_own, ends_empty, lockstep_ends, choices_end}
 use Rattle.xmp_net.proofs.Rounds.{firsts_pick}
 use Rattle.xmp_net.proofs.OneTraffic as unique
 use Rattle.xmp_net.proofs.Tables as tables
@@ -10,6 +10,7 @@ returns g c = record {
   moves = moves_on;
   few = few_steps;
   one = same_end;
+  ends = ends_own;
   empty = ends_empty;
   lockstep = lockstep_ends;
   chosen = choices_end;
