@@ -4,3 +4,4 @@ pub mod Steps
 pub mod Runs
 pub mod Calls
 pub mod Closing
+pub mod ExampleLaws
