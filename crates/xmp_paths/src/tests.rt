@@ -1,8 +1,8 @@
 use super::*;
 use sqlite_items::{Boxed, Items};
-use std::alloc::Global;
+use std::alloc::{AllocError, Global};
 use std::test::Fail;
-use xmp_base::{NoMemory, Phase, Place, Refusal};
+use xmp_base::{Phase, Place};
 
 // A tree, its parts first. The last four make one of the two before, or of the one before.
 #[derive(Clone, Copy)]
@@ -187,66 +187,92 @@ const PLACES: [Row; 4] = [
     (&[Wrong(8, 6), Again], Some((8, 6))),
 ];
 
-fn joined(alloc: Global, step: Step, parts: &mut Vec<Flow>) -> Result<Flow, Fail> {
-    let last = parts.pop().ok_or("a part")?;
-    if matches!(step, Again) {
-        return Ok(Flow::Loop(Boxed::new(alloc, last)?));
-    }
-    let first = parts.pop().ok_or("two parts")?;
-    if matches!(step, Or) {
-        let left = Boxed::new(alloc, first)?;
-        return Ok(Flow::Branch(left, Boxed::new(alloc, last)?));
-    }
+fn then(alloc: Global, first: Flow, last: Flow) -> Result<Flow, AllocError> {
     let mut both = Items::new(alloc);
     both.push(first)?;
     both.push(last)?;
     Ok(Flow::Sequence(both))
 }
 
-fn built(alloc: Global, row: &[Step]) -> Result<Flow, Fail> {
+fn or(alloc: Global, first: Flow, last: Flow) -> Result<Flow, AllocError> {
+    let left = Boxed::new(alloc, first)?;
+    let right = Boxed::new(alloc, last)?;
+    Ok(Flow::Branch(left, right))
+}
+
+fn again(alloc: Global, last: Flow) -> Result<Flow, AllocError> {
+    Ok(Flow::Loop(Boxed::new(alloc, last)?))
+}
+
+// The last tree so far, or one with nothing in it.
+fn popped(alloc: Global, parts: &mut Vec<Flow>) -> Flow {
+    match parts.pop() {
+        Some(flow) => flow,
+        None => Flow::Sequence(Items::new(alloc)),
+    }
+}
+
+fn joined(alloc: Global, step: Step, parts: &mut Vec<Flow>) -> Result<Flow, AllocError> {
+    let last = popped(alloc, parts);
+    if matches!(step, Again) {
+        return again(alloc, last);
+    }
+    let first = popped(alloc, parts);
+    if matches!(step, Or) {
+        return or(alloc, first, last);
+    }
+    then(alloc, first, last)
+}
+
+fn tree_of(alloc: Global, step: Step, parts: &mut Vec<Flow>) -> Result<Flow, AllocError> {
+    match step {
+        Read(line, object, nodes) => Ok(Flow::Emit(Event::Read {
+            object,
+            nodes,
+            rule: 1,
+            at: Place { line, column: 1 },
+        })),
+        Wrong(line, rule) => Ok(Flow::Emit(Event::Wrong {
+            rule,
+            at: Place { line, column: 1 },
+        })),
+        Assigned(object, current) => Ok(Flow::Emit(Event::Mark {
+            object,
+            current,
+            stale: 15 ^ current,
+        })),
+        Nothing => Ok(Flow::Sequence(Items::new(alloc))),
+        Then | Or | Again => joined(alloc, step, parts),
+    }
+}
+
+fn built(alloc: Global, row: &[Step]) -> Result<Flow, AllocError> {
     let mut parts: Vec<Flow> = Vec::new(alloc);
     for step in row {
-        let flow = match *step {
-            Read(line, object, nodes) => Flow::Emit(Event::Read {
-                object,
-                nodes,
-                rule: 1,
-                at: Place { line, column: 1 },
-            }),
-            Wrong(line, rule) => Flow::Emit(Event::Wrong {
-                rule,
-                at: Place { line, column: 1 },
-            }),
-            Assigned(object, current) => Flow::Emit(Event::Mark {
-                object,
-                current,
-                stale: 15 ^ current,
-            }),
-            Nothing => Flow::Sequence(Items::new(alloc)),
-            Then | Or | Again => joined(alloc, *step, &mut parts)?,
-        };
+        let flow = tree_of(alloc, *step, &mut parts)?;
         parts.push(flow)?;
     }
-    let whole = parts.pop().ok_or("an empty row")?;
-    Ok(whole)
+    Ok(popped(alloc, &mut parts))
+}
+
+// The line and the number of the first rule that breaks, and the phase.
+fn found(alloc: Global, row: &[Step]) -> Result<Option<(Phase, u32, u16)>, Fail> {
+    let flow = built(alloc, row)?;
+    let first = check(alloc, &flow, Phase::Flow);
+    std::mem::drop(flow);
+    match first {
+        Ok(Some(r)) => Ok(Some((r.phase, r.at.line, r.rule))),
+        Ok(None) => Ok(None),
+        Err(_) => Err(Fail::from("want of memory")),
+    }
 }
 
 #[test]
 fn the_first_rule_that_breaks_on_some_path_is_found(rt: HostRuntime) -> Result<(), Fail> {
-    let alloc = rt.alloc();
     for table in [&IN_ORDER[..], &BRANCHES[..], &LOOPS[..], &PLACES[..]] {
         for (row, first) in table {
-            let flow = built(alloc, row)?;
-            let wanted = first.map(|(line, rule)| Refusal {
-                phase: Phase::Flow,
-                rule,
-                at: Place { line, column: 1 },
-            });
-            assert_eq!(rt;
-                check(alloc, &flow, Phase::Flow),
-                Ok::<Option<Refusal>, NoMemory>(wanted),
-                "{first:?}"
-            );
+            let wanted = first.map(|(line, rule)| (Phase::Flow, line, rule));
+            assert_eq!(rt; found(rt.alloc(), row)?, wanted, "{first:?}");
         }
     }
     Ok(())

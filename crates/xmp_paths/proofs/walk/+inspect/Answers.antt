@@ -13,10 +13,10 @@ use Rattle.xmp_paths.specs.declared.event.Event.{Event}
 use Rattle.xmp_paths.specs.declared.event.Flow.{Flow}
 use Rattle.xmp_paths.proofs.walk.+inspect.Goals as goal
 
-pub inspect-returns-in_ok-mark-in-Emit-clause-first : goal.inspect-returns-in_ok-mark-in-Emit-clause-first
-inspect-returns-in_ok-mark-in-Emit-clause-first t c =
-    subst (λ (p : Plan Event). IsFirst (in_phase c.args.phase (BreaksFrom p (may_be_stale c.args.copies.now))) c.judge-found.result)
-    (sym (ap plan_of c.in-Emit.is ∙ plan-emit c.in-Emit.event)) c.judge-found.ensures
+pub inspect-returns-in-Emit-clause-first : goal.inspect-returns-in-Emit-clause-first
+inspect-returns-in-Emit-clause-first t c =
+    subst (λ (p : Plan Event). IfOk c.inspect_event.result (λ found. IsFirst (in_phase c.args.phase (BreaksFrom p (may_be_stale c.args.copies.now))) found))
+    (sym (ap plan_of c.in-Emit.is ∙ plan-emit c.in-Emit.event)) c.inspect_event.ensures.first
 
 pub inspect-returns-in-Sequence-clause-first : goal.inspect-returns-in-Sequence-clause-first
 inspect-returns-in-Sequence-clause-first t c =
