@@ -189,13 +189,13 @@ impl Copies {
         &mut self,
         alloc: Global,
         start: usize,
-        changes: &[Change],
+        changes: Items<Change>,
     ) -> Result<(), AllocError>
         ensures sets { OnOk result ((object node : ℕ) → may_be_stale self.new object node
-            ≡ (has (put_at object changes.now (set_before self.old start object)) node || may_be_stale self.old object node)) }
+            ≡ (has (put_at object changes (set_before self.old start object)) node || may_be_stale self.old object node)) }
         ensures returns { OnOk result (ReturnsTo (take start self.old.trail) (set_before self.old start) self.new) }
     {
-        let both = self.joined(alloc, changes)?;
+        let both = self.joined(alloc, changes.as_slice())?;
         let others = self.go_back(alloc, start)?;
         self.add(others.as_slice())?;
         self.put(both.as_slice())?;

@@ -267,13 +267,22 @@ fn found(alloc: Global, row: &[Step]) -> Result<Option<(Phase, u32, u16)>, Fail>
     }
 }
 
-#[test]
-fn the_first_rule_that_breaks_on_some_path_is_found(rt: HostRuntime) -> Result<(), Fail> {
-    for table in [&IN_ORDER[..], &BRANCHES[..], &LOOPS[..], &PLACES[..]] {
-        for (row, first) in table {
-            let wanted = first.map(|(line, rule)| (Phase::Flow, line, rule));
-            assert_eq!(rt; found(rt.alloc(), row)?, wanted, "{first:?}");
+// The first row of a table whose first rule isn't the one beside it.
+fn unlike(alloc: Global, table: &[Row]) -> Result<Option<usize>, Fail> {
+    for (k, (row, first)) in table.iter().enumerate() {
+        let wanted = first.map(|(line, rule)| (Phase::Flow, line, rule));
+        if found(alloc, row)? != wanted {
+            return Ok(Some(k));
         }
     }
+    Ok(None)
+}
+
+#[test]
+fn the_first_rule_that_breaks_on_some_path_is_found(rt: HostRuntime) -> Result<(), Fail> {
+    assert_eq!(rt; unlike(rt.alloc(), &IN_ORDER)?, None, "in order");
+    assert_eq!(rt; unlike(rt.alloc(), &BRANCHES)?, None, "branches");
+    assert_eq!(rt; unlike(rt.alloc(), &LOOPS)?, None, "loops");
+    assert_eq!(rt; unlike(rt.alloc(), &PLACES)?, None, "places");
     Ok(())
 }

@@ -10,6 +10,7 @@ ghost use Rattle.xmp_paths.specs.Copies.{may_be_stale, CarriesOver, Returns};
 use crate::copies::Copies;
 use crate::event::{Event, Flow};
 use crate::node_sets::meets;
+use sqlite_items::Items;
 use std::alloc::{AllocError, Global};
 use xmp_base::{Phase, Refusal, earlier};
 
@@ -28,7 +29,7 @@ pub fn carry(alloc: Global, flow: &Flow, copies: &mut Copies) -> Result<(), Allo
             carry(alloc, left.get(), copies)?;
             let changes = copies.go_back(alloc, start)?;
             carry(alloc, right.get(), copies)?;
-            copies.join(alloc, start, changes.as_slice())?;
+            copies.join(alloc, start, changes)?;
             Ok(())
         }
         Flow::Loop(body) => carry_turns(alloc, body.get(), copies),
@@ -55,7 +56,7 @@ fn carry_turns(alloc: Global, body: &Flow, copies: &mut Copies) -> Result<(), Al
 {
     let start = copies.reached();
     carry(alloc, body, copies)?;
-    copies.join(alloc, start, &[])
+    copies.join(alloc, start, Items::new(alloc))
 }
 
 // The rule that breaks at an event, where one does.
@@ -110,7 +111,7 @@ pub fn inspect(
             let first = inspect(alloc, phase, left.get(), copies)?;
             let changes = copies.go_back(alloc, start)?;
             let second = inspect(alloc, phase, right.get(), copies)?;
-            copies.join(alloc, start, changes.as_slice())?;
+            copies.join(alloc, start, changes)?;
             Ok(earlier(first, second))
         }
         Flow::Loop(body) => inspect_turns(alloc, phase, body.get(), copies),
