@@ -1,5 +1,4 @@
 use super::*;
-use sqlite_items::{Boxed, Items};
 use std::alloc::{AllocError, Global};
 use std::test::Fail;
 use xmp_base::{Phase, Place};
@@ -187,61 +186,44 @@ const PLACES: [Row; 4] = [
     (&[Wrong(8, 6), Again], Some((8, 6))),
 ];
 
-fn then(alloc: Global, first: Flow, last: Flow) -> Result<Flow, AllocError> {
-    let mut both = Items::new(alloc);
-    both.push(first)?;
-    both.push(last)?;
-    Ok(Flow::Sequence(both))
-}
-
-fn or(alloc: Global, first: Flow, last: Flow) -> Result<Flow, AllocError> {
-    let left = Boxed::new(alloc, first)?;
-    let right = Boxed::new(alloc, last)?;
-    Ok(Flow::Branch(left, right))
-}
-
-fn again(alloc: Global, last: Flow) -> Result<Flow, AllocError> {
-    Ok(Flow::Loop(Boxed::new(alloc, last)?))
-}
-
 // The last tree so far, or one with nothing in it.
 fn popped(alloc: Global, parts: &mut Vec<Flow>) -> Flow {
     match parts.pop() {
         Some(flow) => flow,
-        None => Flow::Sequence(Items::new(alloc)),
+        None => Flow::nothing(alloc),
     }
 }
 
 fn joined(alloc: Global, step: Step, parts: &mut Vec<Flow>) -> Result<Flow, AllocError> {
     let last = popped(alloc, parts);
     if matches!(step, Again) {
-        return again(alloc, last);
+        return Flow::turns(alloc, last);
     }
     let first = popped(alloc, parts);
     if matches!(step, Or) {
-        return or(alloc, first, last);
+        return Flow::either(alloc, first, last);
     }
-    then(alloc, first, last)
+    Flow::both(alloc, first, last)
 }
 
 fn tree_of(alloc: Global, step: Step, parts: &mut Vec<Flow>) -> Result<Flow, AllocError> {
     match step {
-        Read(line, object, nodes) => Ok(Flow::Emit(Event::Read {
+        Read(line, object, nodes) => Ok(Flow::one(Event::Read {
             object,
             nodes,
             rule: 1,
             at: Place { line, column: 1 },
         })),
-        Wrong(line, rule) => Ok(Flow::Emit(Event::Wrong {
+        Wrong(line, rule) => Ok(Flow::one(Event::Wrong {
             rule,
             at: Place { line, column: 1 },
         })),
-        Assigned(object, current) => Ok(Flow::Emit(Event::Mark {
+        Assigned(object, current) => Ok(Flow::one(Event::Mark {
             object,
             current,
             stale: 15 ^ current,
         })),
-        Nothing => Ok(Flow::Sequence(Items::new(alloc))),
+        Nothing => Ok(Flow::nothing(alloc)),
         Then | Or | Again => joined(alloc, step, parts),
     }
 }
