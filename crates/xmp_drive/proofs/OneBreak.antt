@@ -6,8 +6,8 @@ use Rattle.xmp_base.specs.declared.place.Place.{Place}
 use Rattle.xmp_base.specs.declared.refusal.Phase.{Phase}
 use Rattle.xmp_base.specs.declared.refusal.Refusal.{Refusal}
 use Rattle.xmp_lex.specs.declared.token.Token.{Token}
-use Rattle.xmp_tree.specs.Refused.{Begins, Stuck, TooDeep, start, program_rules}
-use Rattle.xmp_tree.specs.Steps.{regroup, all_split}
+use Rattle.xmp_syntax.specs.Refused.{Begins, Stuck, TooDeep, start, program_rules}
+use Rattle.xmp_syntax.specs.Steps.{regroup, all_split}
 use Rattle.xmp_parse.specs.Programs.{StandsAt, Breaks}
 use Rattle.xmp_drive.proofs.Readings.{Fronts, first, second, one_way, counted, Agrees, with_bad, inside, agree}
 

@@ -2,10 +2,10 @@
 use Rattle.std.proofs.Common.{◌≡◌, ◌+◌, ℕ, suc, List, [], ◌∷◌, ◌++◌, length, refl, sym, ap, ◌∙◌, subst, append_assoc, arith}
 use Rattle.std.proofs.lemmas.List.{length-append}
 use Rattle.xmp_lex.specs.declared.token.Token.{Token}
-use Rattle.xmp_tree.specs.Reading.{Rule, Depths, State, reading, goes, step, Reads, here, onward}
-use Rattle.xmp_tree.specs.Grammar.{rule}
-use Rattle.xmp_tree.specs.Refused.{Begins}
-use Rattle.xmp_tree.specs.Steps.{Local, no_token, one_token, two_tokens, local, begins_nothing}
+use Rattle.xmp_syntax.specs.Reading.{Rule, Depths, State, reading, goes, step, Reads, here, onward}
+use Rattle.xmp_syntax.specs.Grammar.{rule}
+use Rattle.xmp_syntax.specs.Refused.{Begins}
+use Rattle.xmp_syntax.specs.Steps.{Local, no_token, one_token, two_tokens, local, begins_nothing}
 
 abbrev left_at : State → List Token
 left_at (reading D K ts) = ts

@@ -8,7 +8,7 @@ use xmp_lex::{
     cut_or_refused, expanded_or_refused, one_cut, one_expansion, one_lex_refusal, one_macro_refusal,
 };
 use xmp_source::{one_source_tree, tree_or_refused};
-use xmp_tree::{one_stuck_token, shorter_begins};
+use xmp_syntax::{one_stuck_token, shorter_begins};
 
 /// No text is both accepted and refused.
 pub fn accepted_or_refused()

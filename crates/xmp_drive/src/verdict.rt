@@ -17,7 +17,7 @@ use std::alloc::Global;
 use xmp_base::{Fault, Phase, Refusal};
 use xmp_prog::{Kind, Prog};
 use xmp_source::tree_of;
-use xmp_tree::Tree;
+use xmp_syntax::Tree;
 use xmp_typed::{elaborate, text_numbers_lie};
 
 // What the tree of a program with a coarray is refused for.

@@ -11,18 +11,18 @@ use Rattle.xmp_lex.specs.declared.token.Token.{Token}
 use Rattle.xmp_lex.specs.declared.token.TokenKind.{TokenKind}
 use Rattle.xmp_lex.specs.declared.token.TokenKind.TheVariants as t
 use Rattle.xmp_lex.specs.Lines.{IsFinished}
-use Rattle.xmp_tree.specs.declared.program.Tree.{Tree}
-use Rattle.xmp_tree.specs.Reading.{Rule, Depths, depths, State, reading, Reads, here, onward}
-use Rattle.xmp_tree.specs.Grammar.{rule, is_finish}
-use Rattle.xmp_tree.specs.Refused.{Stuck, TooDeep, IsProgram, start, program_rules}
-use Rattle.xmp_tree.specs.Spell.{◌at◌, each, top_item}
-use Rattle.xmp_tree.specs.Fits.{FitsTree}
-use Rattle.xmp_tree.specs.Steps.{Local, no_token, one_token, two_tokens, local, regroup, StuckAt}
-use Rattle.xmp_parse.specs.declared.depth.Depth.{Depth}
-use Rattle.xmp_parse.specs.Going.{has_finish, left_at, Comes}
+use Rattle.xmp_syntax.specs.declared.program.Tree.{Tree}
+use Rattle.xmp_syntax.specs.Reading.{Rule, Depths, depths, State, reading, Reads, here, onward}
+use Rattle.xmp_syntax.specs.Grammar.{rule, is_finish}
+use Rattle.xmp_syntax.specs.Refused.{Stuck, TooDeep, IsProgram, start, program_rules}
+use Rattle.xmp_syntax.specs.Spell.{◌at◌, each, top_item}
+use Rattle.xmp_syntax.specs.Fits.{FitsTree}
+use Rattle.xmp_syntax.specs.Steps.{Local, no_token, one_token, two_tokens, local, regroup, StuckAt}
+use Rattle.xmp_reader.specs.declared.depth.Depth.{Depth}
+use Rattle.xmp_reader.specs.Going.{has_finish, left_at, Comes}
 use Rattle.xmp_parse.specs.Programs.{StandsAt, Breaks, IsFault}
-use Rattle.xmp_parse.proofs.Taking.{same_depths}
-use Rattle.xmp_parse.proofs.Whole.{shallow_whole, behind_end}
+use Rattle.xmp_reader.proofs.Taking.{same_depths}
+use Rattle.xmp_reader.proofs.Whole.{shallow_whole, behind_end}
 
 -- the end of the text stands there
 or_true : (a b : Bool) → b ≡ true → a || b ≡ true

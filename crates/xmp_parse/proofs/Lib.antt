@@ -1,17 +1,6 @@
-pub mod Taking
-pub mod Held
-pub mod Opening
-pub mod Whole
-pub mod Views
-pub mod Levels
-pub mod Longer
-pub mod Listing
-pub mod Dispatch
-pub mod MaxOrMin
 pub mod ItemsRead
 pub mod PartsRead
 pub mod FirstBreak
 pub mod Statements
-pub mod Passing
 pub mod BlockParts
 pub mod BlockViews

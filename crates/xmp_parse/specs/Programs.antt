@@ -7,17 +7,17 @@ use Rattle.xmp_base.specs.declared.refusal.Fault.TheVariants as fault
 use Rattle.xmp_base.specs.declared.refusal.Phase.TheVariants as phase
 use Rattle.xmp_lex.specs.declared.token.Token.{Token}
 use Rattle.xmp_lex.specs.declared.token.Mark.TheVariants as m
-use Rattle.xmp_tree.specs.declared.program.TopItem.{TopItem}
-use Rattle.xmp_tree.specs.declared.program.TopItem.TheVariants as top
-use Rattle.xmp_tree.specs.Parts as p
-use Rattle.xmp_tree.specs.Reading.{Rule, State, tok, part, plain, many, choice, ◌·◌}
-use Rattle.xmp_tree.specs.Grammar.{is_mark, is_finish, name, comma, semicolon}
-use Rattle.xmp_tree.specs.Fits.{EndsInFunction}
-use Rattle.xmp_tree.specs.Refused.{Stuck, TooDeep, start, program_rules}
-use Rattle.xmp_parse.specs.declared.reader.Reader.{Reader}
-use Rattle.xmp_parse.specs.declared.reader.Stop.{Stop}
-use Rattle.xmp_parse.specs.Effects.{Ended}
-use Rattle.xmp_parse.specs.Going.{Comes, After, Refused, stands}
+use Rattle.xmp_syntax.specs.declared.program.TopItem.{TopItem}
+use Rattle.xmp_syntax.specs.declared.program.TopItem.TheVariants as top
+use Rattle.xmp_syntax.specs.Parts as p
+use Rattle.xmp_syntax.specs.Reading.{Rule, State, tok, part, plain, many, choice, ◌·◌}
+use Rattle.xmp_syntax.specs.Grammar.{is_mark, is_finish, name, comma, semicolon}
+use Rattle.xmp_syntax.specs.Fits.{EndsInFunction}
+use Rattle.xmp_syntax.specs.Refused.{Stuck, TooDeep, start, program_rules}
+use Rattle.xmp_reader.specs.declared.reader.Reader.{Reader}
+use Rattle.xmp_reader.specs.declared.reader.Stop.{Stop}
+use Rattle.xmp_reader.specs.Effects.{Ended}
+use Rattle.xmp_reader.specs.Going.{Comes, After, Refused, stands}
 
 -- A function or a declaration, and the parts behind it.
 abbrev pub definition_rule : Rule

@@ -3,32 +3,30 @@ ghost use Rattle.std.specs.Prelude.{◌≡◌, ◌≤◌, ◌<◌, ◌∷◌, If
 ghost use Rattle.xmp_lex.specs.declared.token.Mark.TheVariants as m;
 ghost use Rattle.xmp_lex.specs.declared.token.TokenKind.TheVariants as t;
 ghost use Rattle.xmp_lex.specs.declared.token.Reserved.TheVariants as w;
-ghost use Rattle.xmp_tree.specs.Parts as p;
-ghost use Rattle.xmp_tree.specs.Reading.{part, many, tok, plain, ◌·◌};
-ghost use Rattle.xmp_tree.specs.Grammar as g;
-ghost use Rattle.xmp_tree.specs.Spell as sp;
-ghost use Rattle.xmp_tree.specs.Spell.{◌at◌};
-ghost use Rattle.xmp_tree.specs.Fits as f;
-ghost use Rattle.xmp_tree.specs.View.{stmt_view, items_view, tasks_view};
-ghost use Rattle.xmp_parse.specs.Going.{Parses};
-ghost use Rattle.xmp_parse.specs.Lines.{part_of_directive, part_of_mapping, IsPlainWord};
+ghost use Rattle.xmp_syntax.specs.Parts as p;
+ghost use Rattle.xmp_syntax.specs.Reading.{part, many, tok, plain, ◌·◌};
+ghost use Rattle.xmp_syntax.specs.Grammar as g;
+ghost use Rattle.xmp_syntax.specs.Spell as sp;
+ghost use Rattle.xmp_syntax.specs.Spell.{◌at◌};
+ghost use Rattle.xmp_syntax.specs.Fits as f;
+ghost use Rattle.xmp_syntax.specs.View.{stmt_view, items_view, tasks_view};
+ghost use Rattle.xmp_reader.specs.Going.{Parses};
+ghost use Rattle.xmp_line_reader.specs.Lines.{part_of_directive, part_of_mapping, IsPlainWord};
 ghost use Rattle.xmp_parse.specs.Blocks.{spell_item, FitsItem, Directs, Holds, LeavesElse};
 
 use crate::declarations::declaration;
-use crate::depth::Depth;
-use crate::effect::Effect;
 use crate::for_heads::{condition, for_head};
-use crate::heads::{loop_line, task_line, tasks_line};
-use crate::lines::plain_line;
-use crate::mappings::mapping_line;
 use crate::plain_statements::plain;
-use crate::reader::{Parsed, Reader};
-use crate::words::{DirectiveWord, MappingWord, directive_word, mapping_word};
 use sqlite_items::{Boxed, Items};
 use std::alloc::{AllocError, Global};
 use xmp_base::Place;
 use xmp_lex::{Mark, Reserved};
-use xmp_tree::{BlockItem, ForHead, Inside, Stmt, TaskLine};
+use xmp_line_reader::{
+    DirectiveWord, MappingWord, directive_word, loop_line, mapping_line, mapping_word, plain_line,
+    task_line, tasks_line,
+};
+use xmp_reader::{Depth, Effect, Parsed, Reader};
+use xmp_syntax::{BlockItem, ForHead, Inside, Stmt, TaskLine};
 
 /// A statement, or a directive.
 #[cycle(statement)]

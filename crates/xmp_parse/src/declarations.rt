@@ -2,22 +2,19 @@
 ghost use Rattle.std.specs.Prelude.{◌≡◌, ◌≤◌, ◌<◌, ⊤, List, [], IfOk, ◌∷◌, length};
 ghost use Rattle.xmp_lex.specs.declared.token.Mark.TheVariants as m;
 ghost use Rattle.xmp_lex.specs.declared.token.TokenKind.TheVariants as t;
-ghost use Rattle.xmp_tree.specs.Parts as p;
-ghost use Rattle.xmp_tree.specs.Reading.{part, many, ◌·◌};
-ghost use Rattle.xmp_tree.specs.Grammar as g;
-ghost use Rattle.xmp_tree.specs.Spell as sp;
-ghost use Rattle.xmp_tree.specs.Fits as f;
-ghost use Rattle.xmp_parse.specs.Going.{Parses, ParsesAll};
+ghost use Rattle.xmp_syntax.specs.Parts as p;
+ghost use Rattle.xmp_syntax.specs.Reading.{part, many, ◌·◌};
+ghost use Rattle.xmp_syntax.specs.Grammar as g;
+ghost use Rattle.xmp_syntax.specs.Spell as sp;
+ghost use Rattle.xmp_syntax.specs.Fits as f;
+ghost use Rattle.xmp_reader.specs.Going.{Parses, ParsesAll};
 ghost use Rattle.xmp_parse.specs.Programs.{Declares};
 
-use crate::effect::Effect;
-use crate::expressions::expression;
-use crate::parts::{Part, dims, more_parts, type_words};
-use crate::reader::{Parsed, Reader};
 use std::alloc::Global;
 use xmp_base::Place;
 use xmp_lex::Mark;
-use xmp_tree::{CommaList, Declaration, Declarator, Expr, Inside, Name, TypeWords};
+use xmp_reader::{Effect, Exprs, Parsed, Part, Reader, dims, expression, more_parts, type_words};
+use xmp_syntax::{CommaList, Declaration, Declarator, Expr, Inside, Name, TypeWords};
 
 /// `":" "[" "*" "]"`
 fn coarray(r: Reader<'_>) -> Parsed<'_, (Place, Inside<Place>)>
@@ -52,7 +49,7 @@ fn array(alloc: Global, name: Name, r: Reader<'_>) -> Parsed<'_, Declarator>
     ensures fits { IfOk result (λ x. f.FitsDeclarator x.0) }
     ensures shorter { IfOk result (λ x. length x.1.tokens.now < length r.entry.tokens.now) }
 {
-    let (sizes, r) = dims::<Expr>(alloc, r)?;
+    let (sizes, r) = dims::<Exprs>(alloc, r)?;
     let (star, r) = any_coarray(r)?;
     Ok((Declarator::Array(name, sizes, star), r))
 }
@@ -86,7 +83,12 @@ pub fn declarator_rest(alloc: Global, name: Name, r: Reader<'_>) -> Parsed<'_, D
     Ok((Declarator::Scalar(name, value), r))
 }
 
-impl Part for Declarator {
+/// Declarators.
+struct Declarators;
+
+impl Part for Declarators {
+    type Made = Declarator;
+
     ghost rule = { part p.declarator };
 
     ghost text = { sp.declarator };
@@ -113,7 +115,7 @@ pub fn declaration_rest(
     ensures shorter { IfOk result (λ x. length x.1.tokens.now < length r.entry.tokens.now) }
 {
     let (first, r) = declarator_rest(alloc, name, r)?;
-    let (more, r) = more_parts::<Declarator>(alloc, r)?;
+    let (more, r) = more_parts::<Declarators>(alloc, r)?;
     let (end, r) = r.mark(Mark::Semicolon, Effect::Separator)?;
     let items = CommaList { first, more };
     Ok((Declaration { ty, items, end }, r))
@@ -131,8 +133,12 @@ pub fn declaration(alloc: Global, r: Reader<'_>) -> Parsed<'_, Declaration>
     declaration_rest(alloc, ty, name, r)
 }
 
-/// A parameter: its type and its name.
-impl Part for (TypeWords, Name) {
+/// Parameters: the type and the name of each.
+pub struct TypedNames;
+
+impl Part for TypedNames {
+    type Made = (TypeWords, Name);
+
     ghost rule = { part p.parameter };
 
     ghost text = { sp.parameter };

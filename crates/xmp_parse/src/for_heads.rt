@@ -3,24 +3,21 @@ ghost use Rattle.std.specs.Prelude.{◌≡◌, ◌≤◌, ◌<◌, false, IfOk, 
 ghost use Rattle.xmp_lex.specs.declared.token.Mark.TheVariants as m;
 ghost use Rattle.xmp_lex.specs.declared.token.TokenKind.TheVariants as t;
 ghost use Rattle.xmp_lex.specs.declared.token.Reserved.TheVariants as w;
-ghost use Rattle.xmp_tree.specs.Parts as p;
-ghost use Rattle.xmp_tree.specs.Reading.{part, ◌·◌};
-ghost use Rattle.xmp_tree.specs.Grammar as g;
-ghost use Rattle.xmp_tree.specs.Spell as sp;
-ghost use Rattle.xmp_tree.specs.Spell.{◌at◌};
-ghost use Rattle.xmp_tree.specs.Fits as f;
-ghost use Rattle.xmp_parse.specs.Going.{Parses, ParsesAll};
+ghost use Rattle.xmp_syntax.specs.Parts as p;
+ghost use Rattle.xmp_syntax.specs.Reading.{part, ◌·◌};
+ghost use Rattle.xmp_syntax.specs.Grammar as g;
+ghost use Rattle.xmp_syntax.specs.Spell as sp;
+ghost use Rattle.xmp_syntax.specs.Spell.{◌at◌};
+ghost use Rattle.xmp_syntax.specs.Fits as f;
+ghost use Rattle.xmp_reader.specs.Going.{Parses, ParsesAll};
 ghost use Rattle.xmp_parse.specs.Counted.{Enters, for_parts};
 
-use crate::changes::{reference, simple};
-use crate::effect::Effect;
-use crate::expressions::expression;
-use crate::mappings::in_parens;
-use crate::reader::{Parsed, Reader};
 use std::alloc::Global;
 use xmp_base::Place;
 use xmp_lex::{Mark, Reserved};
-use xmp_tree::{Expr, ForFirst, ForHead, Inside, Simple};
+use xmp_line_reader::in_parens;
+use xmp_reader::{Effect, Parsed, Reader, expression, reference, simple};
+use xmp_syntax::{Expr, ForFirst, ForHead, Inside, Simple};
 
 /// `if` or `while`, and the condition in parentheses.
 pub fn condition(alloc: Global, word: Reserved, r: Reader<'_>) -> Parsed<'_, (Place, Inside<Expr>)>

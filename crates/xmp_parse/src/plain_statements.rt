@@ -1,27 +1,22 @@
 // Statements that hold no statement and are no directives.
 ghost use Rattle.std.specs.Prelude.{◌≡◌, ◌<◌, false, IfOk, ◌∷◌, length};
 ghost use Rattle.xmp_lex.specs.declared.token.Mark.TheVariants as m;
-ghost use Rattle.xmp_tree.specs.Parts as p;
-ghost use Rattle.xmp_tree.specs.Reading as reading;
-ghost use Rattle.xmp_tree.specs.Reading.{part, many, tok, ◌·◌};
-ghost use Rattle.xmp_tree.specs.Grammar as g;
-ghost use Rattle.xmp_tree.specs.Spell as sp;
-ghost use Rattle.xmp_tree.specs.Fits as f;
-ghost use Rattle.xmp_tree.specs.View.{ref_view, rest_view};
-ghost use Rattle.xmp_parse.specs.Going.{Parses};
+ghost use Rattle.xmp_syntax.specs.Parts as p;
+ghost use Rattle.xmp_syntax.specs.Reading as reading;
+ghost use Rattle.xmp_syntax.specs.Reading.{part, many, tok, ◌·◌};
+ghost use Rattle.xmp_syntax.specs.Grammar as g;
+ghost use Rattle.xmp_syntax.specs.Spell as sp;
+ghost use Rattle.xmp_syntax.specs.Fits as f;
+ghost use Rattle.xmp_syntax.specs.View.{ref_view, rest_view};
+ghost use Rattle.xmp_reader.specs.Going.{Parses};
 ghost use Rattle.xmp_parse.specs.Counted.{HoldsNone};
 
-use crate::changes::{reference, simple};
-use crate::effect::Effect;
-use crate::expressions::expression;
-use crate::marks::Class;
-use crate::parts::more_parts;
-use crate::reader::{Parsed, Reader};
 use sqlite_items::{Boxed, Items};
 use std::alloc::Global;
 use xmp_base::Place;
 use xmp_lex::{Mark, Reserved};
-use xmp_tree::{Expr, Format, Inside, Next, Plain, Reference};
+use xmp_reader::{Class, Effect, Exprs, Parsed, Reader, expression, more_parts, reference, simple};
+use xmp_syntax::{Expr, Format, Inside, Next, Plain, Reference};
 
 fn empty(r: Reader<'_>) -> Parsed<'_, Plain>
     ensures goes { Parses (g.rule p.empty) r.entry result }
@@ -57,7 +52,7 @@ fn return_statement(alloc: Global, r: Reader<'_>) -> Parsed<'_, Plain>
 }
 
 /// The format and the values of `printf`, in parentheses.
-#[tactic(auto, using(crate::proofs::Views::rest_spelled, crate::proofs::Views::rest_fits))]
+#[tactic(auto, using(xmp_reader::proofs::Views::rest_spelled, xmp_reader::proofs::Views::rest_fits))]
 fn print_list(alloc: Global, r: Reader<'_>) -> Parsed<'_, Inside<(Format, Items<Next<Expr>>)>>
     ensures goes { Parses (g.parens (tok reading.plain g.is_text · many (g.is_mark m.Comma) (g.comma · g.expr))) r.entry result }
     ensures reads { IfOk result (λ x. r.entry.tokens.now ≡ sp.in_parens sp.print_list x.0 x.1.tokens.now) }
@@ -67,7 +62,7 @@ fn print_list(alloc: Global, r: Reader<'_>) -> Parsed<'_, Inside<(Format, Items<
     let outer = r.depth;
     let (open, r) = r.mark(Mark::OpenParen, Effect::Opening)?;
     let (format, r) = r.format(alloc)?;
-    let (values, r) = more_parts::<Expr>(alloc, r)?;
+    let (values, r) = more_parts::<Exprs>(alloc, r)?;
     let (close, r) = r.mark(Mark::CloseParen, Effect::Closing(outer))?;
     let item = (format, values);
     Ok((Inside { open, item, close }, r))

@@ -8,10 +8,10 @@ use Rattle.xmp_base.specs.declared.refusal.Fault.TheVariants as fault
 use Rattle.xmp_lex.specs.declared.token.Token.{Token}
 use Rattle.xmp_lex.specs.Cut.{Cut, BreaksLexRule, IsRefused}
 use Rattle.xmp_lex.specs.Expand.{Event, Expands, Expanded, BreaksMacros, IsMacroRefusal, tokens_of}
-use Rattle.xmp_tree.specs.declared.program.Tree.{Tree}
-use Rattle.xmp_tree.specs.Fits.{FitsTree}
-use Rattle.xmp_tree.specs.Spell.{tokens}
-use Rattle.xmp_tree.specs.Refused.{IsProgram, Stuck, TooDeep, start, program_rules}
+use Rattle.xmp_syntax.specs.declared.program.Tree.{Tree}
+use Rattle.xmp_syntax.specs.Fits.{FitsTree}
+use Rattle.xmp_syntax.specs.Spell.{tokens}
+use Rattle.xmp_syntax.specs.Refused.{IsProgram, Stuck, TooDeep, start, program_rules}
 use Rattle.xmp_parse.specs.Programs as syntax
 use Rattle.xmp_source.specs.Source.{Comes, IsTreeOf, Breaks, in_text, in_macros, in_syntax, IsSourceFault}
 

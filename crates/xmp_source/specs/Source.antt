@@ -6,8 +6,8 @@ use Rattle.xmp_base.specs.declared.refusal.Fault.TheVariants as fault
 use Rattle.xmp_lex.specs.declared.token.Token.{Token}
 use Rattle.xmp_lex.specs.Cut.{Cut, IsRefused}
 use Rattle.xmp_lex.specs.Expand.{Expanded, IsMacroRefusal}
-use Rattle.xmp_tree.specs.declared.program.Tree.{Tree}
-use Rattle.xmp_tree.specs.Refused.{IsProgram}
+use Rattle.xmp_syntax.specs.declared.program.Tree.{Tree}
+use Rattle.xmp_syntax.specs.Refused.{IsProgram}
 use Rattle.xmp_parse.specs.Programs.{IsFault}
 
 -- The text is cut into tokens that come to these, their definitions replaced.

@@ -2,11 +2,11 @@
 ghost use Rattle.std.specs.Prelude.{◌≡◌, ℕ, List};
 ghost use Rattle.xmp_base.specs.declared.refusal.Refusal.{Refusal};
 ghost use Rattle.xmp_base.specs.declared.refusal.Fault.TheVariants as fault;
-ghost use Rattle.xmp_tree.specs.declared.program.Tree.{Tree};
+ghost use Rattle.xmp_syntax.specs.declared.program.Tree.{Tree};
 ghost use Rattle.xmp_source.specs.Source.{Breaks, IsTreeOf};
 
 use xmp_lex::{cut_or_refused, expanded_or_refused, one_cut, one_expansion};
-use xmp_tree::{program_or_refused, same_tokens};
+use xmp_syntax::{program_or_refused, same_tokens};
 
 /// A text has one tree at most, places included.
 pub fn one_source_tree()

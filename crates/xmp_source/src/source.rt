@@ -11,7 +11,7 @@ use std::vec::Vec;
 use xmp_base::Fault;
 use xmp_lex::{Token, expand, lex};
 use xmp_parse::parse;
-use xmp_tree::Tree;
+use xmp_syntax::Tree;
 
 /// The tokens that a text comes to, their definitions replaced.
 fn expanded(alloc: Global, text: &[u8]) -> Result<Vec<Token>, Fault>

@@ -4,7 +4,7 @@ use std::alloc::Global;
 use xmp_base::{Bytes, Place};
 use xmp_lex::Mark;
 use xmp_num::Ty;
-use xmp_tree::*;
+use xmp_syntax::*;
 
 pub const AT: Place = Place { line: 1, column: 1 };
 

@@ -4,7 +4,7 @@ use sqlite_items::{Boxed, Items};
 use std::alloc::Global;
 use xmp_base::Place;
 use xmp_lex::Mark;
-use xmp_tree::*;
+use xmp_syntax::*;
 
 pub type Item = Option<BlockItem<Stmt>>;
 

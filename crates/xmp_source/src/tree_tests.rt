@@ -6,7 +6,7 @@ use std::fmt::Write;
 use std::test::Fail;
 use xmp_lex::{Mark, TokenKind, lex};
 use xmp_num::Ty;
-use xmp_tree::*;
+use xmp_syntax::*;
 
 fn show_bytes(row: &mut String, bytes: &[u8]) -> Result<(), Fail> {
     for byte in bytes {

@@ -3,13 +3,13 @@ use Rattle.std.proofs.lemmas.Result.{err_from_is_err_and}
 use Rattle.xmp_lex.specs.declared.token.TokenKind.TheVariants as t
 use Rattle.xmp_lex.specs.declared.token.Mark.TheVariants as m
 use Rattle.xmp_lex.specs.declared.token.Reserved.TheVariants as reserved
-use Rattle.xmp_tree.specs.Grammar as g
-use Rattle.xmp_tree.specs.Grammar.{directive_of, line_of}
-use Rattle.xmp_parse.proofs.Held.{is_this_mark, is_this_word, is_this_pragma}
-use Rattle.xmp_parse.proofs.Opening.{seq, into, skip, first, second, again, no_more, chosen}
-use Rattle.xmp_parse.proofs.Listing.{split, whole, once_more, if_so, if_not, none_so_far, one_more, entered}
+use Rattle.xmp_syntax.specs.Grammar as g
+use Rattle.xmp_syntax.specs.Grammar.{directive_of, line_of}
+use Rattle.xmp_reader.proofs.Held.{is_this_mark, is_this_word, is_this_pragma}
+use Rattle.xmp_reader.proofs.Opening.{seq, into, skip, first, second, again, no_more, chosen}
+use Rattle.xmp_reader.proofs.Listing.{split, whole, once_more, if_so, if_not, none_so_far, one_more, entered}
 use Rattle.xmp_parse.proofs.Statements.{statement_at}
-use Rattle.xmp_parse.proofs.Dispatch.{by_line, directive_in_block, by_directive, by_no_directive, agrees}
+use Rattle.xmp_line_reader.proofs.Dispatch.{by_line, directive_in_block, by_directive, by_no_directive, agrees}
 use Rattle.xmp_parse.proofs.ItemsRead.{once_more_not, no_more_not, items_each, items_fit}
 use Rattle.xmp_parse.proofs.BlockParts.{a_declaration, a_line, statement_comes, statement_refused, left_behind, no_other, tasks_each, tasks_fit}
 use Rattle.xmp_parse.proofs.BlockViews.{view_else}

@@ -1,8 +1,8 @@
 use Rattle.std.proofs.Common.{subst}
-use Rattle.xmp_tree.specs.Reading.{reading}
-use Rattle.xmp_tree.specs.Refused.{start, program_rules}
-use Rattle.xmp_parse.specs.declared.reader.Stop.{Stop}
-use Rattle.xmp_parse.specs.Going.{Refused}
+use Rattle.xmp_syntax.specs.Reading.{reading}
+use Rattle.xmp_syntax.specs.Refused.{start, program_rules}
+use Rattle.xmp_reader.specs.declared.reader.Stop.{Stop}
+use Rattle.xmp_reader.specs.Going.{Refused}
 use Rattle.xmp_parse.proofs.FirstBreak.{finish_there, deep_fault}
 use Rattle.xmp_parse.proofs.programs.judged.Goals as goal
 

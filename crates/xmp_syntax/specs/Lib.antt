@@ -1,0 +1,12 @@
+pub mod Parts
+pub mod Reading
+pub mod Grammar
+pub mod Trees
+pub mod View
+pub mod Spell
+pub mod Fits
+pub mod Refused
+pub mod Steps
+pub mod Seen
+pub mod Shape
+pub mod Fronts
