@@ -252,11 +252,11 @@ fn nodes(alloc: Global, start: Place, r: Reader<'_>) -> Parsed<'_, Mapping>
         let line = DirectiveLine { start, word, end };
         return Ok((Mapping::NodesStar(line, name, star), r));
     }
+    let mut sizes = Items::new(alloc);
     let (first, r) = size_behind(alloc, outer, open, r)?;
+    sizes.push(first)?;
     let (more, r) = any_dims::<Exprs>(alloc, r)?;
     let (end, r) = r.line_end()?;
-    let mut sizes = Items::new(alloc);
-    sizes.push(first)?;
     sizes.append(more)?;
     let line = DirectiveLine { start, word, end };
     Ok((Mapping::Nodes(line, name, sizes), r))

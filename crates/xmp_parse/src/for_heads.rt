@@ -112,6 +112,18 @@ fn any_next(alloc: Global, r: Reader<'_>) -> Parsed<'_, Option<Simple>>
     Ok((Some(next), r))
 }
 
+/// The semicolon behind the condition of `for`, and the last part.
+fn next_part(alloc: Global, r: Reader<'_>) -> Parsed<'_, (Place, Option<Simple>)>
+    ensures goes { Parses (g.semicolon · g.optional (λ k. not (g.is_mark m.CloseParen k)) (part p.simple)) r.entry result }
+    ensures reads { IfOk result (λ x. r.entry.tokens.now ≡ sp.sign m.Semicolon x.0.0 (sp.optional sp.spell_simple x.0.1 x.1.tokens.now)) }
+    ensures fits { IfOk result (λ x. f.If f.FitsSimple x.0.1) }
+    ensures shorter { IfOk result (λ x. length x.1.tokens.now < length r.entry.tokens.now) }
+{
+    let (end, r) = r.mark(Mark::Semicolon, Effect::Separator)?;
+    let (next, r) = any_next(alloc, r)?;
+    Ok(((end, next), r))
+}
+
 /// The condition, its semicolon and the last part of `for`.
 #[derive(Drop)]
 struct LastParts {
@@ -127,14 +139,32 @@ fn last_parts(alloc: Global, r: Reader<'_>) -> Parsed<'_, LastParts>
     ensures shorter { IfOk result (λ x. length x.1.tokens.now < length r.entry.tokens.now) }
 {
     let (test, r) = any_test(alloc, r)?;
-    let (test_end, r) = r.mark(Mark::Semicolon, Effect::Separator)?;
-    let (next, r) = any_next(alloc, r)?;
-    let made = LastParts {
-        test,
-        test_end,
-        next,
-    };
-    Ok((made, r))
+    match next_part(alloc, r) {
+        Ok(((test_end, next), r)) => Ok((
+            LastParts {
+                test,
+                test_end,
+                next,
+            },
+            r,
+        )),
+        Err(stop) => {
+            drop(test);
+            Err(stop)
+        }
+    }
+}
+
+/// The semicolon behind the first part of `for`, and the parts behind it.
+fn later_parts(alloc: Global, r: Reader<'_>) -> Parsed<'_, (Place, LastParts)>
+    ensures goes { Parses (g.semicolon · g.optional (λ k. not (g.is_mark m.Semicolon k)) g.expr · g.semicolon · g.optional (λ k. not (g.is_mark m.CloseParen k)) (part p.simple)) r.entry result }
+    ensures reads { IfOk result (λ x. r.entry.tokens.now ≡ sp.sign m.Semicolon x.0.0 (sp.optional sp.expr x.0.1.test (sp.sign m.Semicolon x.0.1.test_end (sp.optional sp.spell_simple x.0.1.next x.1.tokens.now)))) }
+    ensures fits { IfOk result (λ x. f.If f.FitsExpr x.0.1.test × f.If f.FitsSimple x.0.1.next) }
+    ensures shorter { IfOk result (λ x. length x.1.tokens.now < length r.entry.tokens.now) }
+{
+    let (end, r) = r.mark(Mark::Semicolon, Effect::Separator)?;
+    let (last, r) = last_parts(alloc, r)?;
+    Ok(((end, last), r))
 }
 
 /// The first part of `for` and its semicolon, and the parts behind.
@@ -152,14 +182,38 @@ fn all_parts(alloc: Global, r: Reader<'_>) -> Parsed<'_, AllParts>
     ensures shorter { IfOk result (λ x. length x.1.tokens.now < length r.entry.tokens.now) }
 {
     let (first, r) = any_first(alloc, r)?;
-    let (end, r) = r.mark(Mark::Semicolon, Effect::Separator)?;
-    let (last, r) = last_parts(alloc, r)?;
-    let made = AllParts {
-        first,
-        first_end: end,
-        last,
-    };
-    Ok((made, r))
+    match later_parts(alloc, r) {
+        Ok(((first_end, last), r)) => Ok((
+            AllParts {
+                first,
+                first_end,
+                last,
+            },
+            r,
+        )),
+        Err(stop) => {
+            drop(first);
+            Err(stop)
+        }
+    }
+}
+
+/// The head of these parts and of the places around them.
+fn head_of(word: Place, open: Place, parts: AllParts, close: Place) -> ForHead
+    ensures first { (result.first ≡ parts.first) × (result.first_end ≡ parts.first_end) }
+    ensures last { (result.test ≡ parts.last.test) × (result.test_end ≡ parts.last.test_end) × (result.next ≡ parts.last.next) }
+    ensures places { (result.word ≡ word) × (result.open ≡ «open») × (result.close ≡ close) }
+{
+    ForHead {
+        word,
+        open,
+        first: parts.first,
+        first_end: parts.first_end,
+        test: parts.last.test,
+        test_end: parts.last.test_end,
+        next: parts.last.next,
+        close,
+    }
 }
 
 /// The three parts of `for` in parentheses, behind its word.
@@ -172,28 +226,13 @@ fn head_behind(alloc: Global, word: Place, r: Reader<'_>) -> Parsed<'_, ForHead>
     let outer = r.depth;
     let (open, r) = r.mark(Mark::OpenParen, Effect::Opening)?;
     let (parts, r) = all_parts(alloc, r)?;
-    let (close, r) = r.mark(Mark::CloseParen, Effect::Closing(outer))?;
-    let AllParts {
-        first,
-        first_end,
-        last,
-    } = parts;
-    let LastParts {
-        test,
-        test_end,
-        next,
-    } = last;
-    let head = ForHead {
-        word,
-        open,
-        first,
-        first_end,
-        test,
-        test_end,
-        next,
-        close,
-    };
-    Ok((head, r))
+    match r.mark(Mark::CloseParen, Effect::Closing(outer)) {
+        Ok((close, r)) => Ok((head_of(word, open, parts, close), r)),
+        Err(stop) => {
+            drop(parts);
+            Err(stop)
+        }
+    }
 }
 
 /// `for` and its three parts.

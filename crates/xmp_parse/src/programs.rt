@@ -26,7 +26,7 @@ use xmp_base::Fault;
 use xmp_lex::{Mark, Token};
 use xmp_line_reader::mapping;
 use xmp_reader::{Effect, Parsed, Reader, Stop, start, type_words};
-use xmp_syntax::{TopItem, Tree, program_or_refused};
+use xmp_syntax::{TopItem, Tree, never_program_and_refused};
 
 /// A function, or a declaration outside functions.
 fn definition(alloc: Global, r: Reader<'_>) -> Parsed<'_, TopItem>
@@ -139,6 +139,6 @@ pub fn parse(alloc: Global, tokens: &[Token]) -> Result<Tree, Fault>
     ensures fault { IfErr result (λ e. IsFault tokens.now e) }
     ensures no_other { (x : Tree) → IsProgram tokens.now x → IfErr result (λ e. e ≡ fault.NoMemory) }
 {
-    program_or_refused();
+    never_program_and_refused();
     judged(alloc, tokens)
 }

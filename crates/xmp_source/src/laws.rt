@@ -6,7 +6,7 @@ ghost use Rattle.xmp_syntax.specs.declared.program.Tree.{Tree};
 ghost use Rattle.xmp_source.specs.Source.{Breaks, IsTreeOf};
 
 use xmp_lex::{cut_or_refused, expanded_or_refused, one_cut, one_expansion};
-use xmp_syntax::{program_or_refused, same_tokens};
+use xmp_syntax::{never_program_and_refused, same_tokens};
 
 /// A text has one tree at most, places included.
 pub fn one_source_tree()
@@ -25,5 +25,5 @@ pub fn tree_or_refused()
     one_expansion();
     cut_or_refused();
     expanded_or_refused();
-    program_or_refused();
+    never_program_and_refused();
 }

@@ -26,3 +26,5 @@ pub mod MadeStatements
 pub mod MadeBlocks
 pub mod MadeProgram
 pub mod Fronts
+pub mod Readings
+pub mod DeepTokens

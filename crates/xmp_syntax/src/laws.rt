@@ -3,13 +3,13 @@ ghost use Rattle.std.specs.Prelude.{◌≡◌, ◌++◌, ℕ, List};
 ghost use Rattle.xmp_lex.specs.declared.token.Token.{Token};
 ghost use Rattle.xmp_syntax.specs.declared.program.Tree.{Tree};
 ghost use Rattle.xmp_syntax.specs.Fits.{FitsTree};
-ghost use Rattle.xmp_syntax.specs.Fronts.{IsFront};
+ghost use Rattle.xmp_syntax.specs.Fronts.{IsFront, FirstBad};
 ghost use Rattle.xmp_syntax.specs.Shape.{tree_shape};
 ghost use Rattle.xmp_syntax.specs.Spell.{spelling, tokens};
 ghost use Rattle.xmp_syntax.specs.Refused.{Begins, IsProgram, Stuck, TooDeep, start, program_rules};
 
 /// No tokens are both a program and refused.
-pub fn program_or_refused()
+pub fn never_program_and_refused()
     ensures stuck { (ts : List Token) (x : Tree) (left : ℕ) → IsProgram ts x → Stuck start program_rules ts left → ⊥ }
     ensures deep { (ts : List Token) (x : Tree) (left : ℕ) → IsProgram ts x → TooDeep start program_rules ts left → ⊥ }
 {}
@@ -22,6 +22,22 @@ pub fn shorter_begins()
 /// There is one token at most from which on tokens begin no program: the least.
 pub fn one_stuck_token()
     ensures { (ts : List Token) (left other : ℕ) → Stuck start program_rules ts left → Stuck start program_rules ts other → left ≡ other }
+{}
+
+/// There is one token at most that is the first to stand too deep.
+pub fn one_deep_token()
+    ensures { (ts : List Token) (left other : ℕ) → TooDeep start program_rules ts left → TooDeep start program_rules ts other → left ≡ other }
+{}
+
+/// No tokens have both a token from which on they begin no program, those before it not too deep, and a first one too deep.
+pub fn never_stuck_and_deep()
+    ensures { (ts : List Token) (left other : ℕ) → Stuck start program_rules ts left → TooDeep start program_rules ts other → ⊥ }
+{}
+
+/// Tokens cease to begin a program by the grammar exactly where they cease to be the front of a tree that fits.
+pub fn first_bad_token()
+    ensures front { (ts : List Token) (left : ℕ) → Stuck start program_rules ts left → FirstBad ts left }
+    ensures stuck { (ts : List Token) (left : ℕ) → FirstBad ts left → Stuck start program_rules ts left }
 {}
 
 /// Two trees that fit and have one spelling have one shape.

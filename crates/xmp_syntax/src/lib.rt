@@ -19,7 +19,8 @@ pub use directive::{
 };
 pub use expression::Expr;
 pub use laws::{
-    begins_a_program, one_stuck_token, one_tree, program_or_refused, same_tokens, shorter_begins,
+    begins_a_program, first_bad_token, never_program_and_refused, never_stuck_and_deep,
+    one_deep_token, one_stuck_token, one_tree, same_tokens, shorter_begins,
 };
 pub use parts::{
     Call, CommaList, Format, Image, Inside, Link, Name, Next, Placed, Reference, TypeWords,

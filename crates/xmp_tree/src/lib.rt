@@ -13,5 +13,5 @@ pub use xmp_syntax::{
     Expr, ForFirst, ForHead, Format, Function, Image, Inside, Link, LoopLine, Mapping, Name, Next,
     Parameters, Placed, Plain, Point, Reduction, ReductionOperator, Reference, Section, Sections,
     Simple, Stmt, TaskLine, TopItem, Tree, TypeWords, begins_a_program, one_stuck_token, one_tree,
-    program_or_refused, same_tokens, shorter_begins,
+    never_program_and_refused, same_tokens, shorter_begins,
 };

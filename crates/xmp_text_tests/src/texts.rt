@@ -1,8 +1,8 @@
 // Whole texts: which are programs, and where the others cease to be.
-use crate::source::tree_of;
 use std::alloc::Global;
 use std::test::Fail;
 use xmp_base::Fault;
+use xmp_source::tree_of;
 
 /// The rule of a refusal with its line and column, 0 for want of memory.
 fn rule_and_place(fault: Fault) -> (u16, u32, u32) {
@@ -13,7 +13,7 @@ fn rule_and_place(fault: Fault) -> (u16, u32, u32) {
 }
 
 /// The rule that the text breaks with its line and column, or nothing for a program.
-fn broken(alloc: Global, text: &[u8]) -> Option<(u16, u32, u32)> {
+pub fn broken(alloc: Global, text: &[u8]) -> Option<(u16, u32, u32)> {
     if text.len() > 1048576 {
         return Some((0, 0, 0));
     }
@@ -24,7 +24,7 @@ fn broken(alloc: Global, text: &[u8]) -> Option<(u16, u32, u32)> {
 }
 
 // Whole texts, and the rule that each breaks with its line and column, or nothing where it is a program.
-const TEXTS: [(&[u8], Option<(u16, u32, u32)>); 24] = [
+pub const TEXTS: [(&[u8], Option<(u16, u32, u32)>); 24] = [
     (b"", Some((1, 1, 1))),
     (b"int main(){}", None),
     (b"#pragma xmp nodes p[", Some((1, 1, 21))),
@@ -55,7 +55,7 @@ const TEXTS: [(&[u8], Option<(u16, u32, u32)>); 24] = [
 ];
 
 // Statements of `main`, which begin at 1:12.
-const STATEMENTS: [(&str, Option<(u16, u32, u32)>); 47] = [
+pub const STATEMENTS: [(&str, Option<(u16, u32, u32)>); 47] = [
     ("", None),
     (";", None),
     ("int x; x = 1;", None),
@@ -111,7 +111,7 @@ const STATEMENTS: [(&str, Option<(u16, u32, u32)>); 47] = [
     ("++x++;", Some((1, 1, 15))),
 ];
 
-const MORE_STATEMENTS: [(&str, Option<(u16, u32, u32)>); 56] = [
+pub const MORE_STATEMENTS: [(&str, Option<(u16, u32, u32)>); 56] = [
     ("++1;", Some((1, 1, 14))),
     ("-x;", Some((1, 1, 12))),
     ("f(); f(1);", None),
@@ -171,7 +171,7 @@ const MORE_STATEMENTS: [(&str, Option<(u16, u32, u32)>); 56] = [
 ];
 
 // Lines behind `#pragma xmp ` in `main`, which begin at 2:13, and what follows from 3:1 on.
-const LINES: [(&str, &str, Option<(u16, u32, u32)>); 75] = [
+pub const LINES: [(&str, &str, Option<(u16, u32, u32)>); 75] = [
     ("nodes p[4]", "", None),
     ("nodes p[2][2]", "", None),
     ("nodes p[*]", "", None),
@@ -322,233 +322,7 @@ fn directives_are_judged(rt: HostRuntime) -> Result<(), Fail> {
     Ok(())
 }
 
-// A beginning, a piece that opens a part, how often, the middle, a piece that closes one, and the end.
-const NESTED: [(&str, &str, usize, &str, &str, &str, Option<(u16, u32, u32)>); 32] = [
-    ("int x = ", "(", 128, "1", ")", ";int main(){}", None),
-    (
-        "int x = ",
-        "(",
-        129,
-        "1",
-        ")",
-        ";int main(){}",
-        Some((2, 1, 137)),
-    ),
-    ("int x = ", "a[", 128, "1", "]", ";int main(){}", None),
-    (
-        "int x = ",
-        "a[",
-        129,
-        "1",
-        "]",
-        ";int main(){}",
-        Some((2, 1, 266)),
-    ),
-    ("int x = ", "f(", 128, "1", ")", ";int main(){}", None),
-    (
-        "int x = ",
-        "f(",
-        129,
-        "1",
-        ")",
-        ";int main(){}",
-        Some((2, 1, 266)),
-    ),
-    ("int x = ", "a:[", 128, "1", "]", ";int main(){}", None),
-    (
-        "int x = ",
-        "a:[",
-        129,
-        "1",
-        "]",
-        ";int main(){}",
-        Some((2, 1, 395)),
-    ),
-    ("int x = ", "- ", 128, "1", "", ";int main(){}", None),
-    (
-        "int x = ",
-        "- ",
-        129,
-        "1",
-        "",
-        ";int main(){}",
-        Some((2, 1, 265)),
-    ),
-    ("int x = ", "(int)", 127, "1", "", ";int main(){}", None),
-    ("int x = ", "(int)", 128, "1", "", ";int main(){}", None),
-    (
-        "int x = ",
-        "(int)",
-        129,
-        "1",
-        "",
-        ";int main(){}",
-        Some((2, 1, 649)),
-    ),
-    ("int x = 1", "+1", 128, "", "", ";int main(){}", None),
-    (
-        "int x = 1",
-        "+1",
-        129,
-        "",
-        "",
-        ";int main(){}",
-        Some((2, 1, 266)),
-    ),
-    ("int x = ", "1?1:", 64, "1", "", ";int main(){}", None),
-    (
-        "int x = ",
-        "1?1:",
-        65,
-        "1",
-        "",
-        ";int main(){}",
-        Some((2, 1, 266)),
-    ),
-    ("int x = ", "1?", 64, "1", ":1", ";int main(){}", None),
-    (
-        "int x = ",
-        "1?",
-        65,
-        "1",
-        ":1",
-        ";int main(){}",
-        Some((2, 1, 266)),
-    ),
-    ("int main()", "{", 128, "", "}", "", None),
-    ("int main()", "{", 129, "", "}", "", Some((2, 1, 139))),
-    ("int main(){", "while(1)", 126, ";", "", "}", None),
-    (
-        "int main(){",
-        "while(1)",
-        127,
-        ";",
-        "",
-        "}",
-        Some((2, 1, 1025)),
-    ),
-    ("int main(){", "if(1)", 126, ";", "", "}", None),
-    ("int main(){", "if(1)", 127, ";", "", "}", Some((2, 1, 644))),
-    ("int main(){", "for(;;)", 126, ";", "", "}", None),
-    (
-        "int main(){",
-        "for(;;)",
-        127,
-        ";",
-        "",
-        "}",
-        Some((2, 1, 897)),
-    ),
-    ("int main(){", "if(1);else ", 126, ";", "", "}", None),
-    ("int main(){ x = 1", "+1", 127, "", "", ";}", None),
-    (
-        "int main(){ x = 1",
-        "+1",
-        128,
-        "",
-        "",
-        ";}",
-        Some((2, 1, 272)),
-    ),
-    (
-        "int x = 1",
-        "+f(1+1+1+1,2+2)",
-        60,
-        "",
-        "",
-        ";int main(){}",
-        None,
-    ),
-    ("int main(){ f(1", "+1", 126, "", "", ",1+1);}", None),
-];
-
-const NESTED_STATEMENTS: [(&str, usize, &str, &str, Option<(u16, u32, u32)>); 7] = [
-    ("if(1);else ", 127, ";", "", Some((2, 1, 1400))),
-    ("\n#pragma xmp loop on t[*]\nfor(;;)", 63, ";", "", None),
-    (
-        "\n#pragma xmp loop on t[*]\nfor(;;)",
-        64,
-        ";",
-        "",
-        Some((2, 128, 22)),
-    ),
-    ("\n#pragma xmp task on p[0]", 126, "\n;", "", None),
-    (
-        "\n#pragma xmp task on p[0]",
-        127,
-        "\n;",
-        "",
-        Some((2, 128, 22)),
-    ),
-    (
-        "\n#pragma xmp tasks\n{\n#pragma xmp task on p[0]\n",
-        42,
-        ";",
-        "}",
-        None,
-    ),
-    (
-        "\n#pragma xmp tasks\n{\n#pragma xmp task on p[0]\n",
-        43,
-        ";",
-        "}",
-        Some((2, 171, 1)),
-    ),
-];
-
-fn repeat(text: &mut String, piece: &str, count: usize) -> Result<(), Fail> {
-    for _ in 0..count {
-        text.push_str(piece)?;
-    }
-    Ok(())
-}
-
-/// So many pieces one in another, between a beginning and an end.
-fn nested(
-    alloc: Global,
-    begin: &str,
-    open: &str,
-    count: usize,
-    middle: &str,
-    close: &str,
-    end: &str,
-) -> Result<String, Fail> {
-    let mut text = String::new(alloc);
-    text.push_str(begin)?;
-    repeat(&mut text, open, count)?;
-    text.push_str(middle)?;
-    repeat(&mut text, close, count)?;
-    text.push_str(end)?;
-    Ok(text)
-}
-
-#[test]
-fn depth_is_limited(rt: HostRuntime) -> Result<(), Fail> {
-    for (begin, open, count, middle, close, end, expected) in NESTED {
-        let text = nested(rt.alloc(), begin, open, count, middle, close, end)?;
-        assert_eq!(rt;
-            broken(rt.alloc(), text.as_bytes()),
-            expected,
-            "{begin} {open} {count}"
-        );
-    }
-    Ok(())
-}
-
-#[test]
-fn depth_of_statements_is_limited(rt: HostRuntime) -> Result<(), Fail> {
-    for (open, count, middle, close, expected) in NESTED_STATEMENTS {
-        let text = nested(rt.alloc(), "int main(){", open, count, middle, close, "}")?;
-        assert_eq!(rt;
-            broken(rt.alloc(), text.as_bytes()),
-            expected,
-            "{open} {count}"
-        );
-    }
-    Ok(())
-}
-
-const SHADOWED: &[u8] = b"#define N 8
+pub const SHADOWED: &[u8] = b"#define N 8
 int a[N], b[N], i, s;
 #pragma xmp nodes p[4]
 #pragma xmp template t[N]
@@ -573,15 +347,5 @@ fn no_beginning_of_a_program_is_one(rt: HostRuntime) -> Result<(), Fail> {
         let beginning = SHADOWED.get(..length).unwrap_or(b"");
         assert!(rt; broken(rt.alloc(), beginning).is_some(), "{length}");
     }
-    Ok(())
-}
-
-#[test]
-fn long_texts_are_read(rt: HostRuntime) -> Result<(), Fail> {
-    // 200,000 tokens with the end of the text
-    let text = nested(rt.alloc(), "int main(){", ";", 199993, "", "", "}")?;
-    assert_eq!(rt; broken(rt.alloc(), text.as_bytes()), None);
-    let text = nested(rt.alloc(), "int main(){f(1", ",1", 99993, "", "", ");}")?;
-    assert_eq!(rt; broken(rt.alloc(), text.as_bytes()), None);
     Ok(())
 }

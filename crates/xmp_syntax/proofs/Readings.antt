@@ -7,7 +7,7 @@ use Rattle.xmp_syntax.specs.Grammar.{rule}
 use Rattle.xmp_syntax.specs.Refused.{Begins}
 use Rattle.xmp_syntax.specs.Steps.{Local, no_token, one_token, two_tokens, local, begins_nothing}
 
-abbrev left_at : State → List Token
+abbrev pub left_at : State → List Token
 left_at (reading D K ts) = ts
 
 -- ---- from one place

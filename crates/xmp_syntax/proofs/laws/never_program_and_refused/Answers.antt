@@ -5,7 +5,7 @@ use Rattle.xmp_syntax.specs.declared.program.Tree.{Tree}
 use Rattle.xmp_syntax.specs.Refused.{IsProgram, Stuck, TooDeep, start, program_rules}
 use Rattle.xmp_syntax.specs.Steps.{regroup, all_split}
 use Rattle.xmp_syntax.proofs.Programs.{tree_reads}
-use Rattle.xmp_syntax.proofs.laws.program_or_refused.Goals as goal
+use Rattle.xmp_syntax.proofs.laws.never_program_and_refused.Goals as goal
 
 no_refusal : (ts : List Token) (x : Tree) (left : ℕ) → IsProgram ts x → Stuck start program_rules ts left → ⊥
 no_refusal ts x left P S = S.ends ((tree_reads x P.fits).fronts (S.front ++ S.bad ∷ []) S.after (sym P.whole ∙ S.whole ∙ regroup S.front S.bad S.after))
