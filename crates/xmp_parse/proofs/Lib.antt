@@ -4,3 +4,4 @@ pub mod FirstBreak
 pub mod Statements
 pub mod BlockParts
 pub mod BlockViews
+pub mod OneBreak

@@ -1,10 +1,5 @@
--- Parts of programs, and what `parse` answers. Source: this project.
+-- How the parts of programs are read. Source: this project.
 use Rattle.std.specs.Prelude.{◌≡◌, ℕ, List, [], ◌∷◌, ◌++◌, Bool, true, false, length, Result, Ok, Err, ⊤, ◌⊎◌}
-use Rattle.xmp_base.specs.declared.place.Place.{Place}
-use Rattle.xmp_base.specs.declared.refusal.Refusal.{Refusal}
-use Rattle.xmp_base.specs.declared.refusal.Fault.{Fault}
-use Rattle.xmp_base.specs.declared.refusal.Fault.TheVariants as fault
-use Rattle.xmp_base.specs.declared.refusal.Phase.TheVariants as phase
 use Rattle.xmp_lex.specs.declared.token.Token.{Token}
 use Rattle.xmp_lex.specs.declared.token.Mark.TheVariants as m
 use Rattle.xmp_syntax.specs.declared.program.TopItem.{TopItem}
@@ -13,7 +8,6 @@ use Rattle.xmp_syntax.specs.Parts as p
 use Rattle.xmp_syntax.specs.Reading.{Rule, State, tok, part, plain, many, choice, ◌·◌}
 use Rattle.xmp_syntax.specs.Grammar.{is_mark, is_finish, name, comma, semicolon}
 use Rattle.xmp_syntax.specs.Fits.{EndsInFunction}
-use Rattle.xmp_syntax.specs.Refused.{Stuck, TooDeep, start, program_rules}
 use Rattle.xmp_reader.specs.declared.reader.Reader.{Reader}
 use Rattle.xmp_reader.specs.declared.reader.Stop.{Stop}
 use Rattle.xmp_reader.specs.Effects.{Ended}
@@ -61,24 +55,3 @@ Declares r result = (s : State) (L : List (ℕ × ℕ)) (N : Rule) (K : List Rul
 abbrev pub LastIs : Bool → List TopItem → Type 0
 LastIs true xs = EndsInFunction xs
 LastIs false xs = ⊤
-
--- The token from which so many are left stands at this place.
-pub record StandsAt (ts : List Token) (left : ℕ) (at' : Place) : Type 0 where
-  pub front : List Token
-  pub token : Token
-  pub after : List Token
-  pub whole : ts ≡ front ++ token ∷ after
-  pub count : left ≡ length (token ∷ after)
-  pub place : token.at ≡ at'
-
--- A rule of the syntax is broken first at this token: 1 where the tokens up to it begin no program, 2 where it has a depth above 128.
-pub record Breaks (ts : List Token) (x : Refusal) : Type 0 where
-  pub phase : x.phase ≡ phase.Syntax
-  pub left : ℕ
-  pub place : StandsAt ts left x.at
-  pub rule : ((x.rule ≡ 1) × Stuck start program_rules ts left) ⊎ ((x.rule ≡ 2) × TooDeep start program_rules ts left)
-
--- The fault is the first break of a rule, or want of memory.
-abbrev pub IsFault : List Token → Fault → Type 0
-IsFault ts (fault.Refused x) = Breaks ts x
-IsFault ts fault.NoMemory = ⊤

@@ -8,9 +8,11 @@ mod blocks;
 mod declarations;
 mod for_heads;
 mod functions;
+mod laws;
 mod parameter_lists;
 mod plain_statements;
 mod programs;
 mod refusals;
 
+pub use laws::{never_parsed_and_refused, one_syntax_refusal};
 pub use programs::parse;

@@ -15,7 +15,8 @@ ghost use Rattle.xmp_syntax.specs.Refused.{IsProgram, start, program_rules};
 ghost use Rattle.xmp_reader.specs.Effects.{Finishes, Ended};
 ghost use Rattle.xmp_reader.specs.Going.{Refused, has_finish};
 ghost use Rattle.xmp_reader.specs.Kinds.{next_is};
-ghost use Rattle.xmp_parse.specs.Programs.{definition_rule, is_function, LastIs, ReadsPart, ReadsParts, ReadsProgram, IsFault};
+ghost use Rattle.xmp_parse.specs.Faults.{IsFault};
+ghost use Rattle.xmp_parse.specs.Programs.{definition_rule, is_function, LastIs, ReadsPart, ReadsParts, ReadsProgram};
 
 use crate::declarations::declaration_rest;
 use crate::functions::function_rest;

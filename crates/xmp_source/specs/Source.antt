@@ -8,7 +8,7 @@ use Rattle.xmp_lex.specs.Cut.{Cut, IsRefused}
 use Rattle.xmp_lex.specs.Expand.{Expanded, IsMacroRefusal}
 use Rattle.xmp_syntax.specs.declared.program.Tree.{Tree}
 use Rattle.xmp_syntax.specs.Refused.{IsProgram}
-use Rattle.xmp_parse.specs.Programs.{IsFault}
+use Rattle.xmp_parse.specs.Faults.{IsFault}
 
 -- The text is cut into tokens that come to these, their definitions replaced.
 pub record Comes (text : List ℕ) (expanded : List Token) : Type 0 where

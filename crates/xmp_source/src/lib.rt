@@ -5,5 +5,5 @@
 mod laws;
 mod source;
 
-pub use laws::{one_source_tree, tree_or_refused};
+pub use laws::{never_tree_and_refused, one_source_refusal, one_source_tree};
 pub use source::tree_of;
