@@ -16,7 +16,7 @@ use crate::mappings::Points;
 use std::alloc::Global;
 use xmp_base::Place;
 use xmp_lex::Mark;
-use xmp_reader::{Effect, Parsed, Reader, dims, names};
+use xmp_reader::{Effect, NameLists, Parsed, Reader, dims, in_parens};
 use xmp_syntax::{CommaList, DirectiveLine, Inside, LoopLine, Name, Point, TaskLine};
 
 /// The names of a loop directive, where there are some.
@@ -28,7 +28,7 @@ fn loop_names(alloc: Global, r: Reader<'_>) -> Parsed<'_, Option<Inside<CommaLis
     if !r.is_mark(Mark::OpenParen) {
         return Ok((None, r));
     }
-    let (list, r) = names(alloc, r)?;
+    let (list, r) = in_parens::<NameLists>(alloc, r)?;
     Ok((Some(list), r))
 }
 

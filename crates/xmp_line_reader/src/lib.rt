@@ -9,5 +9,5 @@ mod words;
 
 pub use heads::{loop_line, task_line, tasks_line};
 pub use lines::plain_line;
-pub use mappings::{in_parens, mapping, mapping_line};
+pub use mappings::{mapping, mapping_line};
 pub use words::{DirectiveWord, MappingWord, directive_word, mapping_word};

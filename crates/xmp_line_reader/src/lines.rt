@@ -19,9 +19,7 @@ use sqlite_items::Items;
 use std::alloc::Global;
 use xmp_base::Place;
 use xmp_lex::Mark;
-use xmp_reader::{
-    Class, Effect, Parsed, Part, PlainNames, Reader, any_dims, comma_list, expression, names,
-};
+use xmp_reader::{Class, Effect, NameLists, Parsed, Part, Reader, any_dims, expression, in_parens};
 use xmp_syntax::{
     CommaList, DirectiveLine, Expr, Inside, LoopLine, Name, Plain, Point, Reduction,
     ReductionOperator, Section, Sections, TaskLine,
@@ -42,8 +40,13 @@ fn more_numbers(alloc: Global, r: Reader<'_>) -> Parsed<'_, MoreNumbers>
     }
     let (colon, r) = r.mark(Mark::Colon, Effect::Plain)?;
     let (second, r) = expression(alloc, true, r)?;
-    let (third, r) = after_colon(alloc, r)?;
-    Ok(((Some((colon, second)), third), r))
+    match after_colon(alloc, r) {
+        Ok((third, r)) => Ok(((Some((colon, second)), third), r)),
+        Err(stop) => {
+            drop(second);
+            Err(stop)
+        }
+    }
 }
 
 /// The sections of a part of an array.
@@ -64,8 +67,13 @@ impl Part for ArraySections {
             return Ok((Section::All(colon), r));
         }
         let (first, r) = expression(alloc, true, r)?;
-        let ((second, third), r) = more_numbers(alloc, r)?;
-        Ok((Section::Numbers(first, second, third), r))
+        match more_numbers(alloc, r) {
+            Ok((more, r)) => Ok((Section::Numbers(first, more.0, more.1), r)),
+            Err(stop) => {
+                drop(first);
+                Err(stop)
+            }
+        }
     }
 }
 
@@ -87,8 +95,13 @@ impl Part for SetSections {
             return Ok((Section::All(colon), r));
         }
         let (first, r) = expression(alloc, true, r)?;
-        let (second, r) = after_colon(alloc, r)?;
-        Ok((Section::Numbers(first, second, None), r))
+        match after_colon(alloc, r) {
+            Ok((second, r)) => Ok((Section::Numbers(first, second, None), r)),
+            Err(stop) => {
+                drop(first);
+                Err(stop)
+            }
+        }
     }
 }
 
@@ -134,24 +147,27 @@ fn reduction_operator(r: Reader<'_>) -> Parsed<'_, ReductionOperator>
     Ok((ReductionOperator::Min(word), r))
 }
 
-/// The operator, `:` and the names of a reduction, in parentheses.
-fn reduction_list(
-    alloc: Global,
-    r: Reader<'_>,
-) -> Parsed<'_, Inside<(ReductionOperator, Place, CommaList<Name>)>>
-    ensures goes { Parses (g.parens (choice g.is_reduction (tok plain g.is_reduction) (tok plain g.is_max_or_min) · g.sign m.Colon · part p.names)) r.entry result }
-    ensures reads { IfOk result (λ x. r.entry.tokens.now ≡ sp.in_parens sp.reduction_list x.0 x.1.tokens.now) }
-    ensures fits { IfOk result (λ x. f.FitsOperator x.0.item.0) }
-    ensures shorter { IfOk result (λ x. length x.1.tokens.now < length r.entry.tokens.now) }
-{
-    let outer = r.depth;
-    let (open, r) = r.mark(Mark::OpenParen, Effect::Opening)?;
-    let (operator, r) = reduction_operator(r)?;
-    let (colon, r) = r.mark(Mark::Colon, Effect::Plain)?;
-    let (names, r) = comma_list::<PlainNames>(alloc, r)?;
-    let (close, r) = r.mark(Mark::CloseParen, Effect::Closing(outer))?;
-    let item = (operator, colon, names);
-    Ok((Inside { open, item, close }, r))
+/// The operator, `:` and the names of a reduction.
+struct ReductionLists;
+
+impl Part for ReductionLists {
+    type Made = (ReductionOperator, Place, CommaList<Name>);
+
+    ghost rule = { choice g.is_reduction (tok plain g.is_reduction) (tok plain g.is_max_or_min) · g.sign m.Colon · part p.names };
+
+    ghost text = { sp.reduction_list };
+
+    ghost is_fit = { λ x. f.FitsOperator x.0 };
+
+    fn read(
+        alloc: Global,
+        r: Reader<'_>,
+    ) -> Parsed<'_, (ReductionOperator, Place, CommaList<Name>)> {
+        let (operator, r) = reduction_operator(r)?;
+        let (colon, r) = r.mark(Mark::Colon, Effect::Plain)?;
+        let (names, r) = NameLists::read(alloc, r)?;
+        Ok(((operator, colon, names), r))
+    }
 }
 
 fn reduction(alloc: Global, r: Reader<'_>) -> Parsed<'_, Reduction>
@@ -161,7 +177,7 @@ fn reduction(alloc: Global, r: Reader<'_>) -> Parsed<'_, Reduction>
     ensures shorter { IfOk result (λ x. length x.1.tokens.now < length r.entry.tokens.now) }
 {
     let (word, r) = r.spelled(b"reduction", Effect::Plain)?;
-    let (list, r) = reduction_list(alloc, r)?;
+    let (list, r) = in_parens::<ReductionLists>(alloc, r)?;
     Ok((Reduction { word, list }, r))
 }
 
@@ -189,7 +205,7 @@ pub fn reflect(alloc: Global, start: Place, r: Reader<'_>) -> Parsed<'_, Plain>
     ensures shorter { IfOk result (λ x. length x.1.tokens.now < length r.entry.tokens.now) }
 {
     let (word, r) = r.spelled(b"reflect", Effect::Plain)?;
-    let (names, r) = names(alloc, r)?;
+    let (names, r) = in_parens::<NameLists>(alloc, r)?;
     let (end, r) = r.line_end()?;
     let line = DirectiveLine { start, word, end };
     Ok((Plain::Reflect(line, names), r))
@@ -207,6 +223,24 @@ pub fn barrier(start: Place, r: Reader<'_>) -> Parsed<'_, Plain>
     Ok((Plain::Barrier(DirectiveLine { start, word, end }), r))
 }
 
+/// The set of nodes that a bcast comes from, up to the end of its line.
+fn source_set(alloc: Global, r: Reader<'_>) -> Parsed<'_, (Place, Sections, Place)>
+    ensures goes { Parses (g.spelled (codes "from") · part p.set · g.line_end) r.entry result }
+    ensures reads { IfOk result (λ x. r.entry.tokens.now ≡ sp.spelled (codes "from") x.0.0 (sp.sections x.0.1 ((t.Close at x.0.2) ∷ x.1.tokens.now))) }
+    ensures fits { IfOk result (λ x. f.FitsSet x.0.1) }
+    ensures shorter { IfOk result (λ x. length x.1.tokens.now < length r.entry.tokens.now) }
+{
+    let (from, r) = r.spelled(b"from", Effect::Plain)?;
+    let (set, r) = set(alloc, r)?;
+    match r.line_end() {
+        Ok((end, r)) => Ok(((from, set, end), r)),
+        Err(stop) => {
+            drop(set);
+            Err(stop)
+        }
+    }
+}
+
 /// The line of a bcast directive, from its word on.
 pub fn bcast(alloc: Global, start: Place, r: Reader<'_>) -> Parsed<'_, Plain>
     ensures goes { Parses (g.rule p.bcast) r.entry result }
@@ -215,12 +249,39 @@ pub fn bcast(alloc: Global, start: Place, r: Reader<'_>) -> Parsed<'_, Plain>
     ensures shorter { IfOk result (λ x. length x.1.tokens.now < length r.entry.tokens.now) }
 {
     let (word, r) = r.spelled(b"bcast", Effect::Plain)?;
-    let (names, r) = names(alloc, r)?;
-    let (from, r) = r.spelled(b"from", Effect::Plain)?;
-    let (set, r) = set(alloc, r)?;
-    let (end, r) = r.line_end()?;
-    let line = DirectiveLine { start, word, end };
-    Ok((Plain::Bcast(line, names, from, set), r))
+    let (names, r) = in_parens::<NameLists>(alloc, r)?;
+    match source_set(alloc, r) {
+        Ok((from, r)) => {
+            let line = DirectiveLine {
+                start,
+                word,
+                end: from.2,
+            };
+            Ok((Plain::Bcast(line, names, from.0, from.1), r))
+        }
+        Err(stop) => {
+            drop(names);
+            Err(stop)
+        }
+    }
+}
+
+/// The right side of the assignment behind a gmove, with what stands around it.
+fn source_sections(alloc: Global, r: Reader<'_>) -> Parsed<'_, (Place, Sections, Place)>
+    ensures goes { Parses (g.sign m.Assign · part p.sections · g.semicolon) r.entry result }
+    ensures reads { IfOk result (λ x. r.entry.tokens.now ≡ sp.sign m.Assign x.0.0 (sp.sections x.0.1 (sp.sign m.Semicolon x.0.2 x.1.tokens.now))) }
+    ensures fits { IfOk result (λ x. f.FitsSections x.0.1) }
+    ensures shorter { IfOk result (λ x. length x.1.tokens.now < length r.entry.tokens.now) }
+{
+    let (assign, r) = r.mark(Mark::Assign, Effect::Plain)?;
+    let (source, r) = sections(alloc, r)?;
+    match r.mark(Mark::Semicolon, Effect::Separator) {
+        Ok((end, r)) => Ok(((assign, source, end), r)),
+        Err(stop) => {
+            drop(source);
+            Err(stop)
+        }
+    }
 }
 
 /// The line of a gmove directive, from its word on, and the assignment behind it.
@@ -233,15 +294,20 @@ pub fn gmove(alloc: Global, start: Place, r: Reader<'_>) -> Parsed<'_, Plain>
     let (word, r) = r.spelled(b"gmove", Effect::Plain)?;
     let (close, r) = r.line_end()?;
     let (target, r) = sections(alloc, r)?;
-    let (assign, r) = r.mark(Mark::Assign, Effect::Plain)?;
-    let (source, r) = sections(alloc, r)?;
-    let (end, r) = r.mark(Mark::Semicolon, Effect::Separator)?;
-    let line = DirectiveLine {
-        start,
-        word,
-        end: close,
-    };
-    Ok((Plain::Gmove(line, target, assign, source, end), r))
+    match source_sections(alloc, r) {
+        Ok((source, r)) => {
+            let line = DirectiveLine {
+                start,
+                word,
+                end: close,
+            };
+            Ok((Plain::Gmove(line, target, source.0, source.1, source.2), r))
+        }
+        Err(stop) => {
+            drop(target);
+            Err(stop)
+        }
+    }
 }
 
 /// The line of a directive that holds no statement, from its word on.

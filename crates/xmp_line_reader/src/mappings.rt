@@ -18,52 +18,44 @@ use xmp_base::Place;
 use xmp_lex::Mark;
 use xmp_reader::{
     Class, Depth, Effect, Exprs, Parsed, Part, Reader, any_dims, comma_list, dims, expression,
-    level,
+    in_braces, in_parens, level,
 };
 use xmp_syntax::{
     AlignDimension, CommaList, DirectiveLine, DistForm, Expr, Inside, Mapping, Name, Placed, Point,
 };
 
+/// Lists of expressions.
+struct ExprLists;
+
+impl Part for ExprLists {
+    type Made = CommaList<Expr>;
+
+    ghost rule = { g.list g.expr };
+
+    ghost text = { sp.list sp.expr };
+
+    ghost is_fit = { f.FitsList f.FitsExpr };
+
+    fn read(alloc: Global, r: Reader<'_>) -> Parsed<'_, CommaList<Expr>> {
+        comma_list::<Exprs>(alloc, r)
+    }
+}
+
 /// The lengths of `gblock`, in braces.
-fn in_braces(alloc: Global, r: Reader<'_>) -> Parsed<'_, Inside<CommaList<Expr>>>
-    ensures goes { Parses (g.braces (g.list g.expr)) r.entry result }
-    ensures reads { IfOk result (λ x. r.entry.tokens.now ≡ sp.in_braces (sp.list sp.expr) x.0 x.1.tokens.now) }
-    ensures fits { IfOk result (λ x. f.FitsList f.FitsExpr x.0.item) }
-    ensures shorter { IfOk result (λ x. length x.1.tokens.now < length r.entry.tokens.now) }
-{
-    let outer = r.depth;
-    let (open, r) = r.mark(Mark::OpenBrace, Effect::Opening)?;
-    let (item, r) = comma_list::<Exprs>(alloc, r)?;
-    let (close, r) = r.mark(Mark::CloseBrace, Effect::Closing(outer))?;
-    Ok((Inside { open, item, close }, r))
-}
+struct Lengths;
 
-/// The lengths of `gblock`, in braces in parentheses.
-fn lengths(alloc: Global, r: Reader<'_>) -> Parsed<'_, Inside<Inside<CommaList<Expr>>>>
-    ensures goes { Parses (g.parens (g.braces (g.list g.expr))) r.entry result }
-    ensures reads { IfOk result (λ x. r.entry.tokens.now ≡ sp.in_parens (sp.in_braces (sp.list sp.expr)) x.0 x.1.tokens.now) }
-    ensures fits { IfOk result (λ x. f.FitsList f.FitsExpr x.0.item.item) }
-    ensures shorter { IfOk result (λ x. length x.1.tokens.now < length r.entry.tokens.now) }
-{
-    let outer = r.depth;
-    let (open, r) = r.mark(Mark::OpenParen, Effect::Opening)?;
-    let (item, r) = in_braces(alloc, r)?;
-    let (close, r) = r.mark(Mark::CloseParen, Effect::Closing(outer))?;
-    Ok((Inside { open, item, close }, r))
-}
+impl Part for Lengths {
+    type Made = Inside<CommaList<Expr>>;
 
-/// An expression in parentheses.
-pub fn in_parens(alloc: Global, r: Reader<'_>) -> Parsed<'_, Inside<Expr>>
-    ensures goes { Parses (g.parens g.expr) r.entry result }
-    ensures reads { IfOk result (λ x. r.entry.tokens.now ≡ sp.in_parens sp.expr x.0 x.1.tokens.now) }
-    ensures fits { IfOk result (λ x. f.FitsExpr x.0.item) }
-    ensures shorter { IfOk result (λ x. length x.1.tokens.now < length r.entry.tokens.now) }
-{
-    let outer = r.depth;
-    let (open, r) = r.mark(Mark::OpenParen, Effect::Opening)?;
-    let (item, r) = expression(alloc, false, r)?;
-    let (close, r) = r.mark(Mark::CloseParen, Effect::Closing(outer))?;
-    Ok((Inside { open, item, close }, r))
+    ghost rule = { g.braces (g.list g.expr) };
+
+    ghost text = { sp.in_braces (sp.list sp.expr) };
+
+    ghost is_fit = { λ x. f.FitsList f.FitsExpr x.item };
+
+    fn read(alloc: Global, r: Reader<'_>) -> Parsed<'_, Inside<CommaList<Expr>>> {
+        in_braces::<ExprLists>(alloc, r)
+    }
 }
 
 /// The width of `cyclic`, where one is given.
@@ -76,7 +68,7 @@ fn any_width(alloc: Global, r: Reader<'_>) -> Parsed<'_, Option<Inside<Expr>>>
     if !r.is_mark(Mark::OpenParen) {
         return Ok((None, r));
     }
-    let (width, r) = in_parens(alloc, r)?;
+    let (width, r) = in_parens::<Exprs>(alloc, r)?;
     Ok((Some(width), r))
 }
 
@@ -107,7 +99,7 @@ impl Part for DistForms {
             return Ok((DistForm::Cyclic(cyclic, width), r));
         }
         let (gblock, r) = r.spelled(b"gblock", Effect::Plain)?;
-        let (sizes, r) = lengths(alloc, r)?;
+        let (sizes, r) = in_parens::<Lengths>(alloc, r)?;
         Ok((DistForm::Gblock(gblock, sizes), r))
     }
 }
@@ -201,8 +193,13 @@ impl Part for Widths {
 
     fn read(alloc: Global, r: Reader<'_>) -> Parsed<'_, (Expr, Option<(Place, Expr)>)> {
         let (low, r) = expression(alloc, true, r)?;
-        let (high, r) = after_colon(alloc, r)?;
-        Ok(((low, high), r))
+        match after_colon(alloc, r) {
+            Ok((high, r)) => Ok(((low, high), r)),
+            Err(stop) => {
+                drop(low);
+                Err(stop)
+            }
+        }
     }
 }
 
@@ -231,9 +228,14 @@ fn size_behind(
     ensures shorter { IfOk result (λ x. length x.1.tokens.now < length r.entry.tokens.now) }
 {
     let (item, r) = expression(alloc, false, r)?;
-    let (close, r) = r.mark(Mark::CloseBracket, Effect::Closing(outer))?;
     let open = bracket;
-    Ok((Inside { open, item, close }, r))
+    match r.mark(Mark::CloseBracket, Effect::Closing(outer)) {
+        Ok((close, r)) => Ok((Inside { open, item, close }, r)),
+        Err(stop) => {
+            drop(item);
+            Err(stop)
+        }
+    }
 }
 
 fn nodes(alloc: Global, start: Place, r: Reader<'_>) -> Parsed<'_, Mapping>

@@ -51,6 +51,11 @@ abbrev pub Declares : {A : Type 0} → Reader → Result (A × Reader) Stop → 
 Declares r result = (s : State) (L : List (ℕ × ℕ)) (N : Rule) (K : List Rule)
     → Comes s (stands L ((part p.declarator_rest · many (is_mark m.Comma) (comma · part p.declarator) · semicolon · N) ∷ K) r) → After s L (N ∷ K) result
 
+-- The further declarators of a declaration are read and its semicolon, before another rule.
+abbrev pub EndsDeclaration : {A : Type 0} → Reader → Result (A × Reader) Stop → Type 0
+EndsDeclaration r result = (s : State) (L : List (ℕ × ℕ)) (N : Rule) (K : List Rule)
+    → Comes s (stands L ((many (is_mark m.Comma) (comma · part p.declarator) · semicolon · N) ∷ K) r) → After s L (N ∷ K) result
+
 -- where this is so, the last of the parts is a function
 abbrev pub LastIs : Bool → List TopItem → Type 0
 LastIs true xs = EndsInFunction xs

@@ -8,13 +8,14 @@ ghost use Rattle.xmp_syntax.specs.Grammar as g;
 ghost use Rattle.xmp_syntax.specs.Spell as sp;
 ghost use Rattle.xmp_syntax.specs.Fits as f;
 ghost use Rattle.xmp_reader.specs.Going.{Parses, ParsesAll};
-ghost use Rattle.xmp_parse.specs.Programs.{Declares};
+ghost use Rattle.xmp_parse.specs.Programs.{Declares, EndsDeclaration};
 
+use sqlite_items::Items;
 use std::alloc::Global;
 use xmp_base::Place;
 use xmp_lex::Mark;
 use xmp_reader::{Effect, Exprs, Parsed, Part, Reader, dims, expression, more_parts, type_words};
-use xmp_syntax::{CommaList, Declaration, Declarator, Expr, Inside, Name, TypeWords};
+use xmp_syntax::{CommaList, Declaration, Declarator, Expr, Inside, Name, Next, TypeWords};
 
 /// `":" "[" "*" "]"`
 fn coarray(r: Reader<'_>) -> Parsed<'_, (Place, Inside<Place>)>
@@ -101,6 +102,19 @@ impl Part for Declarators {
     }
 }
 
+/// The further declarators of a declaration, and its semicolon.
+fn more_declarators(alloc: Global, r: Reader<'_>) -> Parsed<'_, (Items<Next<Declarator>>, Place)>
+    ensures before { EndsDeclaration r.entry result }
+    ensures goes { ParsesAll (many (g.is_mark m.Comma) (g.comma · part p.declarator) ∷ g.semicolon ∷ []) r.entry result }
+    ensures reads { IfOk result (λ x. r.entry.tokens.now ≡ sp.each (sp.next sp.declarator) x.0.0 (sp.sign m.Semicolon x.0.1 x.1.tokens.now)) }
+    ensures fits { IfOk result (λ x. f.Each (λ y. f.FitsDeclarator y.item) x.0.0) }
+    ensures shorter { IfOk result (λ x. length x.1.tokens.now < length r.entry.tokens.now) }
+{
+    let (more, r) = more_parts::<Declarators>(alloc, r)?;
+    let (end, r) = r.mark(Mark::Semicolon, Effect::Separator)?;
+    Ok(((more, end), r))
+}
+
 /// The rest of a declaration, behind its first name.
 pub fn declaration_rest(
     alloc: Global,
@@ -115,10 +129,26 @@ pub fn declaration_rest(
     ensures shorter { IfOk result (λ x. length x.1.tokens.now < length r.entry.tokens.now) }
 {
     let (first, r) = declarator_rest(alloc, name, r)?;
-    let (more, r) = more_parts::<Declarators>(alloc, r)?;
-    let (end, r) = r.mark(Mark::Semicolon, Effect::Separator)?;
-    let items = CommaList { first, more };
-    Ok((Declaration { ty, items, end }, r))
+    match more_declarators(alloc, r) {
+        Ok((more, r)) => {
+            let items = CommaList {
+                first,
+                more: more.0,
+            };
+            Ok((
+                Declaration {
+                    ty,
+                    items,
+                    end: more.1,
+                },
+                r,
+            ))
+        }
+        Err(stop) => {
+            drop(first);
+            Err(stop)
+        }
+    }
 }
 
 /// A declaration.

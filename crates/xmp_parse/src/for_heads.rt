@@ -15,8 +15,7 @@ ghost use Rattle.xmp_parse.specs.Counted.{Enters, for_parts};
 use std::alloc::Global;
 use xmp_base::Place;
 use xmp_lex::{Mark, Reserved};
-use xmp_line_reader::in_parens;
-use xmp_reader::{Effect, Parsed, Reader, expression, reference, simple};
+use xmp_reader::{Effect, Exprs, Parsed, Reader, expression, in_parens, reference, simple};
 use xmp_syntax::{Expr, ForFirst, ForHead, Inside, Simple};
 
 /// `if` or `while`, and the condition in parentheses.
@@ -27,7 +26,7 @@ pub fn condition(alloc: Global, word: Reserved, r: Reader<'_>) -> Parsed<'_, (Pl
     ensures shorter { IfOk result (λ x. length x.1.tokens.now < length r.entry.tokens.now) }
 {
     let (at, r) = r.word(word, Effect::Entering)?;
-    let (condition, r) = in_parens(alloc, r)?;
+    let (condition, r) = in_parens::<Exprs>(alloc, r)?;
     Ok(((at, condition), r))
 }
 
@@ -140,11 +139,11 @@ fn last_parts(alloc: Global, r: Reader<'_>) -> Parsed<'_, LastParts>
 {
     let (test, r) = any_test(alloc, r)?;
     match next_part(alloc, r) {
-        Ok(((test_end, next), r)) => Ok((
+        Ok((behind, r)) => Ok((
             LastParts {
                 test,
-                test_end,
-                next,
+                test_end: behind.0,
+                next: behind.1,
             },
             r,
         )),
@@ -183,11 +182,11 @@ fn all_parts(alloc: Global, r: Reader<'_>) -> Parsed<'_, AllParts>
 {
     let (first, r) = any_first(alloc, r)?;
     match later_parts(alloc, r) {
-        Ok(((first_end, last), r)) => Ok((
+        Ok((later, r)) => Ok((
             AllParts {
                 first,
-                first_end,
-                last,
+                first_end: later.0,
+                last: later.1,
             },
             r,
         )),

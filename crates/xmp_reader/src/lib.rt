@@ -21,6 +21,7 @@ pub use effect::{Effect, start};
 pub use expressions::{expression, level};
 pub use marks::Class;
 pub use parts::{
-    Exprs, Part, PlainNames, any_dims, comma_list, dims, more_parts, names, type_words,
+    Exprs, NameLists, Names, Part, any_dims, comma_list, dims, in_braces, in_parens, more_parts,
+    type_words,
 };
 pub use reader::{Parsed, Reader, Stop};

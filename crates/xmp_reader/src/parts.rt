@@ -82,6 +82,34 @@ fn in_brackets<P: Part>(alloc: Global, r: Reader<'_>) -> Parsed<'_, Inside<P::Ma
     Ok((Inside { open, item, close }, r))
 }
 
+/// `"(" P ")"`
+pub fn in_parens<P: Part>(alloc: Global, r: Reader<'_>) -> Parsed<'_, Inside<P::Made>>
+    ensures goes { Parses (g.parens P.rule) r.entry result }
+    ensures reads { IfOk result (λ x. r.entry.tokens.now ≡ sp.in_parens P.text x.0 x.1.tokens.now) }
+    ensures fits { IfOk result (λ x. P.is_fit x.0.item) }
+    ensures shorter { IfOk result (λ x. length x.1.tokens.now < length r.entry.tokens.now) }
+{
+    let outer = r.depth;
+    let (open, r) = r.mark(Mark::OpenParen, Effect::Opening)?;
+    let (item, r) = P::read(alloc, r)?;
+    let (close, r) = r.mark(Mark::CloseParen, Effect::Closing(outer))?;
+    Ok((Inside { open, item, close }, r))
+}
+
+/// `"{" P "}"`
+pub fn in_braces<P: Part>(alloc: Global, r: Reader<'_>) -> Parsed<'_, Inside<P::Made>>
+    ensures goes { Parses (g.braces P.rule) r.entry result }
+    ensures reads { IfOk result (λ x. r.entry.tokens.now ≡ sp.in_braces P.text x.0 x.1.tokens.now) }
+    ensures fits { IfOk result (λ x. P.is_fit x.0.item) }
+    ensures shorter { IfOk result (λ x. length x.1.tokens.now < length r.entry.tokens.now) }
+{
+    let outer = r.depth;
+    let (open, r) = r.mark(Mark::OpenBrace, Effect::Opening)?;
+    let (item, r) = P::read(alloc, r)?;
+    let (close, r) = r.mark(Mark::CloseBrace, Effect::Closing(outer))?;
+    Ok((Inside { open, item, close }, r))
+}
+
 /// `{ "[" P "]" }`
 pub fn any_dims<P: Part>(alloc: Global, r: Reader<'_>) -> Parsed<'_, Items<Inside<P::Made>>>
     ensures goes { Parses (g.any_dims P.rule) r.entry result }
@@ -115,9 +143,9 @@ pub fn dims<P: Part>(alloc: Global, r: Reader<'_>) -> Parsed<'_, Items<Inside<P:
 }
 
 /// Plain names.
-pub struct PlainNames;
+pub struct Names;
 
-impl Part for PlainNames {
+impl Part for Names {
     type Made = Name;
 
     ghost rule = { g.name };
@@ -148,17 +176,21 @@ impl Part for Exprs {
     }
 }
 
-/// Names in parentheses.
-pub fn names(alloc: Global, r: Reader<'_>) -> Parsed<'_, Inside<CommaList<Name>>>
-    ensures goes { Parses (g.parens (part p.names)) r.entry result }
-    ensures reads { IfOk result (λ x. r.entry.tokens.now ≡ sp.in_parens sp.names x.0 x.1.tokens.now) }
-    ensures shorter { IfOk result (λ x. length x.1.tokens.now < length r.entry.tokens.now) }
-{
-    let outer = r.depth;
-    let (open, r) = r.mark(Mark::OpenParen, Effect::Opening)?;
-    let (item, r) = comma_list::<PlainNames>(alloc, r)?;
-    let (close, r) = r.mark(Mark::CloseParen, Effect::Closing(outer))?;
-    Ok((Inside { open, item, close }, r))
+/// Lists of names.
+pub struct NameLists;
+
+impl Part for NameLists {
+    type Made = CommaList<Name>;
+
+    ghost rule = { part p.names };
+
+    ghost text = { sp.names };
+
+    ghost is_fit = { λ x. ⊤ };
+
+    fn read(alloc: Global, r: Reader<'_>) -> Parsed<'_, CommaList<Name>> {
+        comma_list::<Names>(alloc, r)
+    }
 }
 
 /// `int`, `long` or `long int`

@@ -17,10 +17,8 @@ returns-in_err-second-clause-goes c = λ s L K w.
     let p = err_from_is_err_and c.from_residual-in_err-second.result c.from_residual-in_err-second.ensures.1 in
     rw (p.1, p.2) (c.in_err-second.ensures.goes s _ _ (seq (c.in_ok-colon.ensures.goes s _ _ (first (sym c.is_mark.ensures ∙ c.if-not-is_mark.false) w))))
 
-pub returns-in_err-third-clause-goes : goal.returns-in_err-third-clause-goes
-returns-in_err-third-clause-goes c = λ s L K w.
-    let p = err_from_is_err_and c.from_residual-in_err-third.result c.from_residual-in_err-third.ensures.1 in
-    rw (p.1, p.2) (c.in_err-third.ensures.goes s _ _ (c.in_ok-second.ensures.goes s _ _ (seq (c.in_ok-colon.ensures.goes s _ _ (first (sym c.is_mark.ensures ∙ c.if-not-is_mark.false) w)))))
+pub returns-in-Ok-clause-goes : goal.returns-in-Ok-clause-goes
+returns-in-Ok-clause-goes c = λ s L K w. c.in-Ok.ensures.goes s _ _ (c.in_ok-second.ensures.goes s _ _ (seq (c.in_ok-colon.ensures.goes s _ _ (first (sym c.is_mark.ensures ∙ c.if-not-is_mark.false) w))))
 
-pub returns-clause-goes : goal.returns-clause-goes
-returns-clause-goes c = λ s L K w. c.in_ok-third.ensures.goes s _ _ (c.in_ok-second.ensures.goes s _ _ (seq (c.in_ok-colon.ensures.goes s _ _ (first (sym c.is_mark.ensures ∙ c.if-not-is_mark.false) w))))
+pub returns-in-Err-clause-goes : goal.returns-in-Err-clause-goes
+returns-in-Err-clause-goes c = λ s L K w. c.in-Err.ensures.goes s _ _ (c.in_ok-second.ensures.goes s _ _ (seq (c.in_ok-colon.ensures.goes s _ _ (first (sym c.is_mark.ensures ∙ c.if-not-is_mark.false) w))))

@@ -9,10 +9,8 @@ returns-in_err-item-clause-goes c = λ s L N K w.
     let p = err_from_is_err_and c.from_residual.result c.from_residual.ensures.1 in
     rw (p.1, p.2) (c.in_err-item.ensures.goes s _ _ w)
 
-pub returns-in_err-close-clause-goes : goal.returns-in_err-close-clause-goes
-returns-in_err-close-clause-goes c = λ s L N K w.
-    let p = err_from_is_err_and c.from_residual-in_err-close.result c.from_residual-in_err-close.ensures.1 in
-    rw (p.1, p.2) (c.in_err-close.ensures.goes s _ _ (seq (c.in_ok-item.ensures.goes s _ _ w)))
+pub returns-in-Err-clause-goes : goal.returns-in-Err-clause-goes
+returns-in-Err-clause-goes c = λ s L N K w. c.in-Err.ensures.goes s _ _ (seq (c.in_ok-item.ensures.goes s _ _ w))
 
-pub returns-clause-goes : goal.returns-clause-goes
-returns-clause-goes c = λ s L N K w. c.in_ok-close.ensures.goes s _ _ (seq (c.in_ok-item.ensures.goes s _ _ w))
+pub returns-in-Ok-clause-goes : goal.returns-in-Ok-clause-goes
+returns-in-Ok-clause-goes c = λ s L N K w. c.in-Ok.ensures.goes s _ _ (seq (c.in_ok-item.ensures.goes s _ _ w))

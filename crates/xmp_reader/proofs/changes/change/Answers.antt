@@ -1,26 +1,14 @@
 use Rattle.std.proofs.Common.{rules, ◌≡◌, ℕ, true, false, sym, refl, ap, ◌∙◌}
 use Rattle.std.proofs.lemmas.Result.{err_from_is_err_and}
 use Rattle.xmp_reader.proofs.Opening.{seq, into, skip, first, second, again, no_more, first_not, second_not}
-use Rattle.xmp_reader.proofs.Listing.{split, whole, once_more, if_so, if_not, entered}
+use Rattle.xmp_reader.proofs.Listing.{split, whole, once_more, if_so, if_not, none_so_far, one_more}
 use Rattle.xmp_reader.proofs.changes.change.Goals as goal
 
-pub returns-in_err-operator-clause-goes : goal.returns-in_err-operator-clause-goes
-returns-in_err-operator-clause-goes c = λ s L K w.
-    let p = err_from_is_err_and c.from_residual.result c.from_residual.ensures.1 in
-    rw (p.1, p.2) (c.in_err-operator.ensures.goes s _ _ (first (sym c.is_of.ensures ∙ c.if-is_of.true) w))
-
 pub returns-then-is_of-clause-goes : goal.returns-then-is_of-clause-goes
-returns-then-is_of-clause-goes c = λ s L K w. c.in_ok-operator.ensures.goes s _ _ (first (sym c.is_of.ensures ∙ c.if-is_of.true) w)
+returns-then-is_of-clause-goes c = λ s L K w. c.stepped.ensures.goes s _ _ (if_so (sym c.is_of.ensures ∙ c.if-is_of.true) w)
 
-pub returns-in_err-operator-2-clause-goes : goal.returns-in_err-operator-2-clause-goes
-returns-in_err-operator-2-clause-goes c = λ s L K w.
-    let p = err_from_is_err_and c.from_residual-in_err-operator-2.result c.from_residual-in_err-operator-2.ensures.1 in
-    rw (p.1, p.2) (c.in_err-operator-2.ensures.goes s _ _ (second (sym c.is_of.ensures ∙ c.if-is_of.false) w))
+pub returns-in-Ok-clause-goes : goal.returns-in-Ok-clause-goes
+returns-in-Ok-clause-goes c = λ s L K w. c.in-Ok.ensures.goes s _ _ (if_not (sym c.is_of.ensures ∙ c.if-is_of.false) w)
 
-pub returns-in_err-value-clause-goes : goal.returns-in_err-value-clause-goes
-returns-in_err-value-clause-goes c = λ s L K w.
-    let p = err_from_is_err_and c.from_residual-in_err-value.result c.from_residual-in_err-value.ensures.1 in
-    rw (p.1, p.2) (c.in_err-value.ensures.goes s _ _ ((c.in_ok-operator-2.ensures.goes s _ _ (second (sym c.is_of.ensures ∙ c.if-is_of.false) w))))
-
-pub returns-clause-goes : goal.returns-clause-goes
-returns-clause-goes c = λ s L K w. c.in_ok-value.ensures.goes s _ _ ((c.in_ok-operator-2.ensures.goes s _ _ (second (sym c.is_of.ensures ∙ c.if-is_of.false) w)))
+pub returns-in-Err-clause-goes : goal.returns-in-Err-clause-goes
+returns-in-Err-clause-goes c = λ s L K w. c.in-Err.ensures.goes s _ _ (if_not (sym c.is_of.ensures ∙ c.if-is_of.false) w)
