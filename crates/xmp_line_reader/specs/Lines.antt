@@ -71,6 +71,18 @@ Agree f g (t ∷ ts) = f t.kind ≡ g t.kind
 abbrev pub Closes : {A : Type 0} → Rule → Depth → Reader → Result (A × Reader) Stop → Type 0
 Closes R outer r result = (s : State) (L : List (ℕ × ℕ)) (N : Rule) (K : List Rule) → Comes s (stands ((outer.now, outer.base) ∷ L) (R ∷ (tok closing (is_mark m.CloseBracket) · N) ∷ K) r) → After s L (N ∷ K) result
 
+-- What the rule has before another rule is read, up to that one.
+abbrev pub ReadsBefore : {A : Type 0} → (Rule → Rule) → Reader → Result (A × Reader) Stop → Type 0
+ReadsBefore R r result = (s : State) (L : List (ℕ × ℕ)) (N : Rule) (K : List Rule) → Comes s (stands L (R N ∷ K) r) → After s L (N ∷ K) result
+
+-- The same where a bracket is open, which the rule closes; these are the depths outside of it.
+abbrev pub ClosesBefore : {A : Type 0} → (Rule → Rule) → Depth → Reader → Result (A × Reader) Stop → Type 0
+ClosesBefore R outer r result = (s : State) (L : List (ℕ × ℕ)) (N : Rule) (K : List Rule) → Comes s (stands ((outer.now, outer.base) ∷ L) (R N ∷ K) r) → After s L (N ∷ K) result
+
+-- The rule is read to its end where a bracket is open, which it closes.
+abbrev pub Ends : {A : Type 0} → Rule → Depth → Reader → Result (A × Reader) Stop → Type 0
+Ends R outer r result = (s : State) (L : List (ℕ × ℕ)) (K : List Rule) → Comes s (stands ((outer.now, outer.base) ∷ L) (R ∷ K) r) → After s L K result
+
 -- The line of a directive is read, up to the statement that the directive holds.
 abbrev pub Heads : {A : Type 0} → Part → Rule → Reader → Result (A × Reader) Stop → Type 0
 Heads P held r result = (s : State) (L : List (ℕ × ℕ)) (K : List Rule) → Comes s (stands L (rule P ∷ K) r) → After s ((r.depth.now, r.depth.base) ∷ L) (held ∷ mark leave ∷ K) result

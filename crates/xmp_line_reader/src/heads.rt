@@ -9,15 +9,16 @@ ghost use Rattle.xmp_syntax.specs.Spell as sp;
 ghost use Rattle.xmp_syntax.specs.Spell.{◌at◌};
 ghost use Rattle.xmp_syntax.specs.Fits as f;
 ghost use Rattle.xmp_reader.specs.Going.{Parses};
-ghost use Rattle.xmp_line_reader.specs.Lines.{Heads};
+ghost use Rattle.xmp_line_reader.specs.Lines.{Heads, ReadsBefore};
 
 use crate::lines::{reductions, set};
-use crate::mappings::Points;
+use crate::mappings::template_points;
+use sqlite_items::Items;
 use std::alloc::Global;
 use xmp_base::Place;
 use xmp_lex::Mark;
-use xmp_reader::{Effect, NameLists, Parsed, Reader, dims, in_parens};
-use xmp_syntax::{CommaList, DirectiveLine, Inside, LoopLine, Name, Point, TaskLine};
+use xmp_reader::{Effect, NameLists, Parsed, Reader, in_parens};
+use xmp_syntax::{CommaList, DirectiveLine, Inside, LoopLine, Name, Reduction, TaskLine};
 
 /// The names of a loop directive, where there are some.
 fn loop_names(alloc: Global, r: Reader<'_>) -> Parsed<'_, Option<Inside<CommaList<Name>>>>
@@ -32,6 +33,18 @@ fn loop_names(alloc: Global, r: Reader<'_>) -> Parsed<'_, Option<Inside<CommaLis
     Ok((Some(list), r))
 }
 
+/// The reductions of a loop directive, and the end of its line.
+fn reductions_end(alloc: Global, r: Reader<'_>) -> Parsed<'_, (Items<Reduction>, Place)>
+    ensures goes { ReadsBefore (λ N. many (g.is_spelled (codes "reduction")) (part p.reduction) · g.line_end · N) r.entry result }
+    ensures reads { IfOk result (λ x. r.entry.tokens.now ≡ sp.each sp.reduction x.0.0 ((t.Close at x.0.1) ∷ x.1.tokens.now)) }
+    ensures fits { IfOk result (λ x. f.Each f.FitsReduction x.0.0) }
+    ensures shorter { IfOk result (λ x. length x.1.tokens.now < length r.entry.tokens.now) }
+{
+    let (reductions, r) = reductions(alloc, r)?;
+    let (end, r) = r.line_end()?;
+    Ok(((reductions, end), r))
+}
+
 /// The line of a loop directive, from its word on.
 pub fn loop_line(alloc: Global, start: Place, r: Reader<'_>) -> Parsed<'_, LoopLine>
     ensures goes { Heads p.loop (part p.for_statement) r.entry result }
@@ -41,19 +54,20 @@ pub fn loop_line(alloc: Global, start: Place, r: Reader<'_>) -> Parsed<'_, LoopL
 {
     let (word, r) = r.spelled(b"loop", Effect::Entering)?;
     let (names, r) = loop_names(alloc, r)?;
-    let (on, r) = r.spelled(b"on", Effect::Plain)?;
-    let (template, r) = r.name(alloc)?;
-    let (points, r) = dims::<Points>(alloc, r)?;
-    let (reductions, r) = reductions(alloc, r)?;
-    let (end, r) = r.line_end()?;
-    let line = DirectiveLine { start, word, end };
+    let (on, r) = template_points(alloc, b"on", r)?;
+    let (last, r) = reductions_end(alloc, r)?;
+    let line = DirectiveLine {
+        start,
+        word,
+        end: last.1,
+    };
     let made = LoopLine {
         line,
         names,
-        on,
-        template,
-        points,
-        reductions,
+        on: on.0,
+        template: on.1,
+        points: on.2,
+        reductions: last.0,
     };
     Ok((made, r))
 }

@@ -1,15 +1,15 @@
 // The lines of nodes, templates, distributions, aligns and shadows.
-ghost use Rattle.std.specs.Prelude.{◌≡◌, ◌≤◌, ◌<◌, ⊤, false, List, [], IfOk, ◌∷◌, length};
+ghost use Rattle.std.specs.Prelude.{◌≡◌, ◌≤◌, ◌<◌, ⊤, false, List, [], IfOk, ◌∷◌, length, codes};
 ghost use Rattle.xmp_lex.specs.declared.token.Mark.TheVariants as m;
 ghost use Rattle.xmp_lex.specs.declared.token.TokenKind.TheVariants as t;
 ghost use Rattle.xmp_syntax.specs.Parts as p;
-ghost use Rattle.xmp_syntax.specs.Reading.{part, choice, tok, operator, ◌·◌};
+ghost use Rattle.xmp_syntax.specs.Reading.{part, choice, tok, operator, closing, ◌·◌};
 ghost use Rattle.xmp_syntax.specs.Grammar as g;
 ghost use Rattle.xmp_syntax.specs.Spell as sp;
 ghost use Rattle.xmp_syntax.specs.Spell.{◌at◌};
 ghost use Rattle.xmp_syntax.specs.Fits as f;
 ghost use Rattle.xmp_reader.specs.Going.{Parses};
-ghost use Rattle.xmp_line_reader.specs.Lines.{Closes, part_of_mapping};
+ghost use Rattle.xmp_line_reader.specs.Lines.{Closes, ClosesBefore, Ends, ReadsBefore, part_of_mapping};
 
 use crate::words::{MappingWord, mapping_word};
 use sqlite_items::Items;
@@ -142,7 +142,7 @@ fn any_offset(alloc: Global, r: Reader<'_>) -> Parsed<'_, Option<(Placed<Mark>, 
 }
 
 /// The dimensions of the template of an align or a loop.
-pub struct Points;
+struct Points;
 
 impl Part for Points {
     type Made = Point;
@@ -238,30 +238,107 @@ fn size_behind(
     }
 }
 
+/// A plain name that is a word of the line, and the name behind it.
+fn named<'a>(alloc: Global, word: &[u8], r: Reader<'a>) -> Parsed<'a, (Place, Name)>
+    ensures goes { ReadsBefore (λ N. g.spelled word.now · g.name · N) r.entry result }
+    ensures reads { IfOk result (λ x. r.entry.tokens.now ≡ sp.spelled word.now x.0.0 (sp.name x.0.1 x.1.tokens.now)) }
+    ensures shorter { IfOk result (λ x. length x.1.tokens.now < length r.entry.tokens.now) }
+{
+    let (at, r) = r.spelled(word, Effect::Plain)?;
+    let (name, r) = r.name(alloc)?;
+    Ok(((at, name), r))
+}
+
+/// A word of the line, the template that it names and the points of it.
+pub fn template_points<'a>(
+    alloc: Global,
+    word: &[u8],
+    r: Reader<'a>,
+) -> Parsed<'a, (Place, Name, Items<Inside<Point>>)>
+    ensures goes { ReadsBefore (λ N. g.spelled word.now · g.name · g.dims (part p.point) · N) r.entry result }
+    ensures reads { IfOk result (λ x. r.entry.tokens.now ≡ sp.spelled word.now x.0.0 (sp.name x.0.1 (sp.dims sp.point x.0.2 x.1.tokens.now))) }
+    ensures fits { IfOk result (λ x. f.FitsSomeDims f.FitsPoint x.0.2) }
+    ensures shorter { IfOk result (λ x. length x.1.tokens.now < length r.entry.tokens.now) }
+{
+    let (head, r) = named(alloc, word, r)?;
+    let (points, r) = dims::<Points>(alloc, r)?;
+    Ok(((head.0, head.1, points), r))
+}
+
+/// The sizes of a nodes array, behind the first opening bracket.
+fn sizes_behind(
+    alloc: Global,
+    outer: Depth,
+    bracket: Place,
+    r: Reader<'_>,
+) -> Parsed<'_, Items<Inside<Expr>>>
+    ensures goes { ClosesBefore (λ N. g.expr · tok closing (g.is_mark m.CloseBracket) · g.any_dims g.expr · N) outer r.entry result }
+    ensures reads { IfOk result (λ x. (t.Mark m.OpenBracket at bracket) ∷ r.entry.tokens.now ≡ sp.dims sp.expr x.0 x.1.tokens.now) }
+    ensures fits { IfOk result (λ x. f.FitsSomeDims f.FitsExpr x.0) }
+    ensures shorter { IfOk result (λ x. length x.1.tokens.now < length r.entry.tokens.now) }
+{
+    let mut sizes = Items::new(alloc);
+    let (first, r) = size_behind(alloc, outer, bracket, r)?;
+    sizes.push(first)?;
+    let (more, r) = any_dims::<Exprs>(alloc, r)?;
+    sizes.append(more)?;
+    Ok((sizes, r))
+}
+
+/// A nodes array whose size is not given, behind its opening bracket.
+fn star_nodes(
+    start: Place,
+    head: (Place, Name),
+    outer: Depth,
+    bracket: Place,
+    r: Reader<'_>,
+) -> Parsed<'_, Mapping>
+    ensures goes { Ends (g.sign m.Star · tok closing (g.is_mark m.CloseBracket) · g.line_end) outer r.entry result }
+    ensures reads { IfOk result (λ x. (t.Pragma at start) ∷ sp.spelled (codes "nodes") head.0 (sp.name head.1 ((t.Mark m.OpenBracket at bracket) ∷ r.entry.tokens.now)) ≡ sp.spell_mapping x.0 x.1.tokens.now) }
+    ensures fits { IfOk result (λ x. f.FitsMapping x.0) }
+    ensures shorter { IfOk result (λ x. length x.1.tokens.now < length r.entry.tokens.now) }
+{
+    let (star, r) = star_behind(outer, bracket, r)?;
+    let (end, r) = r.line_end()?;
+    let word = head.0;
+    let line = DirectiveLine { start, word, end };
+    Ok((Mapping::NodesStar(line, head.1, star), r))
+}
+
+/// A nodes array of these sizes, behind its opening bracket.
+fn sized_nodes(
+    alloc: Global,
+    start: Place,
+    head: (Place, Name),
+    outer: Depth,
+    bracket: Place,
+    r: Reader<'_>,
+) -> Parsed<'_, Mapping>
+    ensures goes { Ends (g.expr · tok closing (g.is_mark m.CloseBracket) · g.any_dims g.expr · g.line_end) outer r.entry result }
+    ensures reads { IfOk result (λ x. (t.Pragma at start) ∷ sp.spelled (codes "nodes") head.0 (sp.name head.1 ((t.Mark m.OpenBracket at bracket) ∷ r.entry.tokens.now)) ≡ sp.spell_mapping x.0 x.1.tokens.now) }
+    ensures fits { IfOk result (λ x. f.FitsMapping x.0) }
+    ensures shorter { IfOk result (λ x. length x.1.tokens.now < length r.entry.tokens.now) }
+{
+    let (sizes, r) = sizes_behind(alloc, outer, bracket, r)?;
+    let (end, r) = r.line_end()?;
+    let word = head.0;
+    let line = DirectiveLine { start, word, end };
+    Ok((Mapping::Nodes(line, head.1, sizes), r))
+}
+
 fn nodes(alloc: Global, start: Place, r: Reader<'_>) -> Parsed<'_, Mapping>
     ensures goes { Parses (g.rule p.nodes) r.entry result }
     ensures reads { IfOk result (λ x. (t.Pragma at start) ∷ r.entry.tokens.now ≡ sp.spell_mapping x.0 x.1.tokens.now) }
     ensures fits { IfOk result (λ x. f.FitsMapping x.0) }
     ensures shorter { IfOk result (λ x. length x.1.tokens.now < length r.entry.tokens.now) }
 {
-    let (word, r) = r.spelled(b"nodes", Effect::Plain)?;
-    let (name, r) = r.name(alloc)?;
+    let (head, r) = named(alloc, b"nodes", r)?;
     let outer = r.depth;
     let (open, r) = r.mark(Mark::OpenBracket, Effect::Opening)?;
     if r.is_mark(Mark::Star) {
-        let (star, r) = star_behind(outer, open, r)?;
-        let (end, r) = r.line_end()?;
-        let line = DirectiveLine { start, word, end };
-        return Ok((Mapping::NodesStar(line, name, star), r));
+        return star_nodes(start, head, outer, open, r);
     }
-    let mut sizes = Items::new(alloc);
-    let (first, r) = size_behind(alloc, outer, open, r)?;
-    sizes.push(first)?;
-    let (more, r) = any_dims::<Exprs>(alloc, r)?;
-    let (end, r) = r.line_end()?;
-    sizes.append(more)?;
-    let line = DirectiveLine { start, word, end };
-    Ok((Mapping::Nodes(line, name, sizes), r))
+    sized_nodes(alloc, start, head, outer, open, r)
 }
 
 fn template(alloc: Global, start: Place, r: Reader<'_>) -> Parsed<'_, Mapping>
@@ -270,12 +347,12 @@ fn template(alloc: Global, start: Place, r: Reader<'_>) -> Parsed<'_, Mapping>
     ensures fits { IfOk result (λ x. f.FitsMapping x.0) }
     ensures shorter { IfOk result (λ x. length x.1.tokens.now < length r.entry.tokens.now) }
 {
-    let (word, r) = r.spelled(b"template", Effect::Plain)?;
-    let (name, r) = r.name(alloc)?;
+    let (head, r) = named(alloc, b"template", r)?;
     let (sizes, r) = dims::<Exprs>(alloc, r)?;
     let (end, r) = r.line_end()?;
+    let word = head.0;
     let line = DirectiveLine { start, word, end };
-    Ok((Mapping::Template(line, name, sizes), r))
+    Ok((Mapping::Template(line, head.1, sizes), r))
 }
 
 fn distribute(alloc: Global, start: Place, r: Reader<'_>) -> Parsed<'_, Mapping>
@@ -284,14 +361,13 @@ fn distribute(alloc: Global, start: Place, r: Reader<'_>) -> Parsed<'_, Mapping>
     ensures fits { IfOk result (λ x. f.FitsMapping x.0) }
     ensures shorter { IfOk result (λ x. length x.1.tokens.now < length r.entry.tokens.now) }
 {
-    let (word, r) = r.spelled(b"distribute", Effect::Plain)?;
-    let (name, r) = r.name(alloc)?;
+    let (head, r) = named(alloc, b"distribute", r)?;
     let (forms, r) = dims::<DistForms>(alloc, r)?;
-    let (onto, r) = r.spelled(b"onto", Effect::Plain)?;
-    let (nodes, r) = r.name(alloc)?;
+    let (onto, r) = named(alloc, b"onto", r)?;
     let (end, r) = r.line_end()?;
+    let word = head.0;
     let line = DirectiveLine { start, word, end };
-    Ok((Mapping::Distribute(line, name, forms, onto, nodes), r))
+    Ok((Mapping::Distribute(line, head.1, forms, onto.0, onto.1), r))
 }
 
 fn align(alloc: Global, start: Place, r: Reader<'_>) -> Parsed<'_, Mapping>
@@ -300,16 +376,14 @@ fn align(alloc: Global, start: Place, r: Reader<'_>) -> Parsed<'_, Mapping>
     ensures fits { IfOk result (λ x. f.FitsMapping x.0) }
     ensures shorter { IfOk result (λ x. length x.1.tokens.now < length r.entry.tokens.now) }
 {
-    let (word, r) = r.spelled(b"align", Effect::Plain)?;
-    let (name, r) = r.name(alloc)?;
+    let (head, r) = named(alloc, b"align", r)?;
     let (dummies, r) = dims::<AlignDimensions>(alloc, r)?;
-    let (with, r) = r.spelled(b"with", Effect::Plain)?;
-    let (template, r) = r.name(alloc)?;
-    let (points, r) = dims::<Points>(alloc, r)?;
+    let (with, r) = template_points(alloc, b"with", r)?;
     let (end, r) = r.line_end()?;
+    let word = head.0;
     let line = DirectiveLine { start, word, end };
     Ok((
-        Mapping::Align(line, name, dummies, with, template, points),
+        Mapping::Align(line, head.1, dummies, with.0, with.1, with.2),
         r,
     ))
 }
@@ -320,12 +394,12 @@ fn shadow(alloc: Global, start: Place, r: Reader<'_>) -> Parsed<'_, Mapping>
     ensures fits { IfOk result (λ x. f.FitsMapping x.0) }
     ensures shorter { IfOk result (λ x. length x.1.tokens.now < length r.entry.tokens.now) }
 {
-    let (word, r) = r.spelled(b"shadow", Effect::Plain)?;
-    let (name, r) = r.name(alloc)?;
+    let (head, r) = named(alloc, b"shadow", r)?;
     let (widths, r) = dims::<Widths>(alloc, r)?;
     let (end, r) = r.line_end()?;
+    let word = head.0;
     let line = DirectiveLine { start, word, end };
-    Ok((Mapping::Shadow(line, name, widths), r))
+    Ok((Mapping::Shadow(line, head.1, widths), r))
 }
 
 /// The rest of a mapping's line, from its word on.

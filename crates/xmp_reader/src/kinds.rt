@@ -102,14 +102,7 @@ pub fn mark_in(kind: &TokenKind) -> Option<Mark>
 {
     match kind {
         TokenKind::Mark(found) => Some(*found),
-        TokenKind::Name(_) => None,
-        TokenKind::Word(_) => None,
-        TokenKind::Number(_, _) => None,
-        TokenKind::Text(_) => None,
-        TokenKind::Define(_) => None,
-        TokenKind::Pragma => None,
-        TokenKind::Close => None,
-        TokenKind::Finish => None,
+        _ => None,
     }
 }
 
@@ -118,14 +111,7 @@ pub fn name_in(kind: &TokenKind) -> Option<&Bytes>
 {
     match kind {
         TokenKind::Name(found) => Some(found),
-        TokenKind::Word(_) => None,
-        TokenKind::Number(_, _) => None,
-        TokenKind::Text(_) => None,
-        TokenKind::Mark(_) => None,
-        TokenKind::Define(_) => None,
-        TokenKind::Pragma => None,
-        TokenKind::Close => None,
-        TokenKind::Finish => None,
+        _ => None,
     }
 }
 
@@ -134,14 +120,7 @@ pub fn text_in(kind: &TokenKind) -> Option<&Bytes>
 {
     match kind {
         TokenKind::Text(found) => Some(found),
-        TokenKind::Name(_) => None,
-        TokenKind::Word(_) => None,
-        TokenKind::Number(_, _) => None,
-        TokenKind::Mark(_) => None,
-        TokenKind::Define(_) => None,
-        TokenKind::Pragma => None,
-        TokenKind::Close => None,
-        TokenKind::Finish => None,
+        _ => None,
     }
 }
 
@@ -150,14 +129,7 @@ pub fn number_in(kind: &TokenKind) -> Option<(i64, Ty)>
 {
     match kind {
         TokenKind::Number(value, ty) => Some((*value, *ty)),
-        TokenKind::Name(_) => None,
-        TokenKind::Word(_) => None,
-        TokenKind::Text(_) => None,
-        TokenKind::Mark(_) => None,
-        TokenKind::Define(_) => None,
-        TokenKind::Pragma => None,
-        TokenKind::Close => None,
-        TokenKind::Finish => None,
+        _ => None,
     }
 }
 
@@ -167,15 +139,7 @@ fn type_of(word: Reserved) -> Option<Ty>
     match word {
         Reserved::Int => Some(Ty::Int),
         Reserved::Long => Some(Ty::Long),
-        Reserved::Void => None,
-        Reserved::If => None,
-        Reserved::Else => None,
-        Reserved::While => None,
-        Reserved::For => None,
-        Reserved::Return => None,
-        Reserved::Printf => None,
-        Reserved::Scanf => None,
-        Reserved::SyncAll => None,
+        _ => None,
     }
 }
 
@@ -185,14 +149,7 @@ pub fn type_in(kind: &TokenKind) -> Option<Ty>
 {
     match kind {
         TokenKind::Word(found) => type_of(*found),
-        TokenKind::Name(_) => None,
-        TokenKind::Number(_, _) => None,
-        TokenKind::Text(_) => None,
-        TokenKind::Mark(_) => None,
-        TokenKind::Define(_) => None,
-        TokenKind::Pragma => None,
-        TokenKind::Close => None,
-        TokenKind::Finish => None,
+        _ => None,
     }
 }
 
@@ -201,14 +158,7 @@ pub fn is_mark(kind: &TokenKind, mark: Mark) -> bool
 {
     match kind {
         TokenKind::Mark(found) => same_mark(mark, *found),
-        TokenKind::Name(_) => false,
-        TokenKind::Word(_) => false,
-        TokenKind::Number(_, _) => false,
-        TokenKind::Text(_) => false,
-        TokenKind::Define(_) => false,
-        TokenKind::Pragma => false,
-        TokenKind::Close => false,
-        TokenKind::Finish => false,
+        _ => false,
     }
 }
 
@@ -217,14 +167,7 @@ pub fn is_word(kind: &TokenKind, word: Reserved) -> bool
 {
     match kind {
         TokenKind::Word(found) => same_word(word, *found),
-        TokenKind::Name(_) => false,
-        TokenKind::Number(_, _) => false,
-        TokenKind::Text(_) => false,
-        TokenKind::Mark(_) => false,
-        TokenKind::Define(_) => false,
-        TokenKind::Pragma => false,
-        TokenKind::Close => false,
-        TokenKind::Finish => false,
+        _ => false,
     }
 }
 
@@ -233,14 +176,7 @@ pub fn is_spelled(kind: &TokenKind, bytes: &[u8]) -> bool
 {
     match kind {
         TokenKind::Name(found) => same_bytes(bytes, found.as_slice()),
-        TokenKind::Word(_) => false,
-        TokenKind::Number(_, _) => false,
-        TokenKind::Text(_) => false,
-        TokenKind::Mark(_) => false,
-        TokenKind::Define(_) => false,
-        TokenKind::Pragma => false,
-        TokenKind::Close => false,
-        TokenKind::Finish => false,
+        _ => false,
     }
 }
 
@@ -249,14 +185,7 @@ pub fn is_pragma(kind: &TokenKind) -> bool
 {
     match kind {
         TokenKind::Pragma => true,
-        TokenKind::Name(_) => false,
-        TokenKind::Word(_) => false,
-        TokenKind::Number(_, _) => false,
-        TokenKind::Text(_) => false,
-        TokenKind::Mark(_) => false,
-        TokenKind::Define(_) => false,
-        TokenKind::Close => false,
-        TokenKind::Finish => false,
+        _ => false,
     }
 }
 
@@ -265,14 +194,7 @@ pub fn is_close(kind: &TokenKind) -> bool
 {
     match kind {
         TokenKind::Close => true,
-        TokenKind::Name(_) => false,
-        TokenKind::Word(_) => false,
-        TokenKind::Number(_, _) => false,
-        TokenKind::Text(_) => false,
-        TokenKind::Mark(_) => false,
-        TokenKind::Define(_) => false,
-        TokenKind::Pragma => false,
-        TokenKind::Finish => false,
+        _ => false,
     }
 }
 
@@ -281,14 +203,7 @@ pub fn is_finish(kind: &TokenKind) -> bool
 {
     match kind {
         TokenKind::Finish => true,
-        TokenKind::Name(_) => false,
-        TokenKind::Word(_) => false,
-        TokenKind::Number(_, _) => false,
-        TokenKind::Text(_) => false,
-        TokenKind::Mark(_) => false,
-        TokenKind::Define(_) => false,
-        TokenKind::Pragma => false,
-        TokenKind::Close => false,
+        _ => false,
     }
 }
 
@@ -308,14 +223,7 @@ pub fn is_name(kind: &TokenKind) -> bool
 {
     match kind {
         TokenKind::Name(_) => true,
-        TokenKind::Word(_) => false,
-        TokenKind::Number(_, _) => false,
-        TokenKind::Text(_) => false,
-        TokenKind::Mark(_) => false,
-        TokenKind::Define(_) => false,
-        TokenKind::Pragma => false,
-        TokenKind::Close => false,
-        TokenKind::Finish => false,
+        _ => false,
     }
 }
 
@@ -323,14 +231,7 @@ pub fn is_number(kind: &TokenKind) -> bool
     ensures { result ≡ g.is_number kind.now }
 {
     match kind {
-        TokenKind::Name(_) => false,
-        TokenKind::Word(_) => false,
         TokenKind::Number(_, _) => true,
-        TokenKind::Text(_) => false,
-        TokenKind::Mark(_) => false,
-        TokenKind::Define(_) => false,
-        TokenKind::Pragma => false,
-        TokenKind::Close => false,
-        TokenKind::Finish => false,
+        _ => false,
     }
 }
