@@ -29,6 +29,9 @@ decreases-held l = 16 * length l.r.tokens.now + 4
 abbrev pub decreases-if_statement : goal.decreases-if_statement
 decreases-if_statement l = 16 * length l.r.tokens.now + 2
 
+abbrev pub decreases-if_behind : goal.decreases-if_behind
+decreases-if_behind l = 16 * length l.r.tokens.now + 2
+
 abbrev pub decreases-else_part : goal.decreases-else_part
 decreases-else_part l = 16 * length l.r.tokens.now + 1
 
