@@ -198,14 +198,14 @@ fn all_parts(alloc: Global, r: Reader<'_>) -> Parsed<'_, AllParts>
 }
 
 /// The head of these parts and of the places around them.
-fn head_of(word: Place, open: Place, parts: AllParts, close: Place) -> ForHead
+fn head_of(word: Place, bracket: Place, parts: AllParts, close: Place) -> ForHead
     ensures first { (result.first ≡ parts.first) × (result.first_end ≡ parts.first_end) }
     ensures last { (result.test ≡ parts.last.test) × (result.test_end ≡ parts.last.test_end) × (result.next ≡ parts.last.next) }
-    ensures places { (result.word ≡ word) × (result.open ≡ «open») × (result.close ≡ close) }
+    ensures places { (result.word ≡ word) × (result.open ≡ bracket) × (result.close ≡ close) }
 {
     ForHead {
         word,
-        open,
+        open: bracket,
         first: parts.first,
         first_end: parts.first_end,
         test: parts.last.test,
