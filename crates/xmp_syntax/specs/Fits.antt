@@ -47,6 +47,7 @@ abbrev pub links_level : Links → ℕ
 links_level last = 0
 links_level (link op p e ls) = mark_binds op
 
+-- the level of an expression
 abbrev pub level_of : Expr → ℕ
 level_of (chain e ls) = links_level ls
 level_of (conditional x p y q z) = 11
@@ -250,5 +251,6 @@ EndsInFunction [] = ⊥
 EndsInFunction (top.Function x ∷ []) = ⊤
 EndsInFunction (x ∷ xs) = EndsInFunction xs
 
+-- The tree fits the grammar: each of its parts does, and the last is a function.
 abbrev pub FitsTree : Tree → Type 0
 FitsTree x = EndsInFunction x.parts × Each FitsTop x.parts

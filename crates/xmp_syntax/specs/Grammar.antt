@@ -137,10 +137,12 @@ mark_binds m.AndAnd = 9
 mark_binds m.OrOr = 10
 mark_binds _ = 0
 
+-- The same of a token.
 abbrev pub binds : TokenKind → ℕ
 binds (t.Mark x) = mark_binds x
 binds _ = 0
 
+-- a binary operator of this level
 abbrev pub binary : ℕ → Test
 binary n kind = binds kind == n
 
@@ -257,13 +259,15 @@ any_dims r = many (is_mark m.OpenBracket) (brackets r)
 abbrev pub dims : Rule → Rule
 dims r = brackets r · any_dims r
 
--- an expression behind which no colon may stand, and one behind which one may
+-- an expression behind which no colon may stand but an image's
 abbrev pub expr : Rule
 expr = part (p.expression false)
 
+-- an expression behind which a colon may stand that is no image's
 abbrev pub expr_colon : Rule
 expr_colon = part (p.expression true)
 
+-- a statement that counts in the depth, from here to its end
 abbrev pub counted : Rule → Rule
 counted r = mark enter · r · mark leave
 

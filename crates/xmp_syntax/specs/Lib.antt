@@ -6,7 +6,8 @@ pub mod View
 pub mod Spell
 pub mod Fits
 pub mod Refused
-pub mod Steps
-pub mod Seen
 pub mod Shape
 pub mod Fronts
+-- lemmas that crates above share
+pub mod Steps
+pub mod Seen

@@ -67,6 +67,7 @@ behind separator (depths d b L) = depths b b L
 behind opening (depths d b L) = depths (suc d) (suc d) ((d, b) ∷ L)
 behind closing (depths d b L) = outside L
 behind cast (depths d b L) = deeper (outside L)
+-- a counted statement begins with no operator pending, so the level of operators is raised with the depth
 behind enter (depths d b L) = depths (suc d) (suc b) ((d, b) ∷ L)
 behind leave (depths d b L) = outside L
 
@@ -85,6 +86,7 @@ pair_step true D r K t u ts = goes (now D ∷ now (behind opening D) ∷ []) (re
 pair_step false D r K t u ts = goes [] (reading D K (t ∷ u ∷ ts))
 
 module _ (rule : Part → Rule) where
+  -- what comes next, by the first of the rules to come and the tokens that are left
   abbrev pub step : State → Step
   step (reading D [] ts) = halts
   step (reading D (r ∷ K) []) = halts

@@ -42,6 +42,7 @@ pub record TooDeep (D : Depths) (K : List Rule) (ts : List Token) (left : ℕ) :
 abbrev pub start : Depths
 start = depths 0 0 []
 
+-- the rules of what is to come there: a program
 abbrev pub program_rules : List Rule
 program_rules = part program ∷ []
 

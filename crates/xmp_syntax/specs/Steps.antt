@@ -1,4 +1,5 @@
--- How readings, and the places of refusals, are put together.
+-- Shared lemmas: how readings, and the places of refusals, are put together. Four definitions stand among them: `Local`, `ShallowBegins`,
+-- `StuckAt` and `TooDeepAt`.
 use Rattle.std.proofs.Common.{◌≡◌, ◌≤◌, ◌<◌, ℕ, suc, Bool, true, false, cond, List, [], ◌∷◌, ◌++◌, length, All, refl, sym, ap, ◌∙◌, subst, append_assoc}
 use Rattle.std.specs.Prelude.{◌&&◌, ◌⊎◌}
 use Rattle.std.proofs.lemmas.List.Elements.{All-nil, All-cons, All-head, All-tail, All-append}
