@@ -20,7 +20,7 @@ use Rattle.xmp_prog.specs.declared.parts.Kind.TheVariants.{Global, Coarray}
 use Rattle.xmp_prog.specs.declared.parts.Array as made_array
 use Rattle.xmp_prog.specs.declared.parts.ProgParts.{ProgParts}
 use Rattle.xmp_prog.specs.declared.statements.Stmt.{Stmt}
-use Rattle.xmp_tree.specs.declared.program.Tree.{Tree}
+use Rattle.xmp_syntax.specs.declared.program.Tree.{Tree}
 use Rattle.xmp_walk.specs.declared.names.Array.{Array}
 use Rattle.xmp_walk.specs.declared.mappings.Form.{Form}
 use Rattle.xmp_walk.specs.declared.mappings.Form.TheVariants as form

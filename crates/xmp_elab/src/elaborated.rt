@@ -14,7 +14,7 @@ use std::alloc::{AllocError, Global};
 use xmp_base::{Fault, Refusal};
 use xmp_map::{Grid, Template};
 use xmp_prog::{Array, Kind, ProgParts, Stmt};
-use xmp_tree::Tree;
+use xmp_syntax::Tree;
 use xmp_walk::{World, mapping_rules, nodes_of, walk_program};
 
 // The verdict on a world after the walk.

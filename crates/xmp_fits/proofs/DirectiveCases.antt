@@ -11,14 +11,14 @@ use Rattle.xmp_prog.specs.declared.parts.ProgParts.{ProgParts}
 use Rattle.xmp_prog.specs.declared.statements.Plain.TheVariants as p
 use Rattle.xmp_prog.specs.declared.statements.Stmt as made
 use Rattle.xmp_prog.specs.declared.statements.Stmt.TheVariants as s
-use Rattle.xmp_tree.specs.declared.expression.Expr.{Expr}
-use Rattle.xmp_tree.specs.declared.declaration.Declarator.{Declarator}
-use Rattle.xmp_tree.specs.declared.declaration.Declarator.TheVariants as declarator
-use Rattle.xmp_tree.specs.declared.statement.Simple.{Simple}
-use Rattle.xmp_tree.specs.declared.statement.Simple.TheVariants as simple
-use Rattle.xmp_tree.specs.declared.statement.ForHead.{ForHead}
-use Rattle.xmp_tree.specs.declared.statement.Plain.{Plain}
-use Rattle.xmp_tree.specs.declared.statement.Plain.TheVariants as plain
+use Rattle.xmp_syntax.specs.declared.expression.Expr.{Expr}
+use Rattle.xmp_syntax.specs.declared.declaration.Declarator.{Declarator}
+use Rattle.xmp_syntax.specs.declared.declaration.Declarator.TheVariants as declarator
+use Rattle.xmp_syntax.specs.declared.statement.Simple.{Simple}
+use Rattle.xmp_syntax.specs.declared.statement.Simple.TheVariants as simple
+use Rattle.xmp_syntax.specs.declared.statement.ForHead.{ForHead}
+use Rattle.xmp_syntax.specs.declared.statement.Plain.{Plain}
+use Rattle.xmp_syntax.specs.declared.statement.Plain.TheVariants as plain
 use Rattle.xmp_walk.specs.declared.loops.First.{First}
 use Rattle.xmp_walk.specs.declared.loops.Shape.{Shape}
 use Rattle.xmp_walk.specs.declared.operators.Operator.{Operator}

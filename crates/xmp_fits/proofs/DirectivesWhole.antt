@@ -12,8 +12,8 @@ use Rattle.xmp_prog.specs.declared.statements.Stmt.TheVariants as s
 use Rattle.xmp_prog.specs.Fits.{DirectivesFit, MappingsFit, all_statements, has_coarrays, statements_of_program}
 use Rattle.xmp_prog.specs.Statements.{statements_of}
 use Rattle.xmp_prog.specs.Tests.{counted_fits, is_image, is_spread}
-use Rattle.xmp_tree.specs.declared.expression.Expr.{Expr}
-use Rattle.xmp_tree.specs.declared.program.Tree.{Tree}
+use Rattle.xmp_syntax.specs.declared.expression.Expr.{Expr}
+use Rattle.xmp_syntax.specs.declared.program.Tree.{Tree}
 use Rattle.xmp_walk.specs.declared.world.World.{World}
 use Rattle.xmp_walk.specs.MappingRules.{mapping_rules}
 use Rattle.xmp_elab.specs.Narrow.{is_count}

@@ -9,20 +9,20 @@ use Rattle.xmp_map.specs.declared.grid.NodeSet.{NodeSet}
 use Rattle.xmp_prog.specs.declared.statements.Stmt as made
 use Rattle.xmp_prog.specs.declared.statements.Stmt.TheVariants as s
 use Rattle.xmp_prog.specs.declared.statements.Task.{Task}
-use Rattle.xmp_tree.specs.declared.declaration.Declarator.{Declarator}
-use Rattle.xmp_tree.specs.declared.directive.DirectiveLine.{DirectiveLine}
-use Rattle.xmp_tree.specs.declared.directive.LoopLine.{LoopLine}
-use Rattle.xmp_tree.specs.declared.directive.Mapping.{Mapping}
-use Rattle.xmp_tree.specs.declared.directive.TaskLine.{TaskLine}
-use Rattle.xmp_tree.specs.declared.expression.Expr.{Expr}
-use Rattle.xmp_tree.specs.declared.statement.ForHead.{ForHead}
-use Rattle.xmp_tree.specs.declared.statement.Plain.{Plain}
-use Rattle.xmp_tree.specs.declared.statement.Plain.TheVariants as plain
-use Rattle.xmp_tree.specs.declared.statement.BlockItem.{BlockItem}
-use Rattle.xmp_tree.specs.declared.statement.BlockItem.TheVariants as b
-use Rattle.xmp_tree.specs.declared.statement.Stmt.{Stmt, out-Stmt, roll-Stmt, roll-out-Stmt}
-use Rattle.xmp_tree.specs.declared.statement.Stmt.TheOpen.{Stmt-F}
-use Rattle.xmp_tree.specs.declared.statement.Stmt.TheVariants as t
+use Rattle.xmp_syntax.specs.declared.declaration.Declarator.{Declarator}
+use Rattle.xmp_syntax.specs.declared.directive.DirectiveLine.{DirectiveLine}
+use Rattle.xmp_syntax.specs.declared.directive.LoopLine.{LoopLine}
+use Rattle.xmp_syntax.specs.declared.directive.Mapping.{Mapping}
+use Rattle.xmp_syntax.specs.declared.directive.TaskLine.{TaskLine}
+use Rattle.xmp_syntax.specs.declared.expression.Expr.{Expr}
+use Rattle.xmp_syntax.specs.declared.statement.ForHead.{ForHead}
+use Rattle.xmp_syntax.specs.declared.statement.Plain.{Plain}
+use Rattle.xmp_syntax.specs.declared.statement.Plain.TheVariants as plain
+use Rattle.xmp_syntax.specs.declared.statement.BlockItem.{BlockItem}
+use Rattle.xmp_syntax.specs.declared.statement.BlockItem.TheVariants as b
+use Rattle.xmp_syntax.specs.declared.statement.Stmt.{Stmt, out-Stmt, roll-Stmt, roll-out-Stmt}
+use Rattle.xmp_syntax.specs.declared.statement.Stmt.TheOpen.{Stmt-F}
+use Rattle.xmp_syntax.specs.declared.statement.Stmt.TheVariants as t
 use Rattle.xmp_walk.specs.declared.loops.ForParts.{ForParts}
 use Rattle.xmp_walk.specs.declared.loop_lines.LoopParts.{LoopParts}
 use Rattle.xmp_walk.specs.declared.typed.Operand.{Operand}

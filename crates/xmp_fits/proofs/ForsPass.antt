@@ -29,7 +29,7 @@ use Rattle.xmp_prog.specs.Counted.{most_counted}
 use Rattle.xmp_prog.specs.Statements.{writes_of}
 use Rattle.xmp_prog.specs.Terms.{type_of}
 use Rattle.xmp_prog.specs.Tests.{is_shift}
-use Rattle.xmp_tree.specs.declared.statement.ForHead.{ForHead}
+use Rattle.xmp_syntax.specs.declared.statement.ForHead.{ForHead}
 use Rattle.xmp_walk.specs.declared.typed.Operand.{Operand}
 use Rattle.xmp_walk.specs.declared.operators.Operator.{Operator}
 use Rattle.xmp_walk.specs.declared.operators.Operator.TheVariants as operator

@@ -7,7 +7,7 @@ use Rattle.std.proofs.lemmas.List.{map-append}
 use Rattle.xmp_num.specs.declared.types.Ty.{Ty}
 use Rattle.xmp_scopes.specs.Names as scope
 use Rattle.xmp_prog.specs.declared.parts.Function as made_function
-use Rattle.xmp_tree.specs.declared.program.Function.{Function}
+use Rattle.xmp_syntax.specs.declared.program.Function.{Function}
 use Rattle.xmp_walk.specs.declared.names.Region.{Region}
 use Rattle.xmp_walk.specs.declared.names.Region.TheVariants as region
 use Rattle.xmp_walk.specs.declared.names.Meaning.{Meaning}

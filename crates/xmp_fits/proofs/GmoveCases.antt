@@ -24,12 +24,12 @@ use Rattle.xmp_prog.specs.Terms.{terms_of}
 use Rattle.xmp_prog.specs.Statements.{terms_of_part, terms_of_side, slots_of_side}
 use Rattle.xmp_prog.specs.Fits.{has_coarrays}
 use Rattle.xmp_prog.specs.Directives.{sections_in}
-use Rattle.xmp_tree.specs.declared.parts.Inside.{Inside}
-use Rattle.xmp_tree.specs.declared.expression.Expr.{Expr}
-use Rattle.xmp_tree.specs.declared.directive.DirectiveLine.{DirectiveLine}
-use Rattle.xmp_tree.specs.declared.directive.Section.{Section}
-use Rattle.xmp_tree.specs.declared.directive.Section.TheVariants as section
-use Rattle.xmp_tree.specs.declared.directive.Sections.{Sections}
+use Rattle.xmp_syntax.specs.declared.parts.Inside.{Inside}
+use Rattle.xmp_syntax.specs.declared.expression.Expr.{Expr}
+use Rattle.xmp_syntax.specs.declared.directive.DirectiveLine.{DirectiveLine}
+use Rattle.xmp_syntax.specs.declared.directive.Section.{Section}
+use Rattle.xmp_syntax.specs.declared.directive.Section.TheVariants as section
+use Rattle.xmp_syntax.specs.declared.directive.Sections.{Sections}
 use Rattle.xmp_walk.specs.declared.names.Meaning.{Meaning}
 use Rattle.xmp_walk.specs.declared.names.Meaning.TheVariants.{Scalar, Array, Nodes, Template, Function}
 use Rattle.xmp_walk.specs.declared.names.Array as array

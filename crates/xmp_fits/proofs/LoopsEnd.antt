@@ -12,8 +12,8 @@ use Rattle.xmp_prog.specs.declared.statements.Stmt.TheVariants as s
 use Rattle.xmp_prog.specs.Counted.{is_nest}
 use Rattle.xmp_prog.specs.Statements.{statements_of, writes_of}
 use Rattle.xmp_prog.specs.Tests.{counted_fits}
-use Rattle.xmp_tree.specs.declared.directive.LoopLine.{LoopLine}
-use Rattle.xmp_tree.specs.declared.directive.Point.{Point}
+use Rattle.xmp_syntax.specs.declared.directive.LoopLine.{LoopLine}
+use Rattle.xmp_syntax.specs.declared.directive.Point.{Point}
 use Rattle.xmp_walk.specs.declared.loop_lines.LoopParts.{LoopParts}
 use Rattle.xmp_walk.specs.declared.mappings.LoopUse.{LoopUse}
 use Rattle.xmp_walk.specs.declared.mappings.TemplateLine.{TemplateLine}

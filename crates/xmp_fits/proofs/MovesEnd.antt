@@ -15,11 +15,11 @@ use Rattle.xmp_prog.specs.declared.statements.MoveSide.{MoveSide}
 use Rattle.xmp_prog.specs.declared.statements.Plain.TheVariants as plain
 use Rattle.xmp_prog.specs.Directives.{parts_fit, sections_agree, sections_in, side_fits}
 use Rattle.xmp_prog.specs.Statements.{arrays_of_side, slots_of_names}
-use Rattle.xmp_tree.specs.declared.directive.DirectiveLine.{DirectiveLine}
-use Rattle.xmp_tree.specs.declared.directive.Section.{Section}
-use Rattle.xmp_tree.specs.declared.directive.Sections.{Sections}
-use Rattle.xmp_tree.specs.declared.parts.CommaList.{CommaList}
-use Rattle.xmp_tree.specs.declared.parts.Name as named
+use Rattle.xmp_syntax.specs.declared.directive.DirectiveLine.{DirectiveLine}
+use Rattle.xmp_syntax.specs.declared.directive.Section.{Section}
+use Rattle.xmp_syntax.specs.declared.directive.Sections.{Sections}
+use Rattle.xmp_syntax.specs.declared.parts.CommaList.{CommaList}
+use Rattle.xmp_syntax.specs.declared.parts.Name as named
 use Rattle.xmp_scopes.specs.Names as scope
 use Rattle.xmp_walk.specs.declared.names.Meaning.{Meaning}
 use Rattle.xmp_walk.specs.declared.names.Meaning.TheVariants as meaning

@@ -15,7 +15,7 @@ use Rattle.xmp_prog.specs.declared.expressions.Expr.TheOpen.{Access-F}
 use Rattle.xmp_prog.specs.declared.parts.Function as made_function
 use Rattle.xmp_prog.specs.declared.parts.ProgParts.{ProgParts}
 use Rattle.xmp_prog.specs.Fits.{has_coarrays}
-use Rattle.xmp_tree.specs.declared.parts.Name as named
+use Rattle.xmp_syntax.specs.declared.parts.Name as named
 use Rattle.xmp_walk.specs.declared.names.Meaning.{Meaning}
 use Rattle.xmp_walk.specs.declared.names.Meaning.TheVariants.{Scalar, Array, Nodes, Template, Function}
 use Rattle.xmp_walk.specs.declared.names.Array as array

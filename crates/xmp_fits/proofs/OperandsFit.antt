@@ -16,7 +16,7 @@ use Rattle.xmp_prog.specs.declared.parts.ProgParts.{ProgParts}
 use Rattle.xmp_prog.specs.Numbers.{same_type, lies_in}
 use Rattle.xmp_prog.specs.Terms.{result_of}
 use Rattle.xmp_prog.specs.Tests.{is_shift, right_fits}
-use Rattle.xmp_tree.specs.declared.parts.Link.{Link}
+use Rattle.xmp_syntax.specs.declared.parts.Link.{Link}
 use Rattle.xmp_walk.specs.declared.names.Environment.{Environment}
 use Rattle.xmp_walk.specs.declared.rules.Notes.{Notes}
 use Rattle.xmp_walk.specs.declared.operators.Operator.{Operator}

@@ -10,11 +10,11 @@ use Rattle.xmp_prog.specs.declared.statements.Stmt as made
 use Rattle.xmp_prog.specs.declared.statements.Stmt.TheVariants as s
 use Rattle.xmp_prog.specs.declared.parts.Function as made_function
 use Rattle.xmp_prog.specs.declared.parts.Start.{Start}
-use Rattle.xmp_tree.specs.declared.parts.Name as named
-use Rattle.xmp_tree.specs.declared.parts.TypeWords.{TypeWords}
-use Rattle.xmp_tree.specs.declared.expression.Expr.{Expr}
-use Rattle.xmp_tree.specs.declared.declaration.Declarator.{Declarator}
-use Rattle.xmp_tree.specs.declared.declaration.Declarator.TheVariants as declarator
+use Rattle.xmp_syntax.specs.declared.parts.Name as named
+use Rattle.xmp_syntax.specs.declared.parts.TypeWords.{TypeWords}
+use Rattle.xmp_syntax.specs.declared.expression.Expr.{Expr}
+use Rattle.xmp_syntax.specs.declared.declaration.Declarator.{Declarator}
+use Rattle.xmp_syntax.specs.declared.declaration.Declarator.TheVariants as declarator
 use Rattle.xmp_walk.specs.declared.names.Region.{Region}
 use Rattle.xmp_walk.specs.declared.names.Region.TheVariants as region
 use Rattle.xmp_walk.specs.declared.typed.Operand.{Operand}

@@ -3,8 +3,8 @@ use Rattle.std.proofs.Common.{ℕ, Option, Some, None, length}
 use Rattle.std.specs.Prelude.{⊤, ℤ, pos, ◌==◌, slice_get}
 use Rattle.xmp_base.specs.declared.place.Place.{Place}
 use Rattle.xmp_prog.specs.declared.expressions.Expr as prog
-use Rattle.xmp_tree.specs.declared.parts.Placed.{Placed}
-use Rattle.xmp_tree.specs.declared.expression.Expr.{Expr}
+use Rattle.xmp_syntax.specs.declared.parts.Placed.{Placed}
+use Rattle.xmp_syntax.specs.declared.expression.Expr.{Expr}
 use Rattle.xmp_lex.specs.declared.token.Mark.{Mark}
 use Rattle.xmp_walk.specs.declared.rules.Rule.TheVariants.{N3}
 use Rattle.xmp_walk.specs.Declarations as declarations

@@ -2,17 +2,17 @@
 use Rattle.std.proofs.Common.{refl, ◌∷◌, [], ℕ, ◌+◌, List, Bool, false, Option, Some, None, length, map}
 use Rattle.std.specs.Prelude.{⊤, ℤ, pos, not}
 use Rattle.xmp_base.specs.declared.place.Place.{Place}
-use Rattle.xmp_tree.specs.declared.parts.Name as named
-use Rattle.xmp_tree.specs.declared.parts.Inside.{Inside}
-use Rattle.xmp_tree.specs.declared.expression.Expr.{Expr}
-use Rattle.xmp_tree.specs.declared.directive.DistForm.{DistForm}
-use Rattle.xmp_tree.specs.declared.directive.DistForm.TheVariants as dist
-use Rattle.xmp_tree.specs.declared.directive.AlignDimension.{AlignDimension}
-use Rattle.xmp_tree.specs.declared.directive.AlignDimension.TheVariants as dimension
-use Rattle.xmp_tree.specs.declared.directive.Point.{Point}
-use Rattle.xmp_tree.specs.declared.directive.Point.TheVariants as point
-use Rattle.xmp_tree.specs.declared.directive.Mapping.{Mapping}
-use Rattle.xmp_tree.specs.declared.directive.Mapping.TheVariants as mapping
+use Rattle.xmp_syntax.specs.declared.parts.Name as named
+use Rattle.xmp_syntax.specs.declared.parts.Inside.{Inside}
+use Rattle.xmp_syntax.specs.declared.expression.Expr.{Expr}
+use Rattle.xmp_syntax.specs.declared.directive.DistForm.{DistForm}
+use Rattle.xmp_syntax.specs.declared.directive.DistForm.TheVariants as dist
+use Rattle.xmp_syntax.specs.declared.directive.AlignDimension.{AlignDimension}
+use Rattle.xmp_syntax.specs.declared.directive.AlignDimension.TheVariants as dimension
+use Rattle.xmp_syntax.specs.declared.directive.Point.{Point}
+use Rattle.xmp_syntax.specs.declared.directive.Point.TheVariants as point
+use Rattle.xmp_syntax.specs.declared.directive.Mapping.{Mapping}
+use Rattle.xmp_syntax.specs.declared.directive.Mapping.TheVariants as mapping
 use Rattle.xmp_scopes.specs.Names as scope
 use Rattle.xmp_walk.specs.declared.names.Meaning.{Meaning}
 use Rattle.xmp_walk.specs.declared.mappings.Form.{Form}

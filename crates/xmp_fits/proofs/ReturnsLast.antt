@@ -20,16 +20,16 @@ use Rattle.xmp_prog.specs.declared.statements.Task.{Task}
 use Rattle.xmp_prog.specs.Statements.{Statement, Walked, WalkedTask, statements_of, walk_step, walk_task, walked}
 use Rattle.xmp_prog.specs.Tests.{is_return, returns_in, returns_of, last_returns, returns_last}
 use Rattle.xmp_prog.proofs.Rolls.{at_block, at_plain}
-use Rattle.xmp_tree.specs.declared.expression.Expr.{Expr}
-use Rattle.xmp_tree.specs.declared.declaration.Declarator.{Declarator}
-use Rattle.xmp_tree.specs.declared.declaration.Declarator.TheVariants as declarator
-use Rattle.xmp_tree.specs.declared.directive.LoopLine.{LoopLine}
-use Rattle.xmp_tree.specs.declared.statement.ForFirst.{ForFirst}
-use Rattle.xmp_tree.specs.declared.statement.ForFirst.TheVariants as for_first
-use Rattle.xmp_tree.specs.declared.statement.Plain.{Plain}
-use Rattle.xmp_tree.specs.declared.statement.Plain.TheVariants as plain
-use Rattle.xmp_tree.specs.declared.statement.Simple.{Simple}
-use Rattle.xmp_tree.specs.declared.statement.Simple.TheVariants as simple
+use Rattle.xmp_syntax.specs.declared.expression.Expr.{Expr}
+use Rattle.xmp_syntax.specs.declared.declaration.Declarator.{Declarator}
+use Rattle.xmp_syntax.specs.declared.declaration.Declarator.TheVariants as declarator
+use Rattle.xmp_syntax.specs.declared.directive.LoopLine.{LoopLine}
+use Rattle.xmp_syntax.specs.declared.statement.ForFirst.{ForFirst}
+use Rattle.xmp_syntax.specs.declared.statement.ForFirst.TheVariants as for_first
+use Rattle.xmp_syntax.specs.declared.statement.Plain.{Plain}
+use Rattle.xmp_syntax.specs.declared.statement.Plain.TheVariants as plain
+use Rattle.xmp_syntax.specs.declared.statement.Simple.{Simple}
+use Rattle.xmp_syntax.specs.declared.statement.Simple.TheVariants as simple
 use Rattle.xmp_walk.specs.declared.names.Region.{Region}
 use Rattle.xmp_walk.specs.declared.names.Region.TheVariants as region
 use Rattle.xmp_walk.specs.declared.loops.First.{First}
@@ -48,7 +48,7 @@ use Rattle.xmp_walk.specs.Statements.{simple_of, first_of, set, compound_of, cal
 use Rattle.xmp_walk.specs.Directives.{judged_loop, nest_of, task_line, loop_line, made_task, array_name, scalar_name, set_of, side_of, sections_match}
 use Rattle.xmp_prog.specs.Directives.{sections_in}
 use Rattle.xmp_walk.specs.Program.{plain_of, program_of}
-use Rattle.xmp_tree.specs.declared.program.Tree.{Tree}
+use Rattle.xmp_syntax.specs.declared.program.Tree.{Tree}
 use Rattle.xmp_elab.proofs.Unbroken.{left_none, right_none, holds}
 use Rattle.xmp_fits.specs.NumbersLie.{numbers_lie}
 use Rattle.xmp_fits.specs.NumbersLie.{tree_lies}

@@ -16,12 +16,12 @@ use Rattle.xmp_prog.specs.Terms.{type_of, terms_of}
 use Rattle.xmp_prog.specs.Tests.{is_constant}
 use Rattle.xmp_prog.specs.Fits.{has_coarrays}
 use Rattle.xmp_prog.proofs.Rolls as rolls
-use Rattle.xmp_tree.specs.declared.parts.Format.{Format}
-use Rattle.xmp_tree.specs.declared.parts.Next.{Next}
-use Rattle.xmp_tree.specs.declared.parts.Reference.{Reference}
-use Rattle.xmp_tree.specs.declared.expression.Expr.{Expr}
-use Rattle.xmp_tree.specs.declared.statement.Simple.{Simple}
-use Rattle.xmp_tree.specs.declared.statement.Simple.TheVariants as simple
+use Rattle.xmp_syntax.specs.declared.parts.Format.{Format}
+use Rattle.xmp_syntax.specs.declared.parts.Next.{Next}
+use Rattle.xmp_syntax.specs.declared.parts.Reference.{Reference}
+use Rattle.xmp_syntax.specs.declared.expression.Expr.{Expr}
+use Rattle.xmp_syntax.specs.declared.statement.Simple.{Simple}
+use Rattle.xmp_syntax.specs.declared.statement.Simple.TheVariants as simple
 use Rattle.xmp_walk.specs.declared.names.Environment.{Environment}
 use Rattle.xmp_walk.specs.declared.rules.Rule.TheVariants.{N1, N3, N4, N5, N6, N7}
 use Rattle.xmp_walk.specs.declared.typed.Value.{Value}

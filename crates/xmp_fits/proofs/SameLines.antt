@@ -5,9 +5,9 @@ use Rattle.std.specs.List.{list_all}
 use Rattle.xmp_base.specs.declared.place.Place.{Place}
 use Rattle.xmp_num.specs.declared.types.Ty.{Ty}
 use Rattle.xmp_prog.specs.declared.expressions.Expr as prog
-use Rattle.xmp_tree.specs.declared.parts.Name as named
-use Rattle.xmp_tree.specs.declared.parts.Placed.{Placed}
-use Rattle.xmp_tree.specs.declared.expression.Expr.{Expr}
+use Rattle.xmp_syntax.specs.declared.parts.Name as named
+use Rattle.xmp_syntax.specs.declared.parts.Placed.{Placed}
+use Rattle.xmp_syntax.specs.declared.expression.Expr.{Expr}
 use Rattle.xmp_lex.specs.declared.token.Mark.{Mark}
 use Rattle.xmp_scopes.specs.Names as scope
 use Rattle.xmp_walk.specs.declared.names.Meaning.TheVariants.{Array}

@@ -23,7 +23,7 @@ use Rattle.xmp_prog.specs.Terms.{Term, Typed, typed_step, access_step, terms_of,
 use Rattle.xmp_prog.specs.Statements.{terms_of_head, indices_of}
 use Rattle.xmp_prog.specs.Scopes.{declared_in, scoped}
 use Rattle.xmp_prog.proofs.Rolls as rolls
-use Rattle.xmp_tree.specs.declared.statement.ForHead.{ForHead}
+use Rattle.xmp_syntax.specs.declared.statement.ForHead.{ForHead}
 use Rattle.xmp_walk.specs.declared.names.Environment.{Environment}
 use Rattle.xmp_walk.specs.declared.typed.Operand.{Operand}
 use Rattle.xmp_walk.specs.declared.loops.First.{First}

@@ -18,19 +18,19 @@ use Rattle.xmp_prog.specs.declared.parts.ProgParts.{ProgParts}
 use Rattle.xmp_prog.specs.Terms.{slots_of_terms}
 use Rattle.xmp_prog.specs.Statements.{terms_of_head, slots_of_point, indices_of}
 use Rattle.xmp_prog.specs.Scopes.{declared_in}
-use Rattle.xmp_tree.specs.declared.parts.Name as named
-use Rattle.xmp_tree.specs.declared.parts.Placed.{Placed}
+use Rattle.xmp_syntax.specs.declared.parts.Name as named
+use Rattle.xmp_syntax.specs.declared.parts.Placed.{Placed}
 use Rattle.xmp_lex.specs.declared.token.Mark.{Mark}
-use Rattle.xmp_tree.specs.declared.declaration.Declarator.{Declarator}
-use Rattle.xmp_tree.specs.declared.declaration.Declarator.TheVariants as declarator
-use Rattle.xmp_tree.specs.declared.directive.LoopLine.{LoopLine}
-use Rattle.xmp_tree.specs.declared.directive.Point.{Point}
-use Rattle.xmp_tree.specs.declared.directive.Point.TheVariants as point
-use Rattle.xmp_tree.specs.declared.directive.Reduction.{Reduction}
-use Rattle.xmp_tree.specs.declared.expression.Expr.{Expr}
-use Rattle.xmp_tree.specs.declared.statement.ForFirst.{ForFirst}
-use Rattle.xmp_tree.specs.declared.statement.ForFirst.TheVariants as for_first
-use Rattle.xmp_tree.specs.declared.statement.Simple.{Simple}
+use Rattle.xmp_syntax.specs.declared.declaration.Declarator.{Declarator}
+use Rattle.xmp_syntax.specs.declared.declaration.Declarator.TheVariants as declarator
+use Rattle.xmp_syntax.specs.declared.directive.LoopLine.{LoopLine}
+use Rattle.xmp_syntax.specs.declared.directive.Point.{Point}
+use Rattle.xmp_syntax.specs.declared.directive.Point.TheVariants as point
+use Rattle.xmp_syntax.specs.declared.directive.Reduction.{Reduction}
+use Rattle.xmp_syntax.specs.declared.expression.Expr.{Expr}
+use Rattle.xmp_syntax.specs.declared.statement.ForFirst.{ForFirst}
+use Rattle.xmp_syntax.specs.declared.statement.ForFirst.TheVariants as for_first
+use Rattle.xmp_syntax.specs.declared.statement.Simple.{Simple}
 use Rattle.xmp_scopes.specs.Names as scope
 use Rattle.xmp_walk.specs.declared.names.Environment.{Environment}
 use Rattle.xmp_walk.specs.declared.names.Meaning.{Meaning}

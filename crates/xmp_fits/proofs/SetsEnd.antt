@@ -12,12 +12,12 @@ use Rattle.xmp_prog.specs.declared.statements.Task.{Task, fold-roll-Task}
 use Rattle.xmp_prog.specs.NodeSets.{is_node_set, is_one_node, sets_apart}
 use Rattle.xmp_prog.specs.Numbers.{pairwise}
 use Rattle.xmp_prog.specs.Statements.{Walked, WalkedTask, statements_of, walk_step, walk_task, writes_of}
-use Rattle.xmp_tree.specs.declared.directive.DirectiveLine.{DirectiveLine}
-use Rattle.xmp_tree.specs.declared.directive.Section.{Section}
-use Rattle.xmp_tree.specs.declared.directive.Sections.{Sections}
-use Rattle.xmp_tree.specs.declared.directive.TaskLine.{TaskLine}
-use Rattle.xmp_tree.specs.declared.parts.CommaList.{CommaList}
-use Rattle.xmp_tree.specs.declared.parts.Name as named
+use Rattle.xmp_syntax.specs.declared.directive.DirectiveLine.{DirectiveLine}
+use Rattle.xmp_syntax.specs.declared.directive.Section.{Section}
+use Rattle.xmp_syntax.specs.declared.directive.Sections.{Sections}
+use Rattle.xmp_syntax.specs.declared.directive.TaskLine.{TaskLine}
+use Rattle.xmp_syntax.specs.declared.parts.CommaList.{CommaList}
+use Rattle.xmp_syntax.specs.declared.parts.Name as named
 use Rattle.xmp_walk.specs.declared.rules.Broken.{Broken}
 use Rattle.xmp_walk.specs.declared.rules.Rule.TheVariants.{N3, M8, M9}
 use Rattle.xmp_walk.specs.declared.world.World.{World}

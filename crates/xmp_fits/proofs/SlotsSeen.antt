@@ -21,18 +21,18 @@ use Rattle.xmp_prog.specs.declared.parts.ProgParts.{ProgParts}
 use Rattle.xmp_prog.specs.Terms as term
 use Rattle.xmp_prog.specs.Terms.{Term, terms_of, typed_step, access_step, slots_of_term, slots_of_terms}
 use Rattle.xmp_prog.proofs.Rolls as rolls
-use Rattle.xmp_tree.specs.declared.parts.Name as named
-use Rattle.xmp_tree.specs.declared.parts.Inside.{Inside}
-use Rattle.xmp_tree.specs.declared.parts.Image.{Image}
-use Rattle.xmp_tree.specs.declared.parts.CommaList.{CommaList}
-use Rattle.xmp_tree.specs.declared.parts.Next.{Next}
-use Rattle.xmp_tree.specs.declared.parts.Link.{Link}
-use Rattle.xmp_tree.specs.declared.parts.Reference.{Reference}
-use Rattle.xmp_tree.specs.declared.parts.Call.{Call}
-use Rattle.xmp_tree.specs.declared.expression.Expr.{Expr}
-use Rattle.xmp_tree.specs.declared.expression.Expr.TheFolds.{fold-roll-Expr, ind-Expr, map-Expr}
-use Rattle.xmp_tree.specs.declared.expression.Expr.TheViews.{roll-Expr}
-use Rattle.xmp_tree.specs.declared.expression.Expr.TheOpen.{Expr-F}
+use Rattle.xmp_syntax.specs.declared.parts.Name as named
+use Rattle.xmp_syntax.specs.declared.parts.Inside.{Inside}
+use Rattle.xmp_syntax.specs.declared.parts.Image.{Image}
+use Rattle.xmp_syntax.specs.declared.parts.CommaList.{CommaList}
+use Rattle.xmp_syntax.specs.declared.parts.Next.{Next}
+use Rattle.xmp_syntax.specs.declared.parts.Link.{Link}
+use Rattle.xmp_syntax.specs.declared.parts.Reference.{Reference}
+use Rattle.xmp_syntax.specs.declared.parts.Call.{Call}
+use Rattle.xmp_syntax.specs.declared.expression.Expr.{Expr}
+use Rattle.xmp_syntax.specs.declared.expression.Expr.TheFolds.{fold-roll-Expr, ind-Expr, map-Expr}
+use Rattle.xmp_syntax.specs.declared.expression.Expr.TheViews.{roll-Expr}
+use Rattle.xmp_syntax.specs.declared.expression.Expr.TheOpen.{Expr-F}
 use Rattle.xmp_scopes.specs.Names.{nearest, is_same}
 use Rattle.xmp_walk.specs.declared.names.Meaning.{Meaning}
 use Rattle.xmp_walk.specs.declared.names.Meaning.TheVariants.{Scalar, Array, Nodes, Template, Function}

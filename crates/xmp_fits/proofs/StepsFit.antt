@@ -8,13 +8,13 @@ use Rattle.xmp_prog.specs.declared.expressions.Expr as prog
 use Rattle.xmp_prog.specs.declared.expressions.Expr.TheVariants as e
 use Rattle.xmp_prog.specs.declared.expressions.Access.{Access, roll-Access}
 use Rattle.xmp_prog.specs.declared.parts.ProgParts.{ProgParts}
-use Rattle.xmp_tree.specs.declared.parts.Inside.{Inside}
-use Rattle.xmp_tree.specs.declared.parts.Image.{Image}
-use Rattle.xmp_tree.specs.declared.parts.CommaList.{CommaList}
-use Rattle.xmp_tree.specs.declared.parts.Next.{Next}
-use Rattle.xmp_tree.specs.declared.parts.Reference.{Reference}
-use Rattle.xmp_tree.specs.declared.parts.Call.{Call}
-use Rattle.xmp_tree.specs.declared.expression.Expr.{Expr}
+use Rattle.xmp_syntax.specs.declared.parts.Inside.{Inside}
+use Rattle.xmp_syntax.specs.declared.parts.Image.{Image}
+use Rattle.xmp_syntax.specs.declared.parts.CommaList.{CommaList}
+use Rattle.xmp_syntax.specs.declared.parts.Next.{Next}
+use Rattle.xmp_syntax.specs.declared.parts.Reference.{Reference}
+use Rattle.xmp_syntax.specs.declared.parts.Call.{Call}
+use Rattle.xmp_syntax.specs.declared.expression.Expr.{Expr}
 use Rattle.xmp_walk.specs.declared.names.Meaning.{Meaning}
 use Rattle.xmp_walk.specs.declared.names.Meaning.TheVariants.{Scalar, Array, Nodes, Template, Function}
 use Rattle.xmp_walk.specs.declared.names.Array as array

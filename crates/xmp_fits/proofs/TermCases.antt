@@ -11,7 +11,7 @@ use Rattle.xmp_walk.specs.declared.names.Meaning.TheVariants.{Array}
 use Rattle.xmp_map.specs.Spread.{sizes_fit}
 use Rattle.xmp_prog.specs.declared.parts.ProgParts.{ProgParts}
 use Rattle.xmp_prog.specs.declared.statements.Stmt as made
-use Rattle.xmp_tree.specs.declared.expression.Expr.{Expr}
+use Rattle.xmp_syntax.specs.declared.expression.Expr.{Expr}
 use Rattle.xmp_walk.specs.declared.typed.Operand.{Operand}
 use Rattle.xmp_walk.specs.declared.world.World.{World}
 use Rattle.xmp_walk.specs.Expressions.{is_function, is_first}

@@ -23,11 +23,11 @@ use Rattle.xmp_prog.specs.Fits.{has_coarrays}
 use Rattle.xmp_prog.specs.Terms.{Typed, terms_of, typed_step, access_step}
 use Rattle.xmp_prog.specs.Statements.{slots_of_point}
 use Rattle.xmp_prog.proofs.Rolls as rolls
-use Rattle.xmp_tree.specs.declared.directive.Sections.{Sections}
-use Rattle.xmp_tree.specs.declared.directive.DirectiveLine.{DirectiveLine}
-use Rattle.xmp_tree.specs.declared.directive.TaskLine.{TaskLine}
-use Rattle.xmp_tree.specs.declared.statement.ForHead.{ForHead}
-use Rattle.xmp_tree.specs.declared.statement.Plain.TheVariants as plain
+use Rattle.xmp_syntax.specs.declared.directive.Sections.{Sections}
+use Rattle.xmp_syntax.specs.declared.directive.DirectiveLine.{DirectiveLine}
+use Rattle.xmp_syntax.specs.declared.directive.TaskLine.{TaskLine}
+use Rattle.xmp_syntax.specs.declared.statement.ForHead.{ForHead}
+use Rattle.xmp_syntax.specs.declared.statement.Plain.TheVariants as plain
 use Rattle.xmp_walk.specs.declared.loops.First.{First}
 use Rattle.xmp_walk.specs.declared.loops.Shape.{Shape}
 use Rattle.xmp_walk.specs.declared.loop_lines.LoopParts.{LoopParts}

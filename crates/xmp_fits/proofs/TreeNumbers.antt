@@ -3,16 +3,16 @@ use Rattle.std.proofs.Common.{◌≡◌, ◌∙◌, sym, subst, ◌∷◌, [], B
 use Rattle.std.specs.List.{list_all, AllByRecursion}
 use Rattle.xmp_base.specs.declared.place.Place.{Place}
 use Rattle.xmp_prog.specs.declared.parts.ProgParts.{ProgParts}
-use Rattle.xmp_tree.specs.declared.parts.Name as named
-use Rattle.xmp_tree.specs.declared.parts.Inside.{Inside}
-use Rattle.xmp_tree.specs.declared.parts.Image.{Image}
-use Rattle.xmp_tree.specs.declared.parts.CommaList.{CommaList}
-use Rattle.xmp_tree.specs.declared.parts.Next.{Next}
-use Rattle.xmp_tree.specs.declared.parts.Link.{Link}
-use Rattle.xmp_tree.specs.declared.expression.Expr.{Expr}
-use Rattle.xmp_tree.specs.declared.expression.Expr.TheFolds.{fold-roll-Expr, ind-Expr, map-Expr}
-use Rattle.xmp_tree.specs.declared.expression.Expr.TheViews.{roll-Expr}
-use Rattle.xmp_tree.specs.declared.expression.Expr.TheOpen.{Expr-F}
+use Rattle.xmp_syntax.specs.declared.parts.Name as named
+use Rattle.xmp_syntax.specs.declared.parts.Inside.{Inside}
+use Rattle.xmp_syntax.specs.declared.parts.Image.{Image}
+use Rattle.xmp_syntax.specs.declared.parts.CommaList.{CommaList}
+use Rattle.xmp_syntax.specs.declared.parts.Next.{Next}
+use Rattle.xmp_syntax.specs.declared.parts.Link.{Link}
+use Rattle.xmp_syntax.specs.declared.expression.Expr.{Expr}
+use Rattle.xmp_syntax.specs.declared.expression.Expr.TheFolds.{fold-roll-Expr, ind-Expr, map-Expr}
+use Rattle.xmp_syntax.specs.declared.expression.Expr.TheViews.{roll-Expr}
+use Rattle.xmp_syntax.specs.declared.expression.Expr.TheOpen.{Expr-F}
 use Rattle.xmp_walk.specs.declared.names.Environment.{Environment}
 use Rattle.xmp_walk.specs.declared.typed.Typed.{Typed}
 use Rattle.xmp_walk.specs.declared.typed.Parts.{Parts}

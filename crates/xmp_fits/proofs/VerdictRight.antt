@@ -7,7 +7,7 @@ use Rattle.xmp_prog.specs.declared.parts.ProgParts.{ProgParts}
 use Rattle.xmp_prog.specs.declared.statements.Stmt.{Stmt}
 use Rattle.xmp_prog.specs.Fits.{DirectivesFit, MappingsFit, all_statements, has_coarrays}
 use Rattle.xmp_prog.specs.Tests.{counted_fits, is_image, is_spread}
-use Rattle.xmp_tree.specs.declared.program.Tree.{Tree}
+use Rattle.xmp_syntax.specs.declared.program.Tree.{Tree}
 use Rattle.xmp_walk.specs.declared.world.World.{World}
 use Rattle.xmp_walk.specs.MappingRules.{mapping_rules}
 use Rattle.xmp_elab.specs.Narrow.{is_count}

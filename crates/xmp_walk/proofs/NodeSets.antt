@@ -3,7 +3,7 @@ use Rattle.std.proofs.Common.{◌≡◌, ◌∙◌, sym, ap, ℕ, ℤ, List, [],
 use Rattle.std.specs.Prelude.{⊤, ◌==◌, ◌&&◌, ◌||◌, not, Option}
 use Rattle.xmp_base.specs.declared.place.Place.{Place}
 use Rattle.xmp_map.specs.declared.grid.NodeSet.{NodeSet}
-use Rattle.xmp_tree.specs.declared.directive.Sections.{Sections}
+use Rattle.xmp_syntax.specs.declared.directive.Sections.{Sections}
 use Rattle.xmp_walk.specs.declared.rules.Rule.TheVariants.{N3, M8}
 use Rattle.xmp_walk.specs.declared.world.World.{World}
 use Rattle.xmp_walk.specs.Expressions.{is_nothing}

@@ -2,7 +2,7 @@
 use Rattle.std.proofs.Common.{◌≡◌, ◌∙◌, ◌<◌, ◌+◌, ◌++◌, sym, ap, ℕ, List, length, drop, get_or}
 use Rattle.xmp_num.specs.declared.types.RedOp.{RedOp}
 use Rattle.xmp_prog.specs.declared.statements.Reduction as made
-use Rattle.xmp_tree.specs.declared.directive.Reduction.{Reduction}
+use Rattle.xmp_syntax.specs.declared.directive.Reduction.{Reduction}
 use Rattle.xmp_walk.specs.declared.world.World.{World}
 use Rattle.xmp_walk.specs.Declarations.{listed}
 use Rattle.xmp_walk.specs.Walk.{Gave, and_then, each}

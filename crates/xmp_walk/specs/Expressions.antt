@@ -7,14 +7,14 @@ use Rattle.xmp_num.specs.declared.types.Ty.TheVariants.{Int}
 use Rattle.xmp_prog.specs.declared.expressions.Expr as prog
 use Rattle.xmp_prog.specs.declared.expressions.Expr.TheVariants as e
 use Rattle.xmp_prog.specs.declared.expressions.Access.{roll-Access}
-use Rattle.xmp_tree.specs.declared.parts.Name as named
-use Rattle.xmp_tree.specs.declared.parts.Inside.{Inside}
-use Rattle.xmp_tree.specs.declared.parts.CommaList.{CommaList}
-use Rattle.xmp_tree.specs.declared.parts.Next.{Next}
-use Rattle.xmp_tree.specs.declared.parts.Link.{Link}
-use Rattle.xmp_tree.specs.declared.parts.Reference.{Reference}
-use Rattle.xmp_tree.specs.declared.expression.Expr.{Expr, fold-Expr}
-use Rattle.xmp_tree.specs.declared.expression.Expr.TheOpen.{Expr-F}
+use Rattle.xmp_syntax.specs.declared.parts.Name as named
+use Rattle.xmp_syntax.specs.declared.parts.Inside.{Inside}
+use Rattle.xmp_syntax.specs.declared.parts.CommaList.{CommaList}
+use Rattle.xmp_syntax.specs.declared.parts.Next.{Next}
+use Rattle.xmp_syntax.specs.declared.parts.Link.{Link}
+use Rattle.xmp_syntax.specs.declared.parts.Reference.{Reference}
+use Rattle.xmp_syntax.specs.declared.expression.Expr.{Expr, fold-Expr}
+use Rattle.xmp_syntax.specs.declared.expression.Expr.TheOpen.{Expr-F}
 use Rattle.xmp_scopes.specs.Names.{Name, is_same, nearest, depth_of}
 use Rattle.xmp_walk.specs.declared.names.Region.{Region}
 use Rattle.xmp_walk.specs.declared.names.Region.TheVariants as region

@@ -1,18 +1,18 @@
 -- The mapping directives where they stand: their names are resolved there, and their numbers kept (XcalableMP 1.4, section 4.3).
 use Rattle.std.specs.Prelude.{⊤, ◌++◌, ◌∷◌, [], ℕ, ◌+◌, ◌==◌, List, ℤ, pos, Bool, true, false, not, Option, Some, None, length, map, slice_get}
 use Rattle.xmp_base.specs.declared.place.Place.{Place}
-use Rattle.xmp_tree.specs.declared.parts.Name as named
-use Rattle.xmp_tree.specs.declared.parts.Inside.{Inside}
-use Rattle.xmp_tree.specs.declared.expression.Expr.{Expr}
-use Rattle.xmp_tree.specs.declared.directive.DirectiveLine.{DirectiveLine}
-use Rattle.xmp_tree.specs.declared.directive.DistForm.{DistForm}
-use Rattle.xmp_tree.specs.declared.directive.DistForm.TheVariants as dist
-use Rattle.xmp_tree.specs.declared.directive.AlignDimension.{AlignDimension}
-use Rattle.xmp_tree.specs.declared.directive.AlignDimension.TheVariants as dimension
-use Rattle.xmp_tree.specs.declared.directive.Point.{Point}
-use Rattle.xmp_tree.specs.declared.directive.Point.TheVariants as point
-use Rattle.xmp_tree.specs.declared.directive.Mapping.{Mapping}
-use Rattle.xmp_tree.specs.declared.directive.Mapping.TheVariants as mapping
+use Rattle.xmp_syntax.specs.declared.parts.Name as named
+use Rattle.xmp_syntax.specs.declared.parts.Inside.{Inside}
+use Rattle.xmp_syntax.specs.declared.expression.Expr.{Expr}
+use Rattle.xmp_syntax.specs.declared.directive.DirectiveLine.{DirectiveLine}
+use Rattle.xmp_syntax.specs.declared.directive.DistForm.{DistForm}
+use Rattle.xmp_syntax.specs.declared.directive.DistForm.TheVariants as dist
+use Rattle.xmp_syntax.specs.declared.directive.AlignDimension.{AlignDimension}
+use Rattle.xmp_syntax.specs.declared.directive.AlignDimension.TheVariants as dimension
+use Rattle.xmp_syntax.specs.declared.directive.Point.{Point}
+use Rattle.xmp_syntax.specs.declared.directive.Point.TheVariants as point
+use Rattle.xmp_syntax.specs.declared.directive.Mapping.{Mapping}
+use Rattle.xmp_syntax.specs.declared.directive.Mapping.TheVariants as mapping
 use Rattle.xmp_scopes.specs.Names as scope
 use Rattle.xmp_walk.specs.declared.names.Meaning.{Meaning}
 use Rattle.xmp_walk.specs.declared.names.Meaning.TheVariants.{Nodes, Template}

@@ -13,7 +13,7 @@ use sqlite_items::Items;
 use std::alloc::{AllocError, Global};
 use xmp_base::Place;
 use xmp_scopes::Scopes;
-use xmp_tree::{AlignDimension, Expr, Inside, Name, Point};
+use xmp_syntax::{AlignDimension, Expr, Inside, Name, Point};
 
 fn has_dummy(dimension: &AlignDimension) -> bool
     ensures { result ≡ has_dummy dimension.now }

@@ -18,7 +18,7 @@ use std::alloc::{AllocError, Global};
 use xmp_base::Place;
 use xmp_map::NodeSet;
 use xmp_prog as prog;
-use xmp_tree::{BlockItem, DirectiveLine, Expr, ForHead, LoopLine, Plain, Stmt, TaskLine};
+use xmp_syntax::{BlockItem, DirectiveLine, Expr, ForHead, LoopLine, Plain, Stmt, TaskLine};
 
 impl World {
     /// A statement with no statement inside.

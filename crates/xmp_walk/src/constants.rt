@@ -8,7 +8,7 @@ use crate::walk::{is_known, value_of};
 use crate::world::World;
 use std::alloc::{AllocError, Global};
 use xmp_base::Place;
-use xmp_tree::Expr;
+use xmp_syntax::Expr;
 
 /// The place of an expression's first token.
 #[cycle(first)]

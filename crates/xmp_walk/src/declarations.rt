@@ -15,7 +15,7 @@ use std::alloc::{AllocError, Global};
 use xmp_base::Place;
 use xmp_num::Ty;
 use xmp_prog as prog;
-use xmp_tree::{Declaration, Declarator, Expr, Inside, Name, TypeWords};
+use xmp_syntax::{Declaration, Declarator, Expr, Inside, Name, TypeWords};
 
 /// The type that its words name.
 pub(crate) fn type_of(words: TypeWords) -> Ty

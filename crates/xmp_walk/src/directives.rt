@@ -17,7 +17,7 @@ use xmp_base::Place;
 use xmp_map::NodeSet;
 use xmp_num::Ty;
 use xmp_prog as prog;
-use xmp_tree::{CommaList, DirectiveLine, Expr, Inside, Name, Section, Sections};
+use xmp_syntax::{CommaList, DirectiveLine, Expr, Inside, Name, Section, Sections};
 
 // The slot of a scalar, 0 where the name is of none.
 fn slot_or_zero(scalar: Option<(u32, Ty)>) -> u32

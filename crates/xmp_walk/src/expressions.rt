@@ -12,7 +12,7 @@ use std::alloc::{AllocError, Global};
 use xmp_base::Place;
 use xmp_num::Ty;
 use xmp_prog as prog;
-use xmp_tree::{CommaList, Expr, Image, Inside, Link, Name, Next, Reference};
+use xmp_syntax::{CommaList, Expr, Image, Inside, Link, Name, Next, Reference};
 
 impl Environment {
     /// What is made of an expression, its type, what is known of its value, and the rules of names that it breaks.

@@ -1,6 +1,6 @@
 // Functions and main.
 ghost use Rattle.std.specs.Prelude.{◌≡◌, [], Some, map, length, slice_get, slice_set};
-ghost use Rattle.xmp_tree.specs.declared.statement.Stmt.{out-Stmt};
+ghost use Rattle.xmp_syntax.specs.declared.statement.Stmt.{out-Stmt};
 ghost use Rattle.xmp_walk.specs.Walk.{Does, Gave, each};
 ghost use Rattle.xmp_walk.specs.Program.{enter, function_of, head_of, inside_item, is_int_word, is_main_head, item_of, items_of, last_in, last_item, leave, main_items, main_of, new_function, no_parameters, parameter_of, parameters_in, with_depth};
 
@@ -12,7 +12,7 @@ use crate::world::World;
 use sqlite_items::Items;
 use std::alloc::{AllocError, Global};
 use xmp_prog as prog;
-use xmp_tree::{BlockItem, CommaList, Function, Name, Parameters, Plain, Stmt, TypeWords};
+use xmp_syntax::{BlockItem, CommaList, Function, Name, Parameters, Plain, Stmt, TypeWords};
 
 fn parameter_count(parameters: &Option<Parameters>) -> usize
     ensures { result ≡ length (parameters_in parameters.now) }

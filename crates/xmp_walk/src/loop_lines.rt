@@ -19,7 +19,7 @@ use xmp_lex::Mark;
 use xmp_num::RedOp;
 use xmp_prog as prog;
 use xmp_prog::{LoopHead, Stmt};
-use xmp_tree::{CommaList, Inside, LoopLine, Name, Point, Reduction, ReductionOperator};
+use xmp_syntax::{CommaList, Inside, LoopLine, Name, Point, Reduction, ReductionOperator};
 
 /// What the line of a loop directive says: the template by its number, its points, each with the slot of the index and the
 /// constant or nothing for `*`, the slots of its names, and its reductions.

@@ -16,7 +16,7 @@ use std::alloc::{AllocError, Global};
 use xmp_base::Place;
 use xmp_num::Ty;
 use xmp_prog as prog;
-use xmp_tree::{Expr, ForFirst, ForHead, Name, Reference, Simple};
+use xmp_syntax::{Expr, ForFirst, ForHead, Name, Reference, Simple};
 
 /// The first part of a `for`: what it declares, what it assigns to, the value, and the place of the value's first token.
 #[derive(Drop)]

@@ -10,7 +10,7 @@ use crate::world::World;
 use sqlite_items::Items;
 use std::alloc::{AllocError, Global};
 use xmp_base::Place;
-use xmp_tree::{CommaList, DirectiveLine, DistForm, Expr, Inside, Mapping, Name};
+use xmp_syntax::{CommaList, DirectiveLine, DistForm, Expr, Inside, Mapping, Name};
 
 impl World {
     // A mapping directive at its word.

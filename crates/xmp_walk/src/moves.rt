@@ -16,7 +16,7 @@ use std::alloc::{AllocError, Global};
 use xmp_base::Place;
 use xmp_num::Ty;
 use xmp_prog as prog;
-use xmp_tree::{DirectiveLine, Expr, Inside, Name, Section, Sections};
+use xmp_syntax::{DirectiveLine, Expr, Inside, Name, Section, Sections};
 
 fn unwritten(n: u32, at: Place) -> prog::Number
     ensures { result ≡ unwritten n at }

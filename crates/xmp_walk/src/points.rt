@@ -9,7 +9,7 @@ use crate::world::World;
 use std::alloc::{AllocError, Global};
 use xmp_base::Place;
 use xmp_lex::Mark;
-use xmp_tree::{Expr, Name, Placed};
+use xmp_syntax::{Expr, Name, Placed};
 
 fn a_nodes(meaning: Meaning) -> Option<u32>
     ensures { result ≡ a_nodes meaning }

@@ -13,7 +13,7 @@ use std::alloc::{AllocError, Global};
 use xmp_base::Place;
 use xmp_prog as prog;
 use xmp_scopes::Scopes;
-use xmp_tree::{BlockItem, Declaration, Declarator, Stmt, TaskLine, TopItem, Tree};
+use xmp_syntax::{BlockItem, Declaration, Declarator, Stmt, TaskLine, TopItem, Tree};
 
 impl World {
     fn top(&mut self, alloc: Global, x: &TopItem) -> Result<(), AllocError>

@@ -12,7 +12,7 @@ use crate::typed::Operand;
 use xmp_base::Place;
 use xmp_num::{BinOp, Ty};
 use xmp_prog as prog;
-use xmp_tree::{Expr, ForHead, Simple};
+use xmp_syntax::{Expr, ForHead, Simple};
 
 // The place of what a comparison compares with.
 fn compared_at(test: &Option<Expr>) -> Option<Place>

@@ -19,7 +19,7 @@ use xmp_base::{Bytes, Place};
 use xmp_lex::Mark;
 use xmp_num::{BinOp, Ty};
 use xmp_prog as prog;
-use xmp_tree::{Call, Expr, Format, Next, Placed, Reference, Simple};
+use xmp_syntax::{Call, Expr, Format, Next, Placed, Reference, Simple};
 
 // What an assignment writes.
 fn target_of(made: prog::Expr) -> prog::Target

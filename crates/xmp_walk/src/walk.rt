@@ -10,7 +10,7 @@ use sqlite_items::Boxed;
 use std::alloc::{AllocError, Global};
 use xmp_base::Place;
 use xmp_num::Ty;
-use xmp_tree::{Call, Expr, Name, Reference};
+use xmp_syntax::{Call, Expr, Name, Reference};
 
 impl World {
     /// A rule breaks at a place unless the test holds.

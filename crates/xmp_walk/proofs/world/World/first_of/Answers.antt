@@ -1,5 +1,5 @@
 use Rattle.std.proofs.Common.{ap}
-use Rattle.xmp_tree.specs.declared.statement.ForFirst.TheVariants as for_first
+use Rattle.xmp_syntax.specs.declared.statement.ForFirst.TheVariants as for_first
 use Rattle.xmp_walk.specs.Statements.{first_of}
 use Rattle.xmp_walk.proofs.Walks.{same_walk}
 use Rattle.xmp_walk.proofs.world.World.first_of.Goals as goal
