@@ -9,19 +9,18 @@ use Rattle.xmp_map.specs.declared.template.Template.{Template}
 use Rattle.xmp_map.specs.Align.{aligned_dims, is_target, map_fault}
 use Rattle.xmp_map.specs.RowMajor.{product}
 use Rattle.xmp_map.specs.Spread.{sizes_fit}
-use Rattle.xmp_walk.specs.declared.mappings.Align.{Align}
-use Rattle.xmp_walk.specs.declared.mappings.AlignPoint.{AlignPoint}
-use Rattle.xmp_walk.specs.declared.mappings.AlignPoint.TheVariants as point
-use Rattle.xmp_walk.specs.declared.mappings.Form.{Form}
-use Rattle.xmp_walk.specs.declared.mappings.Shadow.{Shadow}
-use Rattle.xmp_walk.specs.declared.mappings.TemplateLine.{TemplateLine}
-use Rattle.xmp_walk.specs.declared.names.Array.{Array}
-use Rattle.xmp_walk.specs.declared.rules.Rule.TheVariants.{M10}
-use Rattle.xmp_walk.specs.declared.world.World.{World}
-use Rattle.xmp_walk.specs.Rules.{unless}
-use Rattle.xmp_walk.specs.Declarations.{most_cells}
-use Rattle.xmp_walk.specs.Directives.{extents_in, is_small}
-use Rattle.xmp_walk.specs.MappingRules.{align_of, align_right, all_different, cells_from, copies, dimensions_in, distributes, dummies_right, forms_of, interval_dimensions, mapping_rules, nodes_of, number_of_nodes, one_to_three, point_fits, points_right, shadow_right, template_sizes, template_sizes_in, widths_right}
+use Rattle.xmp_names.specs.declared.mappings.Align.{Align}
+use Rattle.xmp_names.specs.declared.mappings.AlignPoint.{AlignPoint}
+use Rattle.xmp_names.specs.declared.mappings.AlignPoint.TheVariants as point
+use Rattle.xmp_names.specs.declared.mappings.Form.{Form}
+use Rattle.xmp_names.specs.declared.mappings.Shadow.{Shadow}
+use Rattle.xmp_names.specs.declared.mappings.TemplateLine.{TemplateLine}
+use Rattle.xmp_names.specs.declared.names.Array.{Array}
+use Rattle.xmp_names.specs.declared.rules.Rule.TheVariants.{M10}
+use Rattle.xmp_names.specs.declared.world.World.{World}
+use Rattle.xmp_names.specs.Rules.{unless}
+use Rattle.xmp_names.specs.Sizes.{most_cells, extents_in, is_small}
+use Rattle.xmp_mapping_rules.specs.MappingRules.{align_of, align_right, all_different, cells_from, copies, dimensions_in, distributes, dummies_right, forms_of, interval_dimensions, mapping_rules, nodes_of, number_of_nodes, one_to_three, point_fits, points_right, shadow_right, template_sizes, template_sizes_in, widths_right}
 use Rattle.xmp_elab.specs.Narrow.{are_narrow, is_narrow_point}
 use Rattle.xmp_elab.specs.Parts.{EachMade, IsOf, IsTemplate, shadow_of, targets, widths_in}
 use Rattle.xmp_elab.proofs.MadeLists.{made_here}

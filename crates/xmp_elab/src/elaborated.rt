@@ -1,7 +1,7 @@
 // The parts of the typed program of a tree.
 ghost use Rattle.std.specs.Prelude.{◌≡◌, [], IfErr, IfOk, IsTrue, None, map};
-ghost use Rattle.xmp_walk.specs.Directives.{natural};
-ghost use Rattle.xmp_walk.specs.MappingRules.{mapping_rules, nodes_of};
+ghost use Rattle.xmp_names.specs.Sizes.{natural};
+ghost use Rattle.xmp_mapping_rules.specs.MappingRules.{mapping_rules, nodes_of};
 ghost use Rattle.xmp_elab.specs.Narrow.{is_count};
 ghost use Rattle.xmp_elab.specs.Parts.{EachMade, IsArray, IsGrid, IsParts, IsTemplate, Made, RefusedBy, kind_of};
 ghost use Rattle.xmp_elab.specs.Verdict.{broken_in, verdict, verdict_of};

@@ -4,8 +4,8 @@ ghost use Rattle.std.specs.List.{list_all};
 ghost use Rattle.xmp_dist.specs.declared.form.Dist.TheVariants.{Whole};
 ghost use Rattle.xmp_map.specs.Nodes.{filled, makes_grid};
 ghost use Rattle.xmp_map.specs.Spread.{template_fault};
-ghost use Rattle.xmp_walk.specs.Directives.{natural};
-ghost use Rattle.xmp_walk.specs.MappingRules.{distributed, forms_in, forms_of, mapping_rules, nodes_of};
+ghost use Rattle.xmp_names.specs.Sizes.{natural};
+ghost use Rattle.xmp_mapping_rules.specs.MappingRules.{distributed, forms_in, forms_of, mapping_rules, nodes_of};
 ghost use Rattle.xmp_elab.specs.Narrow.{is_count, is_narrow, is_narrow_form};
 ghost use Rattle.xmp_elab.specs.Parts.{EachMade, IsGrid, IsOf, IsTemplate, made_form, padded};
 

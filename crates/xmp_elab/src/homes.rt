@@ -4,8 +4,8 @@ ghost use Rattle.std.specs.List.{list_all};
 ghost use Rattle.xmp_map.specs.Align.{aligned_dims, map_fault};
 ghost use Rattle.xmp_map.specs.RowMajor.{product};
 ghost use Rattle.xmp_map.specs.Spread.{sizes_fit};
-ghost use Rattle.xmp_walk.specs.Directives.{natural};
-ghost use Rattle.xmp_walk.specs.MappingRules.{align_of, aligned, mapping_rules, shadowed};
+ghost use Rattle.xmp_names.specs.Sizes.{natural};
+ghost use Rattle.xmp_mapping_rules.specs.MappingRules.{align_of, aligned, mapping_rules, shadowed};
 ghost use Rattle.xmp_elab.specs.Narrow.{are_narrow, is_narrow_pair, is_narrow_point};
 ghost use Rattle.xmp_elab.specs.Parts.{EachMade, IsArray, IsHome, IsOver, IsSpread, IsTemplate, offset_for, shadow_of, target_from, targets, widths_in};
 

@@ -21,15 +21,16 @@ use Rattle.xmp_tree.specs.declared.declaration.Declarator.{Declarator}
 use Rattle.xmp_tree.specs.declared.declaration.Declarator.TheVariants as declarator
 use Rattle.xmp_tree.specs.declared.statement.ForFirst.{ForFirst}
 use Rattle.xmp_tree.specs.declared.statement.ForFirst.TheVariants as for_first
-use Rattle.xmp_walk.specs.declared.typed.Typed.{Typed}
-use Rattle.xmp_walk.specs.declared.typed.Operand.{Operand}
+use Rattle.xmp_names.specs.declared.typed.Typed.{Typed}
+use Rattle.xmp_names.specs.declared.typed.Operand.{Operand}
 use Rattle.xmp_walk.specs.declared.loops.First.{First}
-use Rattle.xmp_walk.specs.declared.world.World.{World}
-use Rattle.xmp_walk.specs.Typing.{operand_of}
-use Rattle.xmp_walk.specs.Expressions.{is_function, expr_of, reference_of}
-use Rattle.xmp_walk.specs.Walk as walk
-use Rattle.xmp_walk.specs.Walk.{Step, Gave, Run, first_place}
-use Rattle.xmp_walk.specs.Declarations.{inner, initialiser, local_declarator, declare_array}
+use Rattle.xmp_names.specs.declared.world.World.{World}
+use Rattle.xmp_names.specs.Typing.{operand_of}
+use Rattle.xmp_names.specs.Expressions.{is_function, expr_of, reference_of}
+use Rattle.xmp_names.specs.Walk as walk
+use Rattle.xmp_names.specs.Walk.{Step, Gave, Run, first_place}
+use Rattle.xmp_names.specs.Lists.{inner}
+use Rattle.xmp_walk.specs.Declarations.{initialiser, local_declarator, declare_array}
 use Rattle.xmp_walk.specs.Statements.{set, first_of, index_of, first_part}
 use Rattle.xmp_elab.proofs.Unbroken.{left_none, right_none, left_true, right_true}
 use Rattle.xmp_fits.proofs.GoodWorlds.{Own, Good}
@@ -41,9 +42,8 @@ use Rattle.xmp_fits.proofs.KeptDirectives as kept
 use Rattle.xmp_fits.proofs.Laters.{unbroken_before}
 use Rattle.xmp_fits.proofs.Endings.{opened, ends_at, later_at}
 use Rattle.xmp_fits.proofs.Holding.{Holds}
-use Rattle.xmp_fits.specs.NumbersLie.{numbers_lie, reference_lies}
+use Rattle.xmp_fits.specs.NumbersLie.{numbers_lie, reference_lies, there_lies, second_lies, declarator_lies, first_lies}
 use Rattle.xmp_fits.proofs.TreeNumbers.{expr_right}
-use Rattle.xmp_fits.specs.NumbersLie.{there_lies, second_lies, declarator_lies, first_lies}
 use Rattle.xmp_fits.proofs.StepsFit.{reference_right, reference_place}
 use Rattle.xmp_fits.proofs.PlainFits.{set_fits}
 use Rattle.xmp_fits.proofs.TellsTrue.{tells}

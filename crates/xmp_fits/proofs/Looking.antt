@@ -10,15 +10,15 @@ use Rattle.xmp_tree.specs.declared.parts.Next.{Next}
 use Rattle.xmp_tree.specs.declared.parts.Reference.{Reference}
 use Rattle.xmp_tree.specs.declared.expression.Expr.{Expr}
 use Rattle.xmp_scopes.specs.Names as scope
-use Rattle.xmp_walk.specs.declared.names.Meaning.{Meaning}
-use Rattle.xmp_walk.specs.declared.names.Environment.{Environment}
-use Rattle.xmp_walk.specs.declared.rules.Rule.{Rule}
-use Rattle.xmp_walk.specs.declared.rules.Rule.TheVariants.{N1, N3, N4, N5}
-use Rattle.xmp_walk.specs.declared.world.World.{World}
-use Rattle.xmp_walk.specs.Rules.{unless}
-use Rattle.xmp_walk.specs.Expressions.{may_name, is_function, expr_of, reference_of, call, arguments_of, each_next, next_of, no_parts}
-use Rattle.xmp_walk.specs.Walk as walk
-use Rattle.xmp_walk.specs.Walk.{Step, Gave, Run, and_then, a_scalar, an_int_scalar}
+use Rattle.xmp_names.specs.declared.names.Meaning.{Meaning}
+use Rattle.xmp_names.specs.declared.names.Environment.{Environment}
+use Rattle.xmp_names.specs.declared.rules.Rule.{Rule}
+use Rattle.xmp_names.specs.declared.rules.Rule.TheVariants.{N1, N3, N4, N5}
+use Rattle.xmp_names.specs.declared.world.World.{World}
+use Rattle.xmp_names.specs.Rules.{unless}
+use Rattle.xmp_names.specs.Expressions.{may_name, is_function, expr_of, reference_of, call, arguments_of, each_next, next_of, no_parts}
+use Rattle.xmp_names.specs.Walk as walk
+use Rattle.xmp_names.specs.Walk.{Step, Gave, Run, and_then, a_scalar, an_int_scalar}
 use Rattle.xmp_elab.proofs.Unbroken.{left_none, right_none, holds}
 use Rattle.xmp_fits.proofs.KeptRuns.{Ends, ends_then, ends_map}
 use Rattle.xmp_fits.proofs.Holding.{IfThere}

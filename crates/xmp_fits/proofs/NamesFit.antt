@@ -16,19 +16,19 @@ use Rattle.xmp_prog.specs.declared.parts.Function as made_function
 use Rattle.xmp_prog.specs.declared.parts.ProgParts.{ProgParts}
 use Rattle.xmp_prog.specs.Fits.{has_coarrays}
 use Rattle.xmp_tree.specs.declared.parts.Name as named
-use Rattle.xmp_walk.specs.declared.names.Meaning.{Meaning}
-use Rattle.xmp_walk.specs.declared.names.Meaning.TheVariants.{Scalar, Array, Nodes, Template, Function}
-use Rattle.xmp_walk.specs.declared.names.Array as array
-use Rattle.xmp_walk.specs.declared.names.Signature.{Signature}
-use Rattle.xmp_walk.specs.declared.names.Environment.{Environment}
-use Rattle.xmp_walk.specs.declared.rules.Notes.{Notes}
-use Rattle.xmp_walk.specs.declared.rules.Rule.{Rule}
-use Rattle.xmp_walk.specs.declared.rules.Rule.TheVariants.{N1, N3, N5, N10}
-use Rattle.xmp_walk.specs.declared.typed.Typed.{Typed}
-use Rattle.xmp_walk.specs.declared.typed.Parts.{Parts}
-use Rattle.xmp_walk.specs.Rules.{unless, noted}
-use Rattle.xmp_walk.specs.Typing.{operand_of}
-use Rattle.xmp_walk.specs.Expressions.{add, is_function, is_first, may_name, unknown, of_type, is_nothing, cell_of, read_as, image_notes, read, intrinsic, call_intrinsic, called, call_of, call_as, may_call, judged_call, call}
+use Rattle.xmp_names.specs.declared.names.Meaning.{Meaning}
+use Rattle.xmp_names.specs.declared.names.Meaning.TheVariants.{Scalar, Array, Nodes, Template, Function}
+use Rattle.xmp_names.specs.declared.names.Array as array
+use Rattle.xmp_names.specs.declared.names.Signature.{Signature}
+use Rattle.xmp_names.specs.declared.names.Environment.{Environment}
+use Rattle.xmp_names.specs.declared.rules.Notes.{Notes}
+use Rattle.xmp_names.specs.declared.rules.Rule.{Rule}
+use Rattle.xmp_names.specs.declared.rules.Rule.TheVariants.{N1, N3, N5, N10}
+use Rattle.xmp_names.specs.declared.typed.Typed.{Typed}
+use Rattle.xmp_names.specs.declared.typed.Parts.{Parts}
+use Rattle.xmp_names.specs.Rules.{unless, noted}
+use Rattle.xmp_names.specs.Typing.{operand_of}
+use Rattle.xmp_names.specs.Expressions.{add, is_function, is_first, may_name, unknown, of_type, is_nothing, cell_of, read_as, image_notes, read, intrinsic, call_intrinsic, called, call_of, call_as, may_call, judged_call, call}
 use Rattle.xmp_elab.proofs.Unbroken.{left_none, right_none, left_true, right_true, holds}
 use Rattle.xmp_fits.proofs.GoodWorlds.{ArrayOf}
 use Rattle.xmp_fits.proofs.TermsFit.{NoneInside, ExprFits, EachFits, each_append}

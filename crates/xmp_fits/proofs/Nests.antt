@@ -6,7 +6,7 @@ use Rattle.std.proofs.lemmas.List.{append-nil}
 use Rattle.xmp_prog.specs.declared.statements.Stmt.{Stmt, out-Stmt, out-roll-Stmt}
 use Rattle.xmp_prog.specs.declared.statements.Stmt.TheVariants as stmt
 use Rattle.xmp_prog.specs.declared.statements.Stmt.TheOpen.{Stmt-F}
-use Rattle.xmp_walk.specs.Directives.{Nest, counted_in, head_of, nest_in, nest_of, single, unbraced_in}
+use Rattle.xmp_directives.specs.Directives.{Nest, counted_in, head_of, nest_in, nest_of, single, unbraced_in}
 
 -- A nest behind loops that stand round it.
 abbrev pub behind : List LoopHead → Nest → Nest

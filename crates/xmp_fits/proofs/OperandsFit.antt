@@ -17,17 +17,17 @@ use Rattle.xmp_prog.specs.Numbers.{same_type, lies_in}
 use Rattle.xmp_prog.specs.Terms.{result_of}
 use Rattle.xmp_prog.specs.Tests.{is_shift, right_fits}
 use Rattle.xmp_tree.specs.declared.parts.Link.{Link}
-use Rattle.xmp_walk.specs.declared.names.Environment.{Environment}
-use Rattle.xmp_walk.specs.declared.rules.Notes.{Notes}
-use Rattle.xmp_walk.specs.declared.operators.Operator.{Operator}
-use Rattle.xmp_walk.specs.declared.operators.Operator.TheVariants.{Arithmetic, Compare, Shift, Both, Either}
-use Rattle.xmp_walk.specs.declared.typed.Value.{Value}
-use Rattle.xmp_walk.specs.declared.typed.Value.TheVariants.{Named, Trapping, Known}
-use Rattle.xmp_walk.specs.declared.typed.Typed.{Typed}
-use Rattle.xmp_walk.specs.declared.typed.Operand.{Operand}
-use Rattle.xmp_walk.specs.Rules.{joined}
-use Rattle.xmp_walk.specs.Typing.{operator_of, joint, value_type, binary_value, both_value, either_value, converted, chosen_value, convert, as_type, operand, typed, number, arithmetic, compare, shift, operator, operand_of, binary, unary, cast, chosen, choose}
-use Rattle.xmp_walk.specs.Expressions.{chain}
+use Rattle.xmp_names.specs.declared.names.Environment.{Environment}
+use Rattle.xmp_names.specs.declared.rules.Notes.{Notes}
+use Rattle.xmp_names.specs.declared.operators.Operator.{Operator}
+use Rattle.xmp_names.specs.declared.operators.Operator.TheVariants.{Arithmetic, Compare, Shift, Both, Either}
+use Rattle.xmp_names.specs.declared.typed.Value.{Value}
+use Rattle.xmp_names.specs.declared.typed.Value.TheVariants.{Named, Trapping, Known}
+use Rattle.xmp_names.specs.declared.typed.Typed.{Typed}
+use Rattle.xmp_names.specs.declared.typed.Operand.{Operand}
+use Rattle.xmp_names.specs.Rules.{joined}
+use Rattle.xmp_names.specs.Typing.{operator_of, joint, value_type, binary_value, both_value, either_value, converted, chosen_value, convert, as_type, operand, typed, number, arithmetic, compare, shift, operator, operand_of, binary, unary, cast, chosen, choose}
+use Rattle.xmp_names.specs.Expressions.{chain}
 use Rattle.xmp_elab.proofs.Unbroken.{left_none, right_none}
 use Rattle.xmp_fits.proofs.ValuesLie.{Lies, wrap_lies, binary_lies, widened, converted_lies, both_lies, either_lies, chosen_lies}
 use Rattle.xmp_fits.proofs.TermsFit.{ExprFits}

@@ -4,15 +4,14 @@ use Rattle.std.specs.Prelude.{slice_get, ◌==◌, nat_le}
 use Rattle.std.proofs.lemmas.Option.{same_Some, none-some}
 use Rattle.xmp_map.specs.RowMajor.{product}
 use Rattle.xmp_map.specs.Spread.{sizes_fit}
-use Rattle.xmp_walk.specs.declared.mappings.Align.{Align}
-use Rattle.xmp_walk.specs.declared.mappings.Shadow.{Shadow}
-use Rattle.xmp_walk.specs.declared.names.Array.{Array}
-use Rattle.xmp_walk.specs.declared.rules.Rule.TheVariants.{M10}
-use Rattle.xmp_walk.specs.declared.world.World.{World}
-use Rattle.xmp_walk.specs.Rules.{unless}
-use Rattle.xmp_walk.specs.Declarations.{most_cells}
-use Rattle.xmp_walk.specs.Directives.{extents_in}
-use Rattle.xmp_walk.specs.MappingRules.{align_of, cells_from, forms_of, interval_dimensions, mapping_rules, shadow_right, widths_right, nodes_rules, template_rules, distribution_rules, align_rules, shadow_rules, loop_rules, cell_rules}
+use Rattle.xmp_names.specs.declared.mappings.Align.{Align}
+use Rattle.xmp_names.specs.declared.mappings.Shadow.{Shadow}
+use Rattle.xmp_names.specs.declared.names.Array.{Array}
+use Rattle.xmp_names.specs.declared.rules.Rule.TheVariants.{M10}
+use Rattle.xmp_names.specs.declared.world.World.{World}
+use Rattle.xmp_names.specs.Rules.{unless}
+use Rattle.xmp_names.specs.Sizes.{most_cells, extents_in}
+use Rattle.xmp_mapping_rules.specs.MappingRules.{align_of, cells_from, forms_of, interval_dimensions, mapping_rules, shadow_right, widths_right, nodes_rules, template_rules, distribution_rules, align_rules, shadow_rules, loop_rules, cell_rules}
 use Rattle.xmp_elab.specs.Parts.{shadow_of}
 use Rattle.xmp_elab.proofs.Unbroken.{holds, left_none, left_true, right_none, right_true, shadow_at}
 use Rattle.xmp_elab.proofs.WidthsFit.{RightShadow}

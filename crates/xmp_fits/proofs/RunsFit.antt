@@ -22,29 +22,28 @@ use Rattle.xmp_tree.specs.declared.parts.Reference.{Reference}
 use Rattle.xmp_tree.specs.declared.expression.Expr.{Expr}
 use Rattle.xmp_tree.specs.declared.statement.Simple.{Simple}
 use Rattle.xmp_tree.specs.declared.statement.Simple.TheVariants as simple
-use Rattle.xmp_walk.specs.declared.names.Environment.{Environment}
-use Rattle.xmp_walk.specs.declared.rules.Rule.TheVariants.{N1, N3, N4, N5, N6, N7}
-use Rattle.xmp_walk.specs.declared.typed.Value.{Value}
-use Rattle.xmp_walk.specs.declared.typed.Value.TheVariants.{Named, Trapping, Known}
-use Rattle.xmp_walk.specs.declared.typed.Typed.{Typed}
-use Rattle.xmp_walk.specs.declared.typed.Parts.{Parts}
-use Rattle.xmp_walk.specs.declared.typed.Operand.{Operand}
-use Rattle.xmp_walk.specs.declared.world.World.{World}
-use Rattle.xmp_walk.specs.Rules.{unless}
-use Rattle.xmp_walk.specs.Typing.{operand_of}
-use Rattle.xmp_walk.specs.Expressions.{is_function, no_parts, each_next, next_of, expr_of, reference_of, call, arguments_of}
-use Rattle.xmp_walk.specs.Walk.{is_known, is_main, first_place, typed_constant}
+use Rattle.xmp_names.specs.declared.names.Environment.{Environment}
+use Rattle.xmp_names.specs.declared.rules.Rule.TheVariants.{N1, N3, N4, N5, N6, N7}
+use Rattle.xmp_names.specs.declared.typed.Value.{Value}
+use Rattle.xmp_names.specs.declared.typed.Value.TheVariants.{Named, Trapping, Known}
+use Rattle.xmp_names.specs.declared.typed.Typed.{Typed}
+use Rattle.xmp_names.specs.declared.typed.Parts.{Parts}
+use Rattle.xmp_names.specs.declared.typed.Operand.{Operand}
+use Rattle.xmp_names.specs.declared.world.World.{World}
+use Rattle.xmp_names.specs.Rules.{unless}
+use Rattle.xmp_names.specs.Typing.{operand_of}
+use Rattle.xmp_names.specs.Expressions.{is_function, no_parts, each_next, next_of, expr_of, reference_of, call, arguments_of}
+use Rattle.xmp_names.specs.Walk.{is_known, is_main, first_place, typed_constant}
 use Rattle.xmp_walk.specs.Statements.{target_of, compound_of, one, call_in, call_statement, is_scalar_target, target_name, simple_of, return_of, print_of, scan_of, sync_of}
-use Rattle.xmp_walk.specs.Formats.{fits_format, is_scan_format}
+use Rattle.xmp_names.specs.Formats.{fits_format, is_scan_format}
 use Rattle.xmp_fits.proofs.PrintFormats.{is_format}
 use Rattle.xmp_elab.proofs.Unbroken.{left_none, right_none, left_true, right_true, holds}
 use Rattle.xmp_fits.proofs.TermsFit.{Seen, TermFits, each_types, each_terms, or_true}
 use Rattle.xmp_fits.proofs.TermForms.{call_terms}
 use Rattle.xmp_fits.proofs.OperandsFit.{Fits, IsConst}
 use Rattle.xmp_fits.proofs.NamesFit.{Tells}
-use Rattle.xmp_fits.specs.NumbersLie.{numbers_lie, reference_lies, rest_lies}
+use Rattle.xmp_fits.specs.NumbersLie.{numbers_lie, reference_lies, rest_lies, simple_lies}
 use Rattle.xmp_fits.proofs.TreeNumbers.{expr_right}
-use Rattle.xmp_fits.specs.NumbersLie.{simple_lies}
 use Rattle.xmp_fits.proofs.StepsFit.{Gives, reference_right, reference_place, call_is_right, rest_right, constant_fits}
 use Rattle.xmp_fits.proofs.PlainFits.{AllFit, PlainFits, TargetFits, one_fits, nothing_fits, target_fits, set_fits, compound_is, one_operand}
 

@@ -32,24 +32,26 @@ use Rattle.xmp_tree.specs.declared.statement.ForFirst.{ForFirst}
 use Rattle.xmp_tree.specs.declared.statement.ForFirst.TheVariants as for_first
 use Rattle.xmp_tree.specs.declared.statement.Simple.{Simple}
 use Rattle.xmp_scopes.specs.Names as scope
-use Rattle.xmp_walk.specs.declared.names.Environment.{Environment}
-use Rattle.xmp_walk.specs.declared.names.Meaning.{Meaning}
-use Rattle.xmp_walk.specs.declared.names.Meaning.TheVariants as meaning
+use Rattle.xmp_names.specs.declared.names.Environment.{Environment}
+use Rattle.xmp_names.specs.declared.names.Meaning.{Meaning}
+use Rattle.xmp_names.specs.declared.names.Meaning.TheVariants as meaning
 use Rattle.xmp_walk.specs.declared.loops.First.{First}
 use Rattle.xmp_walk.specs.declared.loops.ForParts.{ForParts}
-use Rattle.xmp_walk.specs.declared.loop_lines.LoopParts.{LoopParts}
-use Rattle.xmp_walk.specs.declared.rules.Rule.TheVariants.{N2, N3, M7}
-use Rattle.xmp_walk.specs.declared.typed.Typed.{Typed}
-use Rattle.xmp_walk.specs.declared.world.World.{World}
-use Rattle.xmp_walk.specs.Rules.{unless, greater}
-use Rattle.xmp_walk.specs.Typing.{operand_of}
-use Rattle.xmp_walk.specs.Expressions.{expr_of, reference_of}
-use Rattle.xmp_walk.specs.Walk as walk
-use Rattle.xmp_walk.specs.Walk.{Step, Gave, Run, and_then, an_int_scalar, a_template}
-use Rattle.xmp_walk.specs.Declarations.{listed, inner, local_declarator, declare_array}
+use Rattle.xmp_directives.specs.declared.loop_lines.LoopParts.{LoopParts}
+use Rattle.xmp_names.specs.declared.rules.Rule.TheVariants.{N2, N3, M7}
+use Rattle.xmp_names.specs.declared.typed.Typed.{Typed}
+use Rattle.xmp_names.specs.declared.world.World.{World}
+use Rattle.xmp_names.specs.Rules.{unless, greater}
+use Rattle.xmp_names.specs.Typing.{operand_of}
+use Rattle.xmp_names.specs.Expressions.{expr_of, reference_of}
+use Rattle.xmp_names.specs.Walk as walk
+use Rattle.xmp_names.specs.Walk.{Step, Gave, Run, and_then, an_int_scalar, a_template}
+use Rattle.xmp_names.specs.Lists.{listed, inner}
+use Rattle.xmp_walk.specs.Declarations.{local_declarator, declare_array}
 use Rattle.xmp_walk.specs.Statements.{simple_of, return_of, first_of, first_part, index_of}
-use Rattle.xmp_walk.specs.Directives.{signed, limited, scalar_name, task_line, offset_of, index_name, point_of, made_of_point, slot_of_point, slots_of_points, names_or, name_list, operation_of, reduction_name, reductions_of, dimensions, match_template, Nest, nest_of, loop_right, is_indexed, use_template, made_loop, loop_line, judged_loop}
-use Rattle.xmp_walk.specs.MappingLines.{mapping_of}
+use Rattle.xmp_directives.specs.Directives.{signed, scalar_name, task_line, offset_of, index_name, point_of, made_of_point, slot_of_point, slots_of_points, names_or, name_list, operation_of, reduction_name, reductions_of, dimensions, match_template, Nest, nest_of, loop_right, is_indexed, use_template, made_loop, loop_line, judged_loop}
+use Rattle.xmp_names.specs.Sizes.{limited}
+use Rattle.xmp_directives.specs.MappingLines.{mapping_of}
 use Rattle.xmp_walk.specs.Program.{plain_of}
 use Rattle.xmp_elab.proofs.Unbroken.{left_none, right_none}
 use Rattle.xmp_fits.proofs.GoodWorlds.{Own}

@@ -34,24 +34,24 @@ use Rattle.xmp_tree.specs.declared.expression.Expr.TheFolds.{fold-roll-Expr, ind
 use Rattle.xmp_tree.specs.declared.expression.Expr.TheViews.{roll-Expr}
 use Rattle.xmp_tree.specs.declared.expression.Expr.TheOpen.{Expr-F}
 use Rattle.xmp_scopes.specs.Names.{nearest, is_same}
-use Rattle.xmp_walk.specs.declared.names.Meaning.{Meaning}
-use Rattle.xmp_walk.specs.declared.names.Meaning.TheVariants.{Scalar, Array, Nodes, Template, Function}
-use Rattle.xmp_walk.specs.declared.names.Array as array
-use Rattle.xmp_walk.specs.declared.names.Signature.{Signature}
-use Rattle.xmp_walk.specs.declared.names.Environment.{Environment}
-use Rattle.xmp_walk.specs.declared.rules.Notes.{Notes}
-use Rattle.xmp_walk.specs.declared.rules.Rule.{Rule}
-use Rattle.xmp_walk.specs.declared.rules.Rule.TheVariants.{N1, N3, N5, N10}
-use Rattle.xmp_walk.specs.declared.typed.Value.{Value}
-use Rattle.xmp_walk.specs.declared.typed.Value.TheVariants.{Named, Trapping, Known}
-use Rattle.xmp_walk.specs.declared.typed.Typed.{Typed}
-use Rattle.xmp_walk.specs.declared.typed.Parts.{Parts}
-use Rattle.xmp_walk.specs.declared.typed.Operand.{Operand}
-use Rattle.xmp_walk.specs.declared.operators.Operator.{Operator}
-use Rattle.xmp_walk.specs.declared.operators.Operator.TheVariants.{Arithmetic, Compare, Shift, Both, Either}
-use Rattle.xmp_walk.specs.Rules.{unless, noted, joined}
-use Rattle.xmp_walk.specs.Typing.{stands, is_of, convert, operand, number, operator, operator_of, operand_of, binary, unary, cast, choose}
-use Rattle.xmp_walk.specs.Expressions.{no_parts, add, may_name, is_nothing, cell_of, read_as, image_notes, read, intrinsic, call_intrinsic, call_of, call_as, may_call, judged_call, call, chain, each_subscript, each_next, expr_step, expr_of, right_of, inside_of, next_of, reference_of, arguments_of}
+use Rattle.xmp_names.specs.declared.names.Meaning.{Meaning}
+use Rattle.xmp_names.specs.declared.names.Meaning.TheVariants.{Scalar, Array, Nodes, Template, Function}
+use Rattle.xmp_names.specs.declared.names.Array as array
+use Rattle.xmp_names.specs.declared.names.Signature.{Signature}
+use Rattle.xmp_names.specs.declared.names.Environment.{Environment}
+use Rattle.xmp_names.specs.declared.rules.Notes.{Notes}
+use Rattle.xmp_names.specs.declared.rules.Rule.{Rule}
+use Rattle.xmp_names.specs.declared.rules.Rule.TheVariants.{N1, N3, N5, N10}
+use Rattle.xmp_names.specs.declared.typed.Value.{Value}
+use Rattle.xmp_names.specs.declared.typed.Value.TheVariants.{Named, Trapping, Known}
+use Rattle.xmp_names.specs.declared.typed.Typed.{Typed}
+use Rattle.xmp_names.specs.declared.typed.Parts.{Parts}
+use Rattle.xmp_names.specs.declared.typed.Operand.{Operand}
+use Rattle.xmp_names.specs.declared.operators.Operator.{Operator}
+use Rattle.xmp_names.specs.declared.operators.Operator.TheVariants.{Arithmetic, Compare, Shift, Both, Either}
+use Rattle.xmp_names.specs.Rules.{unless, noted, joined}
+use Rattle.xmp_names.specs.Typing.{stands, is_of, convert, operand, number, operator, operator_of, operand_of, binary, unary, cast, choose}
+use Rattle.xmp_names.specs.Expressions.{no_parts, add, may_name, is_nothing, cell_of, read_as, image_notes, read, intrinsic, call_intrinsic, call_of, call_as, may_call, judged_call, call, chain, each_subscript, each_next, expr_step, expr_of, right_of, inside_of, next_of, reference_of, arguments_of}
 use Rattle.xmp_elab.proofs.Unbroken.{left_none, right_none, holds}
 use Rattle.xmp_fits.proofs.TermsFit.{Seen}
 use Rattle.xmp_fits.proofs.ScopedFits.{Sees}

@@ -15,19 +15,19 @@ use Rattle.xmp_tree.specs.declared.parts.Next.{Next}
 use Rattle.xmp_tree.specs.declared.parts.Reference.{Reference}
 use Rattle.xmp_tree.specs.declared.parts.Call.{Call}
 use Rattle.xmp_tree.specs.declared.expression.Expr.{Expr}
-use Rattle.xmp_walk.specs.declared.names.Meaning.{Meaning}
-use Rattle.xmp_walk.specs.declared.names.Meaning.TheVariants.{Scalar, Array, Nodes, Template, Function}
-use Rattle.xmp_walk.specs.declared.names.Array as array
-use Rattle.xmp_walk.specs.declared.names.Environment.{Environment}
-use Rattle.xmp_walk.specs.declared.rules.Notes.{Notes}
-use Rattle.xmp_walk.specs.declared.rules.Rule.{Rule}
-use Rattle.xmp_walk.specs.declared.rules.Rule.TheVariants.{N1, N3, N4}
-use Rattle.xmp_walk.specs.declared.typed.Typed.{Typed}
-use Rattle.xmp_walk.specs.declared.typed.Parts.{Parts}
-use Rattle.xmp_walk.specs.declared.world.World.{World}
-use Rattle.xmp_walk.specs.Rules.{unless}
-use Rattle.xmp_walk.specs.Expressions.{no_parts, add, each_subscript, each_next, read_as, cell_of, unknown, call, expr_of, inside_of, next_of, reference_of, arguments_of}
-use Rattle.xmp_walk.specs.Walk.{Run, typed, typed_reference, typed_call, typed_all, typed_constant, is_known, first_place}
+use Rattle.xmp_names.specs.declared.names.Meaning.{Meaning}
+use Rattle.xmp_names.specs.declared.names.Meaning.TheVariants.{Scalar, Array, Nodes, Template, Function}
+use Rattle.xmp_names.specs.declared.names.Array as array
+use Rattle.xmp_names.specs.declared.names.Environment.{Environment}
+use Rattle.xmp_names.specs.declared.rules.Notes.{Notes}
+use Rattle.xmp_names.specs.declared.rules.Rule.{Rule}
+use Rattle.xmp_names.specs.declared.rules.Rule.TheVariants.{N1, N3, N4}
+use Rattle.xmp_names.specs.declared.typed.Typed.{Typed}
+use Rattle.xmp_names.specs.declared.typed.Parts.{Parts}
+use Rattle.xmp_names.specs.declared.world.World.{World}
+use Rattle.xmp_names.specs.Rules.{unless}
+use Rattle.xmp_names.specs.Expressions.{no_parts, add, each_subscript, each_next, read_as, cell_of, unknown, call, expr_of, inside_of, next_of, reference_of, arguments_of}
+use Rattle.xmp_names.specs.Walk.{Run, typed, typed_reference, typed_call, typed_all, typed_constant, is_known, first_place}
 use Rattle.xmp_elab.proofs.Unbroken.{left_none, right_none, left_true, right_true, holds}
 use Rattle.xmp_fits.proofs.KeptRuns.{Ends}
 use Rattle.xmp_fits.proofs.TermsFit.{EachFits}

@@ -1,8 +1,8 @@
 use Rattle.std.proofs.Common.{◌≡◌, ◌∙◌, ℤ, List, IsTrue, map, subst, sym}
 use Rattle.std.specs.List.{list_all}
 use Rattle.xmp_map.specs.Nodes.{makes_grid}
-use Rattle.xmp_walk.specs.Directives.{natural}
-use Rattle.xmp_walk.specs.MappingRules.{nodes_of}
+use Rattle.xmp_names.specs.Sizes.{natural}
+use Rattle.xmp_mapping_rules.specs.MappingRules.{nodes_of}
 use Rattle.xmp_elab.specs.Narrow.{is_narrow}
 use Rattle.xmp_elab.proofs.Rows.{makes, narrow_nodes, right_nodes}
 use Rattle.xmp_elab.proofs.elaborated.place_all.Goals as goal

@@ -1,7 +1,7 @@
 use Rattle.std.proofs.Common.{◌≡◌, subst, sym, IsTrue, None, map}
 use Rattle.std.specs.List.{list_all}
 use Rattle.xmp_map.specs.Spread.{template_fault}
-use Rattle.xmp_walk.specs.Directives.{natural}
+use Rattle.xmp_names.specs.Sizes.{natural}
 use Rattle.xmp_elab.specs.Narrow.{is_narrow, is_narrow_form}
 use Rattle.xmp_elab.specs.Parts.{made_form}
 use Rattle.xmp_elab.proofs.FormsFit.{template_facts}

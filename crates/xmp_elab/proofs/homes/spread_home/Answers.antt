@@ -3,10 +3,10 @@ use Rattle.std.specs.Prelude.{option_copied}
 use Rattle.std.proofs.lemmas.Option.{none-some, same_Some}
 use Rattle.xmp_map.specs.declared.array_map.ArrayMap.{ArrayMap}
 use Rattle.xmp_map.specs.declared.template.Template.{Template}
-use Rattle.xmp_walk.specs.declared.mappings.Align.{Align}
-use Rattle.xmp_walk.specs.declared.mappings.AlignPoint.{AlignPoint}
-use Rattle.xmp_walk.specs.declared.mappings.Shadow.{Shadow}
-use Rattle.xmp_walk.specs.declared.world.World.{World}
+use Rattle.xmp_names.specs.declared.mappings.Align.{Align}
+use Rattle.xmp_names.specs.declared.mappings.AlignPoint.{AlignPoint}
+use Rattle.xmp_names.specs.declared.mappings.Shadow.{Shadow}
+use Rattle.xmp_names.specs.declared.world.World.{World}
 use Rattle.xmp_elab.specs.Parts.{IsMapOver, IsOver, shadow_of, widths_in}
 use Rattle.xmp_elab.proofs.Accepted.{MapFits, map_facts}
 use Rattle.xmp_elab.proofs.homes.spread_home.Goals as goal
