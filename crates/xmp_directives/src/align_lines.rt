@@ -80,7 +80,11 @@ fn no_dummy(world: &mut World, name: &Name, meaning: Option<Meaning>) -> Result<
     }
 }
 
-fn dummy_in_point(world: &mut World, name: &Name, dimension: Option<usize>) -> Result<usize, AllocError>
+fn dummy_in_point(
+    world: &mut World,
+    name: &Name,
+    dimension: Option<usize>,
+) -> Result<usize, AllocError>
     ensures { Does (dummy_in_point name.now dimension world.old) result world.new }
 {
     match dimension {
@@ -128,7 +132,12 @@ fn align_points(
 }
 
 // An array has as many dimensions in an align and in a shadow as extents.
-fn match_array(world: &mut World, array: Option<u32>, count: usize, at: Place) -> Result<(), AllocError>
+fn match_array(
+    world: &mut World,
+    array: Option<u32>,
+    count: usize,
+    at: Place,
+) -> Result<(), AllocError>
     ensures { Does (match_array array count at world.old) result world.new }
 {
     match array {

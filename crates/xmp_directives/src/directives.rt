@@ -100,7 +100,11 @@ fn scalar_names(
 
 // ---- sets of nodes
 
-fn count_of(world: &mut World, alloc: Global, many: &Option<(Place, Expr)>) -> Result<i64, AllocError>
+fn count_of(
+    world: &mut World,
+    alloc: Global,
+    many: &Option<(Place, Expr)>,
+) -> Result<i64, AllocError>
     ensures { Does (count_of many.now world.old) result world.new }
 {
     match many {

@@ -134,11 +134,7 @@ fn reductions_of(
 }
 
 /// The line of a loop directive.
-pub fn loop_line(
-    world: &mut World,
-    alloc: Global,
-    line: &LoopLine,
-) -> Result<LoopParts, AllocError>
+pub fn loop_line(world: &mut World, alloc: Global, line: &LoopLine) -> Result<LoopParts, AllocError>
     ensures { Does (loop_line line.now world.old) result world.new }
 {
     world.directive_at(line.line.word)?;

@@ -20,7 +20,11 @@ fn mapping_at(world: &mut World, line: &DirectiveLine) -> Result<(), AllocError>
     world.stands_outermost(line.word)
 }
 
-fn constants(world: &mut World, alloc: Global, list: &[Inside<Expr>]) -> Result<Items<i64>, AllocError>
+fn constants(
+    world: &mut World,
+    alloc: Global,
+    list: &[Inside<Expr>],
+) -> Result<Items<i64>, AllocError>
     ensures { Does (constants list.now world.old) result world.new }
 {
     let mut values = Items::new(alloc);
@@ -77,7 +81,11 @@ fn template_line(
     world.declare(alloc, name, Meaning::Template(number))
 }
 
-fn width_of(world: &mut World, alloc: Global, width: &Option<Inside<Expr>>) -> Result<i64, AllocError>
+fn width_of(
+    world: &mut World,
+    alloc: Global,
+    width: &Option<Inside<Expr>>,
+) -> Result<i64, AllocError>
     ensures { Does (width_of width.now world.old) result world.new }
 {
     match width {
@@ -217,7 +225,8 @@ fn mapping_line(world: &mut World, alloc: Global, mapping: &Mapping) -> Result<(
         }
         Mapping::Align(line, array, dimensions, _, template, points) => {
             let dimensions = dimensions.as_slice();
-            align_line(world, 
+            align_line(
+                world,
                 alloc,
                 line.word,
                 array,

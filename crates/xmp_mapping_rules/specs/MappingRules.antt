@@ -50,6 +50,10 @@ distribution_of w k = item_at w.mappings.distributions (first_place k (distribut
 abbrev pub align_of : World → ℕ → Option Align
 align_of w k = item_at w.mappings.aligns (first_place k (aligned w))
 
+-- And the first shadow of an array.
+abbrev pub shadow_of : World → ℕ → Option Shadow
+shadow_of w k = item_at w.mappings.shadows (first_place k (shadowed w))
+
 -- The forms of a template, in the order of its dimensions; none where it is never distributed. And its sizes.
 abbrev pub forms_in : Option Distribution → List Form
 forms_in None = []

@@ -3,35 +3,13 @@ ghost use Rattle.std.specs.Prelude.{◌≡◌, ◌++◌, ◌&&◌, IfOk, IsTrue,
 ghost use Rattle.xmp_names.specs.Sizes.{extents_in, is_small};
 ghost use Rattle.xmp_mapping_rules.specs.MappingRules.{align_of, align_right, align_rule, align_rules, aligned, all_different, dimension_in, dimensions_in, distributed, distributes, dummies_right, point_fits, point_right, points_right, reaches};
 
+use crate::lines::Lines;
 use crate::nodes_rules::{judge, one_to_three};
-use crate::numbers::Numbers;
-use crate::template_rules::{distributes, forms_of, is_at, template_sizes};
+use crate::numbers::{Numbers, is_at};
+use crate::template_rules::distributes;
 use sqlite_items::Items;
 use std::alloc::{AllocError, Global};
-use xmp_names::{Align, AlignPoint, Broken, Form, Rule, World, extents_in, is_small};
-
-/// The array of each align, in the order of the text.
-pub fn aligned(alloc: Global, w: &World) -> Result<Numbers, AllocError>
-    ensures { IfOk result (λ ns. ns ≡ aligned w.now) }
-{
-    let mut numbers = Numbers::new(alloc);
-    let lines = w.mappings.aligns.as_slice();
-    'lines: for line in lines {
-        numbers.push(line.array as usize)?;
-    }
-    Ok(numbers)
-}
-
-/// The first align of an array.
-pub(crate) fn align_of<'a>(w: &'a World, aligns: &Numbers, array: u32) -> Option<&'a Align>
-    requires { aligns.now ≡ aligned w.now }
-    ensures { option_copied result ≡ align_of w.now array }
-{
-    match aligns.first_place(array as usize) {
-        Some(place) => w.mappings.aligns.get(place),
-        None => None,
-    }
-}
+use xmp_names::{Align, AlignPoint, Broken, Form, Rule, extents_in, is_small};
 
 /// Adds the dimension of an array that stands in a point.
 pub(crate) fn add_dimension(dimensions: &mut Numbers, point: AlignPoint) -> Result<(), AllocError>
@@ -132,19 +110,13 @@ fn names_right(alloc: Global, line: &Align) -> Result<bool, AllocError>
     Ok(all_different(&dimensions) && dummies_right(line.dummies.as_slice(), &dimensions))
 }
 
-fn align_right(
-    alloc: Global,
-    distributions: &Numbers,
-    w: &World,
-    line: &Align,
-) -> Result<bool, AllocError>
-    requires { distributions.now ≡ distributed w.now }
-    ensures { IfOk result (λ r. r ≡ align_right w.now line.now) }
+fn align_right(alloc: Global, lines: &Lines, line: &Align) -> Result<bool, AllocError>
+    ensures { IfOk result (λ r. r ≡ align_right lines.now line.now) }
 {
     let points = line.points.as_slice();
-    let extents = extents_in(w, line.array);
-    let forms = forms_of(w, distributions, line.template);
-    let sizes = template_sizes(w, line.template);
+    let extents = extents_in(lines.world(), line.array);
+    let forms = lines.forms_of(line.template as usize);
+    let sizes = lines.template_sizes(line.template);
     let numbers = line.dummies.len() == extents.len()
         && (one_to_three(points.len()) && points.len() == sizes.len());
     let names = names_right(alloc, line)?;
@@ -153,22 +125,18 @@ fn align_right(
 
 fn align_rule(
     alloc: Global,
-    distributions: &Numbers,
-    aligns: &Numbers,
-    w: &World,
+    lines: &Lines,
     broken: &mut Items<Broken>,
     i: usize,
     line: &Align,
 ) -> Result<(), AllocError>
-    requires distributions { distributions.now ≡ distributed w.now }
-    requires aligns { aligns.now ≡ aligned w.now }
-    ensures { OnOk result (broken.new ≡ broken.old ++ align_rule w.now (i, line.now)) }
+    ensures { OnOk result (broken.new ≡ broken.old ++ align_rule lines.now (i, line.now)) }
 {
-    let first = is_at(i, aligns.first_place(line.array as usize));
-    let right = align_right(alloc, distributions, w, line)?;
+    let first = lines.is_first_align(i, line.array);
+    let right = align_right(alloc, lines, line)?;
     judge(
         broken,
-        first && (!w.names.coarray && right),
+        first && (!lines.world().names.coarray && right),
         Rule::M5,
         line.at,
     )
@@ -177,18 +145,14 @@ fn align_rule(
 /// The rules that aligns break.
 pub(crate) fn align_rules(
     alloc: Global,
-    distributions: &Numbers,
-    aligns: &Numbers,
-    w: &World,
+    lines: &Lines,
     broken: &mut Items<Broken>,
 ) -> Result<(), AllocError>
-    requires distributions { distributions.now ≡ distributed w.now }
-    requires aligns { aligns.now ≡ aligned w.now }
-    ensures { OnOk result (broken.new ≡ broken.old ++ align_rules w.now) }
+    ensures { OnOk result (broken.new ≡ broken.old ++ align_rules lines.now) }
 {
-    let lines = w.mappings.aligns.as_slice();
-    'lines: for (i, line) in lines.iter().enumerate() {
-        align_rule(alloc, distributions, aligns, w, broken, i, line)?;
+    let list = lines.world().mappings.aligns.as_slice();
+    'list: for (i, line) in list.iter().enumerate() {
+        align_rule(alloc, lines, broken, i, line)?;
     }
     Ok(())
 }

@@ -6,10 +6,11 @@ ghost use Rattle.xmp_map.specs.Spread.{sizes_fit};
 ghost use Rattle.xmp_names.specs.Sizes.{most_cells};
 ghost use Rattle.xmp_mapping_rules.specs.MappingRules.{cell_rules, copies, nodes_of, number_of_nodes};
 
+use crate::lines::Lines;
 use crate::nodes_rules::{TOO_MANY, judge, limited_product, node_product};
 use sqlite_items::Items;
 use std::alloc::AllocError;
-use xmp_names::{Broken, Rule, World};
+use xmp_names::{Broken, Rule};
 
 // How many cells an array of these extents has, or 4,194,305 where it has more.
 fn cells_in(extents: &[u32]) -> u64
@@ -47,40 +48,33 @@ fn cells_right(extents: &[u32], cells: u64, times: u64) -> bool
     sizes_fit(extents) && limited_product(cells, times) < TOO_MANY
 }
 
-fn number_of_nodes(w: &World, nodes: &[i64]) -> u64
-    requires { nodes.now ≡ nodes_of w.now }
-    ensures { result ≡ min (number_of_nodes w.now) (most_cells + 1) }
+fn number_of_nodes(lines: &Lines) -> u64
+    ensures { result ≡ min (number_of_nodes lines.now) (most_cells + 1) }
 {
-    match w.given {
+    match lines.world().given {
         Some(given) => u64::from(given).min(TOO_MANY),
-        None => node_product(nodes),
+        None => node_product(lines.nodes()),
     }
 }
 
 // How many copies of its arrays the program has, or 4,194,305 where it has more.
-fn copies(w: &World, nodes: &[i64]) -> u64
-    requires { nodes.now ≡ nodes_of w.now }
-    ensures { result ≡ min (copies w.now) (most_cells + 1) }
+fn copies(lines: &Lines) -> u64
+    ensures { result ≡ min (copies lines.now) (most_cells + 1) }
 {
-    if w.names.coarray {
-        number_of_nodes(w, nodes)
+    if lines.world().names.coarray {
+        number_of_nodes(lines)
     } else {
         1
     }
 }
 
 /// The rule that arrays break which have too many cells together with those before them.
-pub(crate) fn cell_rules(
-    w: &World,
-    nodes: &[i64],
-    broken: &mut Items<Broken>,
-) -> Result<(), AllocError>
-    requires { nodes.now ≡ nodes_of w.now }
-    ensures { OnOk result (broken.new ≡ broken.old ++ cell_rules w.now) }
+pub(crate) fn cell_rules(lines: &Lines, broken: &mut Items<Broken>) -> Result<(), AllocError>
+    ensures { OnOk result (broken.new ≡ broken.old ++ cell_rules lines.now) }
 {
-    let times = copies(w, nodes);
+    let times = copies(lines);
     let mut before = 0u64;
-    let arrays = w.names.arrays.as_slice();
+    let arrays = lines.world().names.arrays.as_slice();
     'arrays: for array in arrays {
         let extents = array.extents.as_slice();
         let cells = (before + cells_in(extents)).min(TOO_MANY);

@@ -5,15 +5,12 @@
 
 mod align_rules;
 mod cell_rules;
+mod lines;
 mod nodes_rules;
 mod numbers;
 mod rules_of_mappings;
 mod shadow_rules;
 mod template_rules;
 
-pub use align_rules::aligned;
-pub use nodes_rules::nodes_of;
-pub use numbers::Numbers;
+pub use lines::Lines;
 pub use rules_of_mappings::mapping_rules;
-pub use shadow_rules::shadowed;
-pub use template_rules::distributed;

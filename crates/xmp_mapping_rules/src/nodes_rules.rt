@@ -25,24 +25,6 @@ pub(crate) fn judge(
     Ok(())
 }
 
-fn one_size(alloc: Global, size: u32) -> Result<Items<i64>, AllocError>
-    ensures { IfOk result (λ sizes. sizes ≡ pos size ∷ []) }
-{
-    let mut sizes = Items::new(alloc);
-    sizes.push(i64::from(size))?;
-    Ok(sizes)
-}
-
-/// The sizes of the first nodes array; where there is none all nodes stand in a row.
-pub fn nodes_of(alloc: Global, w: &World) -> Result<Items<i64>, AllocError>
-    ensures { IfOk result (λ sizes. sizes ≡ nodes_of w.now) }
-{
-    match w.mappings.nodes.get(0) {
-        Some(line) => line_sizes(alloc, given_or_one(w), line),
-        None => one_size(alloc, given_or_one(w)),
-    }
-}
-
 // The least number of cells or nodes that is too many.
 pub(crate) const TOO_MANY: u64 = 4_194_305;
 

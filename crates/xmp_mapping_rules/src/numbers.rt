@@ -1,6 +1,6 @@
 // Numbers in a row, of which the first that equals a number is found at once.
 ghost use Rattle.std.specs.Prelude.{◌≡◌, ◌∷◌, ◌++◌, ◌<◌, [], ℕ, OnOk, length, slice_get};
-ghost use Rattle.xmp_mapping_rules.specs.Numbers.{first_place, held};
+ghost use Rattle.xmp_mapping_rules.specs.Numbers.{first_place, held, is_at};
 
 use sqlite_items::Items;
 use std::alloc::{AllocError, Global};
@@ -75,5 +75,15 @@ impl Numbers {
             self.places.set(number, Some(place));
         }
         Ok(())
+    }
+}
+
+/// Whether a place is the one that is meant.
+pub(crate) fn is_at(i: usize, place: Option<usize>) -> bool
+    ensures { result ≡ is_at i place }
+{
+    match place {
+        Some(j) => j == i,
+        None => false,
     }
 }

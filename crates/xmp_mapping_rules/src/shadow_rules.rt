@@ -2,25 +2,14 @@
 ghost use Rattle.std.specs.Prelude.{◌≡◌, ◌++◌, ◌||◌, IfOk, OnOk, not, slice_get};
 ghost use Rattle.xmp_mapping_rules.specs.MappingRules.{align_of, aligned, distributed, distributes, indexed_right, interval_dimension, interval_dimensions, is_width, loop_rule, loop_rules, shadow_right, shadow_rule, shadow_rules, shadowed, spans_intervals, width_right, widths_right};
 
-use crate::align_rules::{add_dimension, align_of};
+use crate::align_rules::add_dimension;
+use crate::lines::Lines;
 use crate::nodes_rules::judge;
 use crate::numbers::Numbers;
-use crate::template_rules::{distributes, forms_of, has_intervals, is_at};
+use crate::template_rules::{distributes, has_intervals};
 use sqlite_items::Items;
 use std::alloc::{AllocError, Global};
-use xmp_names::{AlignPoint, Broken, Form, LoopUse, Rule, Shadow, World, extents_in};
-
-/// The array of each shadow, in the order of the text.
-pub fn shadowed(alloc: Global, w: &World) -> Result<Numbers, AllocError>
-    ensures { IfOk result (λ ns. ns ≡ shadowed w.now) }
-{
-    let mut numbers = Numbers::new(alloc);
-    let lines = w.mappings.shadows.as_slice();
-    'lines: for line in lines {
-        numbers.push(line.array as usize)?;
-    }
-    Ok(numbers)
-}
+use xmp_names::{AlignPoint, Broken, Form, LoopUse, Rule, Shadow, extents_in};
 
 // Whether the form of a dimension, which may have none, gives each node one interval.
 fn spans_intervals(forms: &[Form], i: usize) -> bool
@@ -87,23 +76,15 @@ fn widths_right(dimensions: &Numbers, widths: &[(i64, i64)]) -> bool
     true
 }
 
-fn shadow_right(
-    alloc: Global,
-    distributions: &Numbers,
-    aligns: &Numbers,
-    w: &World,
-    line: &Shadow,
-) -> Result<bool, AllocError>
-    requires distributions { distributions.now ≡ distributed w.now }
-    requires aligns { aligns.now ≡ aligned w.now }
-    ensures { IfOk result (λ r. r ≡ shadow_right w.now (align_of w.now line.now.array) line.now) }
+fn shadow_right(alloc: Global, lines: &Lines, line: &Shadow) -> Result<bool, AllocError>
+    ensures { IfOk result (λ r. r ≡ shadow_right lines.now (align_of lines.now line.now.array) line.now) }
 {
-    match align_of(w, aligns, line.array) {
+    match lines.align_of(line.array as usize) {
         Some(align) => {
-            let forms = forms_of(w, distributions, align.template);
+            let forms = lines.forms_of(align.template as usize);
             let dimensions = interval_dimensions(alloc, forms, align.points.as_slice())?;
             let widths = line.widths.as_slice();
-            let extents = extents_in(w, line.array);
+            let extents = extents_in(lines.world(), line.array);
             Ok(widths.len() == extents.len() && widths_right(&dimensions, widths))
         }
         None => Ok(false),
@@ -112,40 +93,29 @@ fn shadow_right(
 
 fn shadow_rule(
     alloc: Global,
-    distributions: &Numbers,
-    aligns: &Numbers,
-    shadows: &Numbers,
-    w: &World,
+    lines: &Lines,
     broken: &mut Items<Broken>,
     i: usize,
     line: &Shadow,
 ) -> Result<(), AllocError>
-    requires distributions { distributions.now ≡ distributed w.now }
-    requires aligns { aligns.now ≡ aligned w.now }
-    requires shadows { shadows.now ≡ shadowed w.now }
-    ensures { OnOk result (broken.new ≡ broken.old ++ shadow_rule w.now (i, line.now)) }
+    ensures { OnOk result (broken.new ≡ broken.old ++ shadow_rule lines.now (i, line.now)) }
 {
-    let first = is_at(i, shadows.first_place(line.array as usize));
-    let right = shadow_right(alloc, distributions, aligns, w, line)?;
+    let first = lines.is_first_shadow(i, line.array);
+    let right = shadow_right(alloc, lines, line)?;
     judge(broken, first && right, Rule::M6, line.at)
 }
 
 /// The rules that shadows break.
 pub(crate) fn shadow_rules(
     alloc: Global,
-    distributions: &Numbers,
-    aligns: &Numbers,
-    w: &World,
+    lines: &Lines,
     broken: &mut Items<Broken>,
 ) -> Result<(), AllocError>
-    requires distributions { distributions.now ≡ distributed w.now }
-    requires aligns { aligns.now ≡ aligned w.now }
-    ensures { OnOk result (broken.new ≡ broken.old ++ shadow_rules w.now) }
+    ensures { OnOk result (broken.new ≡ broken.old ++ shadow_rules lines.now) }
 {
-    let shadows = shadowed(alloc, w)?;
-    let lines = w.mappings.shadows.as_slice();
-    'lines: for (i, line) in lines.iter().enumerate() {
-        shadow_rule(alloc, distributions, aligns, &shadows, w, broken, i, line)?;
+    let list = lines.world().mappings.shadows.as_slice();
+    'list: for (i, line) in list.iter().enumerate() {
+        shadow_rule(alloc, lines, broken, i, line)?;
     }
     Ok(())
 }
@@ -168,16 +138,14 @@ fn indexed_right(forms: &[Form], indexed: &[bool]) -> bool
 }
 
 fn loop_rule(
-    distributions: &Numbers,
-    w: &World,
+    lines: &Lines,
     broken: &mut Items<Broken>,
     i: usize,
     line: &LoopUse,
 ) -> Result<(), AllocError>
-    requires { distributions.now ≡ distributed w.now }
-    ensures { OnOk result (broken.new ≡ broken.old ++ loop_rule w.now (i, line.now)) }
+    ensures { OnOk result (broken.new ≡ broken.old ++ loop_rule lines.now (i, line.now)) }
 {
-    let forms = forms_of(w, distributions, line.template);
+    let forms = lines.forms_of(line.template as usize);
     judge(
         broken,
         indexed_right(forms, line.indexed.as_slice()),
@@ -187,17 +155,12 @@ fn loop_rule(
 }
 
 /// The rules that the points of loop directives break.
-pub(crate) fn loop_rules(
-    distributions: &Numbers,
-    w: &World,
-    broken: &mut Items<Broken>,
-) -> Result<(), AllocError>
-    requires { distributions.now ≡ distributed w.now }
-    ensures { OnOk result (broken.new ≡ broken.old ++ loop_rules w.now) }
+pub(crate) fn loop_rules(lines: &Lines, broken: &mut Items<Broken>) -> Result<(), AllocError>
+    ensures { OnOk result (broken.new ≡ broken.old ++ loop_rules lines.now) }
 {
-    let lines = w.mappings.loops.as_slice();
-    'lines: for (i, line) in lines.iter().enumerate() {
-        loop_rule(distributions, w, broken, i, line)?;
+    let list = lines.world().mappings.loops.as_slice();
+    'list: for (i, line) in list.iter().enumerate() {
+        loop_rule(lines, broken, i, line)?;
     }
     Ok(())
 }

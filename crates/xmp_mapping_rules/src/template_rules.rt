@@ -5,69 +5,11 @@ ghost use Rattle.xmp_mapping_rules.specs.MappingRules.{counts, distributed, dist
 ghost use Rattle.xmp_names.specs.Sizes.{is_extent, natural};
 ghost use Rattle.xmp_mapping_rules.specs.Numbers.{is_at};
 
+use crate::lines::Lines;
 use crate::nodes_rules::{judge, natural, one_to_three};
-use crate::numbers::Numbers;
 use sqlite_items::Items;
 use std::alloc::{AllocError, Global};
-use xmp_names::{Broken, Distribution, Form, Rule, TemplateLine, World, is_extent};
-
-/// The template of each distribution, in the order of the text.
-pub fn distributed(alloc: Global, w: &World) -> Result<Numbers, AllocError>
-    ensures { IfOk result (λ ns. ns ≡ distributed w.now) }
-{
-    let mut numbers = Numbers::new(alloc);
-    let lines = w.mappings.distributions.as_slice();
-    'lines: for line in lines {
-        numbers.push(line.template as usize)?;
-    }
-    Ok(numbers)
-}
-
-/// The first distribution of a template.
-pub(crate) fn distribution_of<'a>(
-    w: &'a World,
-    distributions: &Numbers,
-    template: u32,
-) -> Option<&'a Distribution>
-    requires { distributions.now ≡ distributed w.now }
-    ensures { option_copied result ≡ distribution_of w.now template }
-{
-    match distributions.first_place(template as usize) {
-        Some(place) => w.mappings.distributions.get(place),
-        None => None,
-    }
-}
-
-/// The forms of a template; none where it is never distributed.
-pub(crate) fn forms_of<'a>(w: &'a World, distributions: &Numbers, template: u32) -> &'a [Form]
-    requires { distributions.now ≡ distributed w.now }
-    ensures { result.now ≡ forms_of w.now template }
-{
-    match distribution_of(w, distributions, template) {
-        Some(distribution) => distribution.forms.as_slice(),
-        None => &[],
-    }
-}
-
-/// The sizes of a template.
-pub(crate) fn template_sizes(w: &World, template: u32) -> &[i64]
-    ensures { result.now ≡ template_sizes w.now template }
-{
-    match w.mappings.templates.get(template as usize) {
-        Some(line) => line.sizes.as_slice(),
-        None => &[],
-    }
-}
-
-/// Whether a place is the one that is meant.
-pub(crate) fn is_at(i: usize, place: Option<usize>) -> bool
-    ensures { result ≡ is_at i place }
-{
-    match place {
-        Some(j) => j == i,
-        None => false,
-    }
-}
+use xmp_names::{Broken, Distribution, Form, Rule, TemplateLine, is_extent};
 
 /// Whether a form distributes its dimension.
 pub(crate) fn is_distributed(form: &Form) -> bool
@@ -112,37 +54,30 @@ fn all_extents(sizes: &[i64]) -> bool
 }
 
 fn template_rule(
-    distributions: &Numbers,
-    w: &World,
+    lines: &Lines,
     broken: &mut Items<Broken>,
     i: usize,
     line: &TemplateLine,
 ) -> Result<(), AllocError>
-    requires { distributions.now ≡ distributed w.now }
-    ensures { OnOk result (broken.new ≡ broken.old ++ template_rule w.now (i, line.now)) }
+    ensures { OnOk result (broken.new ≡ broken.old ++ template_rule lines.now (i, line.now)) }
 {
     let right = one_to_three(line.sizes.len()) && all_extents(line.sizes.as_slice());
     judge(broken, right, Rule::M2, line.at)?;
     judge(
         broken,
-        distributions.first_place(i).is_some(),
+        lines.distribution_of(i).is_some(),
         Rule::M3,
         line.at,
     )
 }
 
 /// The rules that templates break.
-pub(crate) fn template_rules(
-    distributions: &Numbers,
-    w: &World,
-    broken: &mut Items<Broken>,
-) -> Result<(), AllocError>
-    requires { distributions.now ≡ distributed w.now }
-    ensures { OnOk result (broken.new ≡ broken.old ++ template_rules w.now) }
+pub(crate) fn template_rules(lines: &Lines, broken: &mut Items<Broken>) -> Result<(), AllocError>
+    ensures { OnOk result (broken.new ≡ broken.old ++ template_rules lines.now) }
 {
-    let lines = w.mappings.templates.as_slice();
-    'lines: for (i, line) in lines.iter().enumerate() {
-        template_rule(distributions, w, broken, i, line)?;
+    let list = lines.world().mappings.templates.as_slice();
+    'list: for (i, line) in list.iter().enumerate() {
+        template_rule(lines, broken, i, line)?;
     }
     Ok(())
 }
@@ -256,40 +191,32 @@ fn forms_right(forms: &[Form], sizes: &[i64], nodes: &[i64]) -> bool
 }
 
 fn distribution_rule(
-    distributions: &Numbers,
-    nodes: &[i64],
-    w: &World,
+    lines: &Lines,
     broken: &mut Items<Broken>,
     i: usize,
     line: &Distribution,
 ) -> Result<(), AllocError>
-    requires distributions { distributions.now ≡ distributed w.now }
-    requires nodes { nodes.now ≡ nodes_of w.now }
-    ensures { OnOk result (broken.new ≡ broken.old ++ distribution_rule w.now (i, line.now)) }
+    ensures { OnOk result (broken.new ≡ broken.old ++ distribution_rule lines.now (i, line.now)) }
 {
-    let first = is_at(i, distributions.first_place(line.template as usize));
+    let first = lines.is_first_distribution(i, line.template);
     let forms = line.forms.as_slice();
-    let sizes = template_sizes(w, line.template);
-    let spread = first && spread_right(nodes, sizes, forms);
+    let sizes = lines.template_sizes(line.template);
+    let spread = first && spread_right(lines.nodes(), sizes, forms);
     judge(broken, spread, Rule::M3, line.at)?;
-    let chunks = !first || forms_right(forms, sizes, nodes);
+    let chunks = !first || forms_right(forms, sizes, lines.nodes());
     judge(broken, chunks, Rule::M4, line.at)
 }
 
 /// The rules that distributions break.
 pub(crate) fn distribution_rules(
-    distributions: &Numbers,
-    nodes: &[i64],
-    w: &World,
+    lines: &Lines,
     broken: &mut Items<Broken>,
 ) -> Result<(), AllocError>
-    requires distributions { distributions.now ≡ distributed w.now }
-    requires nodes { nodes.now ≡ nodes_of w.now }
-    ensures { OnOk result (broken.new ≡ broken.old ++ distribution_rules w.now) }
+    ensures { OnOk result (broken.new ≡ broken.old ++ distribution_rules lines.now) }
 {
-    let lines = w.mappings.distributions.as_slice();
-    'lines: for (i, line) in lines.iter().enumerate() {
-        distribution_rule(distributions, nodes, w, broken, i, line)?;
+    let list = lines.world().mappings.distributions.as_slice();
+    'list: for (i, line) in list.iter().enumerate() {
+        distribution_rule(lines, broken, i, line)?;
     }
     Ok(())
 }

@@ -424,13 +424,7 @@ fn chosen(
 }
 
 // A condition with two operands in a type. Each is boxed before the next is made, so that it is let go whole.
-fn three(
-    alloc: Global,
-    test: Expr,
-    ty: Ty,
-    yes: Operand,
-    no: Operand,
-) -> Result<Expr, AllocError>
+fn three(alloc: Global, test: Expr, ty: Ty, yes: Operand, no: Operand) -> Result<Expr, AllocError>
     ensures { IfOk result (λ e. e ≡ Expr.Choose test (operand ty yes) (operand ty no)) }
 {
     match Boxed::new(alloc, test) {

@@ -143,12 +143,7 @@ impl World {
     }
 
     /// A scalar takes the next slot, and is known from here on.
-    pub fn declare_scalar(
-        &mut self,
-        alloc: Global,
-        name: &Name,
-        ty: Ty,
-    ) -> Result<u32, AllocError>
+    pub fn declare_scalar(&mut self, alloc: Global, name: &Name, ty: Ty) -> Result<u32, AllocError>
         ensures { Does (declare_scalar name.now ty self.old) result self.new }
     {
         let slot = self.new_slot(ty)?;
@@ -364,4 +359,3 @@ pub fn first_place(e: &Expr) -> Place
         Expr::Conditional(test, _, _, _, _) => first_place(test.get()),
     }
 }
-

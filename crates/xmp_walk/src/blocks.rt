@@ -14,7 +14,9 @@ use crate::statements::{print, return_of, scan, simple, sync};
 use sqlite_items::{Boxed, Items};
 use std::alloc::{AllocError, Global};
 use xmp_base::Place;
-use xmp_directives::{LoopParts, barrier, bcast, gmove, judged_loop, loop_line, mapping, nest_of, reflect, task_line};
+use xmp_directives::{
+    LoopParts, barrier, bcast, gmove, judged_loop, loop_line, mapping, nest_of, reflect, task_line,
+};
 use xmp_map::NodeSet;
 use xmp_names::{Operand, World};
 use xmp_prog as prog;
@@ -40,7 +42,11 @@ pub(crate) fn plain(world: &mut World, alloc: Global, x: &Plain) -> Result<prog:
 
 /// A statement, and what stands in it.
 #[cycle(statement)]
-pub(crate) fn statement(world: &mut World, alloc: Global, x: &Stmt) -> Result<prog::Stmt, AllocError>
+pub(crate) fn statement(
+    world: &mut World,
+    alloc: Global,
+    x: &Stmt,
+) -> Result<prog::Stmt, AllocError>
     ensures { Does (stmt_of x.now world.old) result world.new }
 {
     match x {

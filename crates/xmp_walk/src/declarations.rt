@@ -180,7 +180,12 @@ fn file_scalar(
     start_of(world, alloc, slot, value)
 }
 
-fn file_declarator(world: &mut World, alloc: Global, ty: Ty, x: &Declarator) -> Result<(), AllocError>
+fn file_declarator(
+    world: &mut World,
+    alloc: Global,
+    ty: Ty,
+    x: &Declarator,
+) -> Result<(), AllocError>
     ensures { Does (file_declarator ty x.now world.old) result world.new }
 {
     match x {

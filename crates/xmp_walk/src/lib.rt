@@ -17,6 +17,7 @@ pub use loops::{First, ForParts, Shape};
 pub use program::walk_program;
 pub use xmp_directives::LoopParts;
 pub use xmp_names::{
-    Align, AlignPoint, Array, Broken, Distribution, Environment, Form, LoopUse, Mappings, Meaning, Mode, NodesLine, Notes,
-    Operand, Operator, Parts, Region, Rule, Shadow, Signature, TemplateLine, Typed, Value, World, fits_format, is_scan_format,
+    Align, AlignPoint, Array, Broken, Distribution, Environment, Form, LoopUse, Mappings, Meaning,
+    Mode, NodesLine, Notes, Operand, Operator, Parts, Region, Rule, Shadow, Signature,
+    TemplateLine, Typed, Value, World, fits_format, is_scan_format,
 };

@@ -9,7 +9,10 @@ use sqlite_items::{Boxed, Items};
 use std::alloc::{AllocError, Global};
 use xmp_base::{Bytes, Place};
 use xmp_lex::Mark;
-use xmp_names::{Operand, Operator, Parts, Region, Rule, Value, World, as_type, first_place, fits_format, is_known, is_main, is_scan_format, joint, no_notes, value_type};
+use xmp_names::{
+    Operand, Operator, Parts, Region, Rule, Value, World, as_type, first_place, fits_format,
+    is_known, is_main, is_scan_format, joint, no_notes, value_type,
+};
 use xmp_num::{BinOp, Ty};
 use xmp_prog as prog;
 use xmp_tree::{Call, Expr, Format, Next, Placed, Reference, Simple};
@@ -158,7 +161,11 @@ fn prefix(
     Ok(made)
 }
 
-fn call(world: &mut World, alloc: Global, call: &Call<Boxed<Expr>>) -> Result<prog::Stmt, AllocError>
+fn call(
+    world: &mut World,
+    alloc: Global,
+    call: &Call<Boxed<Expr>>,
+) -> Result<prog::Stmt, AllocError>
     ensures { Does (simple_of (Simple.Call call.now) world.old) result world.new }
 {
     let Operand { made, .. } = world.typed_call(alloc, call)?;

@@ -3,7 +3,7 @@ use Rattle.xmp_mapping_rules.specs.MappingRules.{distribution_rule}
 use Rattle.xmp_mapping_rules.proofs.Enumerated.{part_step}
 use Rattle.xmp_mapping_rules.proofs.template_rules.distribution_rules.Goals as goal
 
-pub lines-preserved : goal.lines-preserved
-lines-preserved c =
-    c.lines.invariant ∙ part_step (distribution_rule c.args.w.now) c.as_slice-lines.result.now c.lines.i c.index-lines-i.result c.lines.broken c.distribution_rule.new.broken c.lines-test.true
-    c.index-lines-i.is c.in_ok-distribution_rule.ensures
+pub list-preserved : goal.list-preserved
+list-preserved c =
+    c.list.invariant ∙ part_step (distribution_rule c.args.lines.now) c.as_slice-list.result.now c.list.i c.index-list-i.result c.list.broken c.distribution_rule.new.broken c.list-test.true
+    c.index-list-i.is c.in_ok-distribution_rule.ensures
