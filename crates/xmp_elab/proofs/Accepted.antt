@@ -22,7 +22,8 @@ use Rattle.xmp_names.specs.Rules.{unless}
 use Rattle.xmp_names.specs.Sizes.{most_cells, extents_in, is_small}
 use Rattle.xmp_mapping_rules.specs.MappingRules.{align_of, align_right, all_different, cells_from, copies, dimensions_in, distributes, dummies_right, forms_of, interval_dimensions, mapping_rules, nodes_of, number_of_nodes, one_to_three, point_fits, points_right, shadow_right, template_sizes, template_sizes_in, widths_right}
 use Rattle.xmp_elab.specs.Narrow.{are_narrow, is_narrow_point}
-use Rattle.xmp_elab.specs.Parts.{EachMade, IsOf, IsTemplate, shadow_of, targets, widths_in}
+use Rattle.xmp_elab.specs.Parts.{EachMade, IsOf, IsTemplate, targets, widths_in}
+use Rattle.xmp_mapping_rules.specs.MappingRules.{shadow_of}
 use Rattle.xmp_elab.proofs.MadeLists.{made_here}
 use Rattle.xmp_elab.proofs.Padded.{at_most_three}
 use Rattle.xmp_elab.proofs.TargetsFit.{RightPoints, Spreads, names_right, targets_right}

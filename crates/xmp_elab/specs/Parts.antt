@@ -32,7 +32,7 @@ use Rattle.xmp_names.specs.declared.world.World.{World}
 use Rattle.xmp_names.specs.Walk.{Step, Gave}
 use Rattle.xmp_mapping_rules.specs.Numbers.{first_place}
 use Rattle.xmp_names.specs.Sizes.{natural}
-use Rattle.xmp_mapping_rules.specs.MappingRules.{item_at, nodes_of, forms_of, template_sizes, align_of, shadowed}
+use Rattle.xmp_mapping_rules.specs.MappingRules.{item_at, nodes_of, forms_of, template_sizes, align_of, shadowed, shadow_of}
 use Rattle.xmp_walk.specs.Program.{program_of}
 
 -- ---- the grid and the templates
@@ -89,9 +89,6 @@ abbrev pub targets : List ℕ → List AlignPoint → List Target
 targets extents points = targets_from 0 extents points
 
 -- The widths of the first shadow of an array.
-abbrev pub shadow_of : World → ℕ → Option Shadow
-shadow_of w k = item_at w.mappings.shadows (first_place k (shadowed w))
-
 abbrev pub widths_in : List ℕ → Option Shadow → List (ℕ × ℕ)
 widths_in extents None = map (λ x. (0, 0)) extents
 widths_in extents (Some s) = map (λ x. (natural x.0, natural x.1)) s.widths

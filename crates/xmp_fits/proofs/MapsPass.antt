@@ -29,7 +29,8 @@ use Rattle.xmp_names.specs.declared.rules.Rule.TheVariants.{M10}
 use Rattle.xmp_names.specs.Rules.{unless}
 use Rattle.xmp_names.specs.Sizes.{most_cells, given_or_one, line_sizes, natural}
 use Rattle.xmp_mapping_rules.specs.MappingRules.{align_of, cells_from, copies, forms_of, mapping_rules, is_given, node_product, nodes_of, nodes_right, number_of_nodes, one_to_three, sizes_or_row}
-use Rattle.xmp_elab.specs.Parts.{EachMade, IsAligned, IsArray, IsGrid, IsHome, IsMapOver, IsOver, IsTemplate, Made, kind_of, shadow_of, targets, targets_from, widths_in}
+use Rattle.xmp_elab.specs.Parts.{EachMade, IsAligned, IsArray, IsGrid, IsHome, IsMapOver, IsOver, IsTemplate, Made, kind_of, targets, targets_from, widths_in}
+use Rattle.xmp_mapping_rules.specs.MappingRules.{shadow_of}
 use Rattle.xmp_names.specs.declared.mappings.NodesLine.{NodesLine}
 use Rattle.xmp_elab.specs.Narrow.{is_count}
 use Rattle.xmp_elab.proofs.Padded.{at_most_three}

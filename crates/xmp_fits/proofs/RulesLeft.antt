@@ -12,7 +12,7 @@ use Rattle.xmp_names.specs.declared.world.World.{World}
 use Rattle.xmp_names.specs.Rules.{unless}
 use Rattle.xmp_names.specs.Sizes.{most_cells, extents_in}
 use Rattle.xmp_mapping_rules.specs.MappingRules.{align_of, cells_from, forms_of, interval_dimensions, mapping_rules, shadow_right, widths_right, nodes_rules, template_rules, distribution_rules, align_rules, shadow_rules, loop_rules, cell_rules}
-use Rattle.xmp_elab.specs.Parts.{shadow_of}
+use Rattle.xmp_mapping_rules.specs.MappingRules.{shadow_of}
 use Rattle.xmp_elab.proofs.Unbroken.{holds, left_none, left_true, right_none, right_true, shadow_at}
 use Rattle.xmp_elab.proofs.WidthsFit.{RightShadow}
 

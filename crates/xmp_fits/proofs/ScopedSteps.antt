@@ -42,7 +42,6 @@ use Rattle.xmp_names.specs.declared.rules.Rule.TheVariants.{N2, N3, M7}
 use Rattle.xmp_names.specs.declared.typed.Typed.{Typed}
 use Rattle.xmp_names.specs.declared.world.World.{World}
 use Rattle.xmp_names.specs.Rules.{unless, greater}
-use Rattle.xmp_names.specs.Typing.{operand_of}
 use Rattle.xmp_names.specs.Expressions.{expr_of, reference_of}
 use Rattle.xmp_names.specs.Walk as walk
 use Rattle.xmp_names.specs.Walk.{Step, Gave, Run, and_then, an_int_scalar, a_template}
@@ -114,9 +113,9 @@ module _ (p : ProgParts) where
       })
 
   -- what is known of a first part where its target and its value are read
-  first_fits : (m : World) (t v : Typed) (x : Expr) (declared : List made.Stmt) → Sees p m.names t.made → IsPlace t.made → Sees p m.names v.made →
-      FirstFits p m.names (first_part declared x (operand_of t) (operand_of v))
-  first_fits m t v x declared f i g = record { target = f; value = g; set = set_flat m.names p None (walk.first_place x) (operand_of t) (operand_of v) f i g }
+  first_fits : (m : World) (t v : Typed) (x : Expr) (declared : List made.Stmt) → Sees p m.names t.operand.made → IsPlace t.operand.made → Sees p m.names v.operand.made →
+      FirstFits p m.names (first_part declared x t.operand v.operand)
+  first_fits m t v x declared f i g = record { target = f; value = g; set = set_flat m.names p None (walk.first_place x) t.operand v.operand f i g }
 
   heads_end : (o : Option ForFirst) (test : Option Expr) (next : Option Simple) (w : World) → Unbroken (HeadFits p w) (and_then (walk.if_there first_of o w) (rest test next))
   heads_end None test next w = rest_ends w w test next None (λ n. (none_fit p w, tt))
@@ -124,7 +123,7 @@ module _ (p : ProgParts) where
       let t : Typed = reference_of w.names r in
       let v : Typed = expr_of w.names x in
       let m : World = record w { deepest = greater (greater w.deepest t.notes.deepest) v.notes.deepest; broken = (w.broken ++ t.notes.broken) ++ v.notes.broken } in
-      rest_ends w m test next (Some (first_part [] x (operand_of t) (operand_of v))) (λ n.
+      rest_ends w m test next (Some (first_part [] x t.operand v.operand)) (λ n.
       let before : w.broken ++ t.notes.broken ≡ [] = left_none (w.broken ++ t.notes.broken) v.notes.broken n in
       let h : t.notes.broken ≡ [] = right_none w.broken t.notes.broken before in (
         items_same p w w m [] (same_names w m refl) (omega arith) (none_fit p w),
@@ -140,7 +139,7 @@ module _ (p : ProgParts) where
       let v : Typed = expr_of d.names x in
       let m : World = record d { deepest = greater (greater d.deepest t.notes.deepest) v.notes.deepest; broken = (d.broken ++ t.notes.broken) ++ v.notes.broken } in
       let one : made.Stmt = s.Plain (plain.Declare (length w.scalars) None k.at) in
-      rest_ends w m test next (Some (first_part (one ∷ []) x (operand_of t) (operand_of v))) (λ n.
+      rest_ends w m test next (Some (first_part (one ∷ []) x t.operand v.operand)) (λ n.
       let before : d.broken ++ t.notes.broken ≡ [] = left_none (d.broken ++ t.notes.broken) v.notes.broken n in
       let h : t.notes.broken ≡ [] = right_none d.broken t.notes.broken before in (
         items_declared p w w m [] k.text Int None k.at (none_fit p w) (one_longer w.scalars Int) refl refl tt,

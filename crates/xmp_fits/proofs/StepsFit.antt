@@ -42,15 +42,15 @@ use Rattle.xmp_fits.proofs.TreeNumbers.{expr_right}
 abbrev pub IsPlace : prog.Expr → Type 0
 IsPlace x = ((slot : ℕ) × (at : Place) × (x ≡ e.Scalar slot at)) ⊎ ((a : Access) × (x ≡ e.Cell a))
 
-unknown_place : (notes : Notes) (rule : Rule) (at : Place) → (unknown notes rule at).notes.broken ≡ [] → IsPlace (unknown notes rule at).made
+unknown_place : (notes : Notes) (rule : Rule) (at : Place) → (unknown notes rule at).notes.broken ≡ [] → IsPlace (unknown notes rule at).operand.made
 unknown_place notes rule at n = absurd (full notes.broken (record { rule = rule; at = at }) n)
 
-cell_place : (o : Option array.Array) (k : ℕ) (at : Place) (xs : List prog.Expr) (image : Option prog.Expr) (notes : Notes) → (cell_of o k at xs image notes).notes.broken ≡ [] → IsPlace (cell_of o k at xs image notes).made
+cell_place : (o : Option array.Array) (k : ℕ) (at : Place) (xs : List prog.Expr) (image : Option prog.Expr) (notes : Notes) → (cell_of o k at xs image notes).notes.broken ≡ [] → IsPlace (cell_of o k at xs image notes).operand.made
 cell_place None k at xs image notes n = unknown_place notes N3 at n
 cell_place (Some a) k at xs image notes n = inr (roll-Access (record { array = k; subscripts = xs; image = image; at = at }), refl)
 
 read_place : (env : Environment) (meaning : Option Meaning) (at : Place) (xs : List prog.Expr) (image : Option prog.Expr) (notes : Notes) → (read_as env meaning at xs image notes).notes.broken ≡ [] →
-    IsPlace (read_as env meaning at xs image notes).made
+    IsPlace (read_as env meaning at xs image notes).operand.made
 read_place env (Some (Scalar slot ty)) at xs image notes n = inl (slot, at, refl)
 read_place env (Some (Array k)) at xs image notes n = cell_place (slice_get env.arrays k) k at xs image notes n
 read_place env (Some (Nodes k)) at xs image notes n = unknown_place notes N3 at n
@@ -58,7 +58,7 @@ read_place env (Some (Template k)) at xs image notes n = unknown_place notes N3 
 read_place env (Some (Function k r)) at xs image notes n = unknown_place notes N3 at n
 read_place env None at xs image notes n = unknown_place notes N1 at n
 
-pub reference_place : (env : Environment) (r : Reference Expr) → (reference_of env r).notes.broken ≡ [] → IsPlace (reference_of env r).made
+pub reference_place : (env : Environment) (r : Reference Expr) → (reference_of env r).notes.broken ≡ [] → IsPlace (reference_of env r).operand.made
 reference_place env r n = read_place env (nearest r.name.text env.scopes) r.name.at _ _ _ n
 
 module _ (env : Environment) (p : ProgParts) (t : Tells env p) where

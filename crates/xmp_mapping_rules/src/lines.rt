@@ -23,8 +23,13 @@ pub struct Lines<'a> {
 impl<'a> Model for Lines<'a> {
     ghost use Rattle.xmp_names.specs.declared.world.World.{World};
     ghost use Rattle.xmp_mapping_rules.specs.Lines.{AreFirst};
+    ghost use Rattle.xmp_prog.specs.contracts.expressions.Expr as expr;
+    ghost use Rattle.xmp_prog.specs.contracts.statements.Stmt as stmt;
+    ghost use Rattle.std.specs.Coded.{codes};
 
     ghost Value = { World };
+
+    ghost coded = { Prim.hlevel (codes, expr.the_row.coded, stmt.the_row.coded) };
 
     ghost view = { λ l. l.world.now };
 
