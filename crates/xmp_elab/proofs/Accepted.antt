@@ -32,7 +32,7 @@ use Rattle.xmp_elab.proofs.WidthsFit.{RightShadow, narrow_shadow, shadows_right,
 
 -- ---- cells
 
-cells_at : (times before : ℕ) (xs : List Array) (k : ℕ) (a : Array) → cells_from times before xs ≡ [] → slice_get xs k ≡ Some a →
+pub cells_at : (times before : ℕ) (xs : List Array) (k : ℕ) (a : Array) → cells_from times before xs ≡ [] → slice_get xs k ≡ Some a →
     (b : ℕ) × ((sizes_fit a.extents && nat_le ((b + product a.extents) * times) most_cells) ≡ true)
 cells_at times before [] k a h e = absurd (none-some a e)
 cells_at times before (x ∷ xs) zero a h e = (
@@ -133,7 +133,7 @@ points_of w k array a l at is e h t =
           (right_true (all_different (dimensions_in a.points) && dummies_right a.dummies (dimensions_in a.points)) _ rest));
     }
 
-shadow_of_array : (w : World) (k : ℕ) (array : Array) (a : Align) → mapping_rules w ≡ [] → slice_get w.names.arrays k ≡ Some array → align_of w k ≡ Some a →
+pub shadow_of_array : (w : World) (k : ℕ) (array : Array) (a : Align) → mapping_rules w ≡ [] → slice_get w.names.arrays k ≡ Some array → align_of w k ≡ Some a →
     RightShadow array.extents (forms_of w a.template) a.points (shadow_of w k)
 shadow_of_array w k array a h at e = go (shadow_of w k) refl
   where

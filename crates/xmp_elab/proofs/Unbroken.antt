@@ -129,7 +129,7 @@ after_templates w h = right_none (template_rules w) _ (after_nodes w h)
 after_distributions : (w : World) → mapping_rules w ≡ [] → (align_rules w ++ (shadow_rules w ++ (loop_rules w ++ cell_rules w))) ≡ []
 after_distributions w h = right_none (distribution_rules w) _ (after_templates w h)
 
-after_aligns : (w : World) → mapping_rules w ≡ [] → (shadow_rules w ++ (loop_rules w ++ cell_rules w)) ≡ []
+pub after_aligns : (w : World) → mapping_rules w ≡ [] → (shadow_rules w ++ (loop_rules w ++ cell_rules w)) ≡ []
 after_aligns w h = right_none (align_rules w) _ (after_distributions w h)
 
 pub no_cell_rule : (w : World) → mapping_rules w ≡ [] → cell_rules w ≡ []

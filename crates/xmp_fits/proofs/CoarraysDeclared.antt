@@ -38,7 +38,7 @@ use Rattle.xmp_walk.specs.Program.{loop_directive, block_of, coarray_declarator,
 use Rattle.xmp_directives.specs.Directives.{loop_line, lone_task, made_task, nest_of, task_line, tasks_in, tasks_of}
 use Rattle.xmp_directives.specs.MappingLines.{mapping_of}
 use Rattle.xmp_walk.specs.Statements.{for_of, for_parts, if_of, while_of}
-use Rattle.xmp_fits.proofs.Coarrays.{block_has, tasks_have}
+use Rattle.xmp_walk.proofs.Coarrays.{block_has, tasks_have}
 use Rattle.xmp_fits.proofs.KeptRuns.{Ends, ends_then, ends_map}
 use Rattle.xmp_fits.proofs.KeptStatements as kept
 use Rattle.xmp_fits.proofs.QuietDirectives as quiet
@@ -47,7 +47,7 @@ use Rattle.xmp_fits.proofs.QuietMappings as quiet_mappings
 use Rattle.xmp_fits.proofs.QuietRuns as quiet_runs
 use Rattle.xmp_fits.proofs.QuietRuns.{Goes, Kept, Going, goes_refl, ◌>>=◌, pure}
 use Rattle.xmp_fits.proofs.QuietSteps as quiet_steps
-use Rattle.xmp_fits.proofs.Seen.{seen_block, seen_for, seen_if, seen_loop, seen_plain, seen_task, seen_tasks, seen_while}
+use Rattle.xmp_walk.proofs.Seen.{seen_block, seen_for, seen_if, seen_loop, seen_plain, seen_task, seen_tasks, seen_while}
 use Rattle.xmp_fits.proofs.TreeInduction.{Cases, ItemIs, each_item, each_stmt}
 
 -- ---- runs that declare coarrays

@@ -50,7 +50,7 @@ use Rattle.xmp_fits.proofs.KeptLines.{declarator_kept, declarators_kept}
 use Rattle.xmp_fits.proofs.KeptMappings.{mapping_kept}
 use Rattle.xmp_fits.proofs.KeptDirectives.{head_parts, line_kept, loop_kept, task_line_kept}
 use Rattle.xmp_fits.proofs.KeptStatements.{opened, closed, stays_opened, item_kept, items_kept, tasks_in_kept, stmt_kept, for_kept, main_kept}
-use Rattle.xmp_fits.proofs.Seen.{seen_plain, seen_if, seen_while, seen_for, seen_loop, seen_task, seen_tasks, seen_block}
+use Rattle.xmp_walk.proofs.Seen.{seen_plain, seen_if, seen_while, seen_for, seen_loop, seen_task, seen_tasks, seen_block}
 use Rattle.xmp_fits.proofs.TreeInduction.{ItemIs, Cases, each_stmt, each_item}
 use Rattle.xmp_fits.proofs.Holding.{Unbroken, Holds, unbroken_then, unbroken_next, unbroken_map, unbroken_goes, same_holds}
 

@@ -32,7 +32,7 @@ use Rattle.xmp_fits.proofs.KeptSteps.{typed, directive_at}
 use Rattle.xmp_fits.proofs.KeptLines.{declaration_kept}
 use Rattle.xmp_fits.proofs.KeptMappings.{mapping_kept}
 use Rattle.xmp_fits.proofs.KeptDirectives.{head_parts, plain_kept, return_kept, line_kept, loop_kept, task_line_kept}
-use Rattle.xmp_fits.proofs.Seen.{seen_plain, seen_if, seen_while, seen_for, seen_loop, seen_task, seen_tasks, seen_block}
+use Rattle.xmp_walk.proofs.Seen.{seen_plain, seen_if, seen_while, seen_for, seen_loop, seen_task, seen_tasks, seen_block}
 use Rattle.xmp_fits.proofs.TreeInduction.{ItemIs, Cases, each_stmt, each_item}
 
 -- ---- scopes

@@ -39,7 +39,7 @@ use Rattle.xmp_elab.proofs.MadeLists.{made_here}
 use Rattle.xmp_fits.proofs.NestsPass.{nest_fits, nest_passes}
 use Rattle.xmp_elab.proofs.Padded.{at_most_three}
 use Rattle.xmp_elab.proofs.Unbroken.{RightTemplate, holds, left_none, left_true, none_here, right_none, template_at}
-use Rattle.xmp_fits.proofs.RulesLeft.{after_aligns}
+use Rattle.xmp_elab.proofs.Unbroken.{after_aligns}
 
 -- ---- the template of a loop directive, at the end
 

@@ -35,7 +35,7 @@ use Rattle.xmp_names.specs.declared.mappings.NodesLine.{NodesLine}
 use Rattle.xmp_elab.specs.Narrow.{is_count}
 use Rattle.xmp_elab.proofs.Padded.{at_most_three}
 use Rattle.xmp_elab.proofs.Rows.{right_nodes}
-use Rattle.xmp_fits.proofs.RulesLeft.{cells_at, shadow_of_array}
+use Rattle.xmp_elab.proofs.Accepted.{cells_at, shadow_of_array}
 use Rattle.xmp_elab.proofs.Unbroken.{both_true, holds, left_none, left_true, no_cell_rule, nodes_at, right_none, right_true}
 use Rattle.xmp_elab.proofs.WidthsFit.{widths_length}
 
