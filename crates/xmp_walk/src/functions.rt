@@ -121,7 +121,7 @@ fn leave(world: &mut World, function: u32)
     ensures { leave function world.old ≡ Gave tt world.new }
 {
     keep_depth(
-        world: &mut World.names.functions,
+        &mut world.names.functions,
         function as usize,
         deeper(world.deepest),
     );
