@@ -1,5 +1,5 @@
 // The first lines on the templates and arrays of a world.
-ghost use Rattle.std.specs.Prelude.{◌≡◌, ◌∷◌, [], IfOk, option_copied, pos};
+ghost use Rattle.std.specs.Prelude.{◌≡◌, ◌∷◌, [], IfOk, is_some, option_copied, pos};
 ghost use Rattle.xmp_mapping_rules.specs.MappingRules.{align_of, aligned, distributed, distribution_of, forms_of, nodes_of, shadow_of, shadowed, template_sizes};
 ghost use Rattle.xmp_mapping_rules.specs.Numbers.{first_place, is_at};
 
@@ -129,6 +129,13 @@ impl<'a> Lines<'a> {
             Some(place) => self.world.mappings.distributions.get(place),
             None => None,
         }
+    }
+
+    /// Whether a template is distributed.
+    pub(crate) fn has_distribution(&self, template: usize) -> bool
+        ensures { result ≡ is_some (first_place template (distributed self.now)) }
+    {
+        self.distributions.first_place(template).is_some()
     }
 
     /// The forms of a template; none where it is never distributed.

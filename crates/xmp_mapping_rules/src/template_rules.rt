@@ -63,12 +63,7 @@ fn template_rule(
 {
     let right = one_to_three(line.sizes.len()) && all_extents(line.sizes.as_slice());
     judge(broken, right, Rule::M2, line.at)?;
-    judge(
-        broken,
-        lines.distribution_of(i).is_some(),
-        Rule::M3,
-        line.at,
-    )
+    judge(broken, lines.has_distribution(i), Rule::M3, line.at)
 }
 
 /// The rules that templates break.
