@@ -3,9 +3,10 @@ ghost use Rattle.std.specs.Prelude.{◌≡◌, [], IfOk, is_some, map};
 ghost use Rattle.std.specs.Option.{unwrap_or};
 ghost use Rattle.xmp_prog.specs.declared.statements.Stmt.{out-Stmt};
 ghost use Rattle.xmp_prog.specs.declared.statements.Stmt.TheVariants as stmt;
-ghost use Rattle.xmp_names.specs.Walk.{Does, each, if_there};
+ghost use Rattle.xmp_names.specs.declared.rules.Rule.TheVariants.{M7};
+ghost use Rattle.xmp_names.specs.Walk.{Does, and_then, each, if_there, judge};
 ghost use Rattle.xmp_names.specs.Lists.{inner, listed};
-ghost use Rattle.xmp_directives.specs.Directives.{counted_in, head_of, is_indexed, judged_loop, loop_line, made_loop, made_of_point, mark_operation, name_list, names_or, nest_of, operation_of, point_of, reduction_name, reductions_of, slots_of_points, use_template};
+ghost use Rattle.xmp_directives.specs.Directives.{counted_in, head_of, is_indexed, judged_loop, loop_line, loop_right, made_loop, made_of_point, mark_operation, name_list, names_or, nest_of, operation_of, point_of, reduction_name, reductions_of, slots_of_points, use_template};
 
 use crate::directives::{index_name, scalar_name, small_or_next};
 use crate::indices::{loop_right, slots_of_points};
@@ -170,6 +171,24 @@ fn use_template(
     }
 }
 
+// What a loop directive breaks over loops with these heads, and that it stands over its template.
+fn keep_loop(
+    world: &mut World,
+    alloc: Global,
+    word: Place,
+    parts: &LoopParts,
+    heads: &[LoopHead],
+) -> Result<(), AllocError>
+    ensures { Does (and_then (judge (loop_right parts.now.names parts.now.points heads.now) M7 word world.old)
+        (λ _. use_template parts.now.template word (map is_indexed parts.now.points))) result world.new }
+{
+    let points = parts.points.as_slice();
+    let right = loop_right(alloc, parts.names.as_slice(), points, heads)?;
+    world.judge(right, Rule::M7, word)?;
+    let indexed = indexed(alloc, points)?;
+    use_template(world, parts.template, word, indexed)
+}
+
 /// A loop directive over a nest.
 pub fn judged_loop(
     world: &mut World,
@@ -180,15 +199,7 @@ pub fn judged_loop(
 ) -> Result<Stmt, AllocError>
     ensures { Does (judged_loop word parts nest world.old) result world.new }
 {
-    let right = loop_right(
-        alloc,
-        parts.names.as_slice(),
-        parts.points.as_slice(),
-        nest.0.as_slice(),
-    )?;
-    world.judge(right, Rule::M7, word)?;
-    let indexed = indexed(alloc, parts.points.as_slice())?;
-    use_template(world, parts.template, word, indexed)?;
+    keep_loop(world, alloc, word, &parts, nest.0.as_slice())?;
     made_loop(alloc, word, parts, nest)
 }
 

@@ -7,7 +7,7 @@ ghost use Rattle.xmp_names.specs.Sizes.{extents_in};
 ghost use Rattle.xmp_directives.specs.Directives.{first_extent, gmove_of, no_side, number_of, part_of, part_with, parts_in, sections_match, side_as, side_of, step_of, unwritten};
 ghost use Rattle.xmp_prog.specs.Directives.{is_section, sections_in};
 
-use sqlite_items::Items;
+use sqlite_items::{Boxed, Items};
 use std::alloc::{AllocError, Global};
 use xmp_base::Place;
 use xmp_names::{Meaning, Operand, Rule, World, extents_in, first_place};
@@ -43,6 +43,19 @@ fn number_of(world: &mut World, alloc: Global, x: &Expr) -> Result<prog::Number,
     })
 }
 
+// The same in a box, in which it waits for the numbers behind it.
+fn boxed_number(
+    world: &mut World,
+    alloc: Global,
+    x: &Expr,
+) -> Result<Boxed<prog::Number>, AllocError>
+    ensures { Does (number_of x.now world.old) result world.new }
+{
+    let number = number_of(world, alloc, x)?;
+    let boxed = Boxed::new(alloc, number)?;
+    Ok(boxed)
+}
+
 fn step_of(
     world: &mut World,
     alloc: Global,
@@ -61,7 +74,7 @@ fn part_with(
     world: &mut World,
     alloc: Global,
     at: Place,
-    base: prog::Number,
+    base: Boxed<prog::Number>,
     many: &Option<(Place, Expr)>,
     step: &Option<(Place, Expr)>,
 ) -> Result<prog::Part, AllocError>
@@ -69,11 +82,15 @@ fn part_with(
 {
     match many {
         Some((_, many)) => {
-            let length = number_of(world, alloc, many)?;
+            let length = boxed_number(world, alloc, many)?;
             let step = step_of(world, alloc, at, step)?;
-            Ok(prog::Part::Many { base, length, step })
+            Ok(prog::Part::Many {
+                base: base.into_inner(),
+                length: length.into_inner(),
+                step,
+            })
         }
-        None => Ok(prog::Part::One(base)),
+        None => Ok(prog::Part::One(base.into_inner())),
     }
 }
 
@@ -93,7 +110,7 @@ fn part_of(
             step: unwritten(1, at),
         }),
         Section::Numbers(first, many, step) => {
-            let base = number_of(world, alloc, first)?;
+            let base = boxed_number(world, alloc, first)?;
             part_with(world, alloc, at, base, many, step)
         }
     }
