@@ -61,7 +61,7 @@ pub(crate) fn statement(
         Stmt::For(head, body) => for_loop(world, alloc, body.get(), head),
         Stmt::Loop(line, head, body) => loop_statement(world, alloc, body.get(), line, head),
         Stmt::Task(line, body) => lone_task(world, alloc, body.get(), line),
-        Stmt::Tasks(line, tasks) => tasks(world, alloc, tasks.item.as_slice(), *line),
+        Stmt::Tasks(line, list) => tasks(world, alloc, list.item.as_slice(), *line),
     }
 }
 

@@ -116,7 +116,7 @@ pub fn simple(world: &mut World, alloc: Global, x: &Simple) -> Result<prog::Stmt
         Simple::Assign(r, op, value) => assign(world, alloc, r, *op, value),
         Simple::Postfix(r, op) => postfix(world, alloc, r, *op),
         Simple::Prefix(op, r) => prefix(world, alloc, *op, r),
-        Simple::Call(call) => call(world, alloc, call),
+        Simple::Call(call) => called(world, alloc, call),
     }
 }
 
@@ -161,7 +161,7 @@ fn prefix(
     Ok(made)
 }
 
-fn call(
+fn called(
     world: &mut World,
     alloc: Global,
     call: &Call<Boxed<Expr>>,

@@ -75,7 +75,7 @@ statement-returns-in-Task n c =
 pub statement-returns-in-Tasks : goal.statement-returns-in-Tasks
 statement-returns-in-Tasks n c =
     let w : _ = c.args.world.now in
-    let x : _ = c.in-Tasks.tasks in
+    let x : _ = c.in-Tasks.list in
     same_walk (stmt_of c.args.x.now w) (tasks_of c.in-Tasks.line (map task_step c.as_slice-in-Tasks.result.now) w) c.tasks.result c.tasks.new.world
     (ap (λ s. stmt_of s w) c.in-Tasks.is
     ∙ (ap (λ r. r w) (seen_tasks c.in-Tasks.line x.open x.item x.close) ∙ ap (λ l. tasks_of c.in-Tasks.line (map task_step l) w) (sym c.as_slice-in-Tasks.ensures)))
