@@ -15,6 +15,6 @@ mod tasks;
 
 pub use directives::{barrier, bcast, reflect};
 pub use loop_lines::{LoopParts, judged_loop, loop_line, nest_of};
-pub use mapping_lines::mapping;
+pub use mapping_lines::keep_mapping;
 pub use moves::gmove;
 pub use tasks::task_line;

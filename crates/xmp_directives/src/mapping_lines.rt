@@ -242,7 +242,7 @@ fn mapping_line(world: &mut World, alloc: Global, mapping: &Mapping) -> Result<(
 }
 
 /// A mapping directive where it stands.
-pub fn mapping(world: &mut World, alloc: Global, mapping: &Mapping) -> Result<(), AllocError>
+pub fn keep_mapping(world: &mut World, alloc: Global, mapping: &Mapping) -> Result<(), AllocError>
     ensures { Does (mapping_of mapping.now world.old) result world.new }
 {
     mapping_at(world, line_of(mapping))?;

@@ -15,7 +15,8 @@ use sqlite_items::{Boxed, Items};
 use std::alloc::{AllocError, Global};
 use xmp_base::Place;
 use xmp_directives::{
-    LoopParts, barrier, bcast, gmove, judged_loop, loop_line, mapping, nest_of, reflect, task_line,
+    LoopParts, barrier, bcast, gmove, judged_loop, keep_mapping, loop_line, nest_of, reflect,
+    task_line,
 };
 use xmp_map::NodeSet;
 use xmp_names::{Operand, World};
@@ -79,7 +80,7 @@ fn block(
     'list: for x in list {
         match x {
             BlockItem::Mapping(mapping) => {
-                mapping(world, alloc, mapping)?;
+                keep_mapping(world, alloc, mapping)?;
                 continue;
             }
             BlockItem::Declaration(d) => {

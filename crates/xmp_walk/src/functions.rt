@@ -9,7 +9,7 @@ use crate::declarations::{local_declaration, type_of};
 use crate::statements::return_of;
 use sqlite_items::Items;
 use std::alloc::{AllocError, Global};
-use xmp_directives::mapping;
+use xmp_directives::keep_mapping;
 use xmp_names::{Meaning, Region, Rule, Signature, World, deeper};
 use xmp_prog as prog;
 use xmp_tree::{BlockItem, CommaList, Function, Name, Parameters, Plain, Stmt, TypeWords};
@@ -155,7 +155,7 @@ fn body_item(
 {
     match x {
         BlockItem::Mapping(mapping) => {
-            mapping(world, alloc, mapping)?;
+            keep_mapping(world, alloc, mapping)?;
             Ok(done)
         }
         BlockItem::Declaration(d) => local_declaration(world, alloc, done, d),
@@ -219,7 +219,7 @@ fn last_item(
 {
     match x {
         BlockItem::Mapping(mapping) => {
-            mapping(world, alloc, mapping)?;
+            keep_mapping(world, alloc, mapping)?;
             Ok(done)
         }
         BlockItem::Declaration(d) => local_declaration(world, alloc, done, d),
@@ -251,7 +251,11 @@ fn main_body(
 }
 
 /// Main: its body.
-pub(crate) fn main_of(world: &mut World, alloc: Global, f: &Function) -> Result<prog::Stmt, AllocError>
+pub(crate) fn main_of(
+    world: &mut World,
+    alloc: Global,
+    f: &Function,
+) -> Result<prog::Stmt, AllocError>
     ensures { Does (main_of f.now world.old) result world.new }
 {
     let number = function_head(world, alloc, Region::Main, f)?;

@@ -10,7 +10,7 @@ use crate::functions::{function_of, main_of};
 use sqlite_items::{Boxed, Items};
 use std::alloc::{AllocError, Global};
 use xmp_base::Place;
-use xmp_directives::mapping;
+use xmp_directives::keep_mapping;
 use xmp_names::{Environment, Mappings, Region, World};
 use xmp_prog as prog;
 use xmp_scopes::Scopes;
@@ -20,7 +20,7 @@ fn top(world: &mut World, alloc: Global, x: &TopItem) -> Result<(), AllocError>
     ensures { Does (top_of x.now world.old) result world.new }
 {
     match x {
-        TopItem::Mapping(mapping) => mapping(world, alloc, mapping),
+        TopItem::Mapping(mapping) => keep_mapping(world, alloc, mapping),
         TopItem::Declaration(d) => file_declaration(world, alloc, d),
         TopItem::Function(f) => function_of(world, alloc, f),
     }
@@ -31,7 +31,7 @@ fn last_top(world: &mut World, alloc: Global, x: &TopItem) -> Result<prog::Stmt,
 {
     match x {
         TopItem::Mapping(mapping) => {
-            mapping(world, alloc, mapping)?;
+            keep_mapping(world, alloc, mapping)?;
             Ok(prog::Stmt::Block(Items::new(alloc)))
         }
         TopItem::Declaration(d) => {
