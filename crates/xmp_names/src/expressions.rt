@@ -1,14 +1,16 @@
 // Expressions: names, types and constants.
-ghost use Rattle.std.specs.Prelude.{◌≡◌, IfOk, None, map, slice_get};
+ghost use Rattle.xmp_names.specs.Typing.{binary as join};
+ghost use Rattle.std.specs.Prelude.{IsErr, MatchResult, ◌≡◌, IfOk, None, map, slice_get};
 ghost use Rattle.std.specs.Option.{option_map};
 ghost use Rattle.xmp_names.specs.Expressions.{add, arguments_of, call, call_as, call_intrinsic, call_of, called, cell, chain, each_next, each_subscript, expr_of, image_notes, inside_of, intrinsic, is_own, judged_call, may_call, may_name, next_of, no_parts, of_type, read, read_as, reference_of, right_of, unknown};
 
 use crate::names::{Environment, Meaning, Region};
-use crate::operators::{binary, cast, choose, number, operator_of, unary};
+use crate::operators::{Operator, binary, cast, choose, number, operator_of, unary};
 use crate::rules::{Notes, Rule, greater, joined, no_notes, noted};
 use crate::typed::{Operand, Parts, Typed, Value};
 use sqlite_items::{Boxed, Items};
 use std::alloc::{AllocError, Global};
+use std::mem::drop;
 use xmp_base::Place;
 use xmp_num::Ty;
 use xmp_prog as prog;
@@ -45,10 +47,11 @@ impl Environment {
                 self.chain(alloc, links.as_slice(), first)
             }
             Expr::Conditional(test, _, yes, _, no) => {
-                let test = self.expression(alloc, test.get())?;
-                let yes = self.expression(alloc, yes.get())?;
+                // The first two wait in boxes, so that they are let go whole.
+                let test = boxed(alloc, self.expression(alloc, test.get()))?;
+                let yes = boxed(alloc, self.expression(alloc, yes.get()))?;
                 let no = self.expression(alloc, no.get())?;
-                choose(alloc, test, yes, no)
+                choose(alloc, test.into_inner(), yes.into_inner(), no)
             }
         }
     }
@@ -63,9 +66,9 @@ impl Environment {
         ensures { IfOk result (λ t. t ≡ chain so_far (map (right_of self.now) links.now)) }
     {
         'links: for link in links {
-            let right = self.expression(alloc, link.right.get())?;
+            let right = self.expression(alloc, link.right.get());
             let op = operator_of(link.operator.what);
-            so_far = binary(alloc, op, link.operator.at, so_far, right)?;
+            so_far = linked(alloc, op, link.operator.at, so_far, right)?;
         }
         Ok(so_far)
     }
@@ -320,6 +323,34 @@ impl Environment {
     }
 }
 
+fn boxed(
+    alloc: Global,
+    typed: Result<Typed, AllocError>,
+) -> Result<Boxed<Typed>, AllocError>
+    ensures { MatchResult typed (λ t. IfOk result (λ b. b ≡ t)) (λ _. IsErr result) }
+{
+    Boxed::new(alloc, typed?)
+}
+
+// An operator between what stands before it and its right operand, which may have failed.
+fn linked(
+    alloc: Global,
+    op: Operator,
+    at: Place,
+    left: Typed,
+    right: Result<Typed, AllocError>,
+) -> Result<Typed, AllocError>
+    ensures { MatchResult right (λ r. IfOk result (λ t. t ≡ join op at left r)) (λ _. IsErr result) }
+{
+    match right {
+        Ok(right) => binary(alloc, op, at, left, right),
+        Err(e) => {
+            drop(left);
+            Err(e)
+        }
+    }
+}
+
 // The image of an element in its box, and the notes with those of the image.
 fn boxed_image(
     alloc: Global,
@@ -430,8 +461,13 @@ fn call_intrinsic(
 {
     match made {
         Some(made) => {
-            let notes = noted(arguments.notes, arguments.made.is_empty(), Rule::N3, at)?;
-            Ok(of_type(Ty::Int, made, notes))
+            match noted(arguments.notes, arguments.made.is_empty(), Rule::N3, at) {
+                Ok(notes) => Ok(of_type(Ty::Int, made, notes)),
+                Err(e) => {
+                    drop(made);
+                    Err(e)
+                }
+            }
         }
         None => unknown(arguments.notes, Rule::N1, at),
     }

@@ -86,8 +86,13 @@ impl World {
         ensures { Does (typed_constant e.now self.old) result self.new }
     {
         let typed = self.typed(alloc, e)?;
-        self.judge(is_known(typed.value), Rule::N4, first_place(e))?;
-        Ok(typed)
+        match self.judge(is_known(typed.value), Rule::N4, first_place(e)) {
+            Ok(()) => Ok(typed),
+            Err(e) => {
+                drop(typed);
+                Err(e)
+            }
+        }
     }
 
     /// Its value; 0 where it isn't constant.

@@ -1,9 +1,8 @@
 use Rattle.std.proofs.Common.{◌≡◌, ◌∙◌, sym, ap, subst, map, IfOk}
 use Rattle.xmp_names.specs.declared.typed.Typed.{Typed}
 use Rattle.xmp_names.specs.Expressions.{each_subscript, expr_of, inside_of, no_parts, read}
-use Rattle.xmp_names.specs.Typing.{binary}
 use Rattle.xmp_names.proofs.Rolls.{read_is}
-use Rattle.xmp_names.proofs.Steps.{chain_step, next_step}
+use Rattle.xmp_names.proofs.Steps.{linked_step, next_step}
 use Rattle.xmp_names.proofs.names.Environment.+expression.Goals as goal
 
 pub expression-returns-in_ok-image-in-Read : goal.expression-returns-in_ok-image-in-Read
@@ -20,9 +19,8 @@ pub chain-links-preserved : goal.chain-links-preserved
 chain-links-preserved n c =
     let w : _ = c.args.self.now in
     c.links.invariant
-    ∙ chain_step w c.args.links.now c.links.link-index c.link-item.result c.links.so_far c.in_ok-right.right c.in_ok-so_far.so_far c.links-test.true c.link-item.is
-    (c.in_ok-right.ensures ∙ ap (expr_of w) c.get.ensures)
-    (c.in_ok-so_far.ensures ∙ ap (λ o. binary o c.link-item.result.operator.at c.links.so_far c.in_ok-right.right) c.operator_of-op.ensures)
+    ∙ linked_step w c.args.links.now c.links.link-index c.link-item.result c.links.so_far c.expression-right.result c.in_ok-so_far.so_far c.get.result.now c.operator_of-op.result
+    c.links-test.true c.link-item.is c.get.ensures c.operator_of-op.ensures c.expression-right.ensures c.in_ok-so_far.ensures
 
 pub arguments-more-preserved : goal.arguments-more-preserved
 arguments-more-preserved n c =
