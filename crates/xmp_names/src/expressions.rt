@@ -323,10 +323,7 @@ impl Environment {
     }
 }
 
-fn boxed(
-    alloc: Global,
-    typed: Result<Typed, AllocError>,
-) -> Result<Boxed<Typed>, AllocError>
+fn boxed(alloc: Global, typed: Result<Typed, AllocError>) -> Result<Boxed<Typed>, AllocError>
     ensures { MatchResult typed (λ t. IfOk result (λ b. b ≡ t)) (λ _. IsErr result) }
 {
     Boxed::new(alloc, typed?)
