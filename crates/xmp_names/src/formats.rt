@@ -7,7 +7,7 @@ use std::alloc::{AllocError, Global};
 use xmp_num::Ty;
 
 /// Where in a format a byte stands.
-#[derive(Clone, Copy, Debug, PartialEq, Eq)]
+#[derive(Clone, Copy)]
 pub enum Mode {
     Outside,
     Percent,

@@ -35,7 +35,7 @@ pub struct Distribution {
 }
 
 /// What stands for a dimension of the template in an align: `*`, or a dimension of the array and a constant.
-#[derive(Clone, Copy, Debug, PartialEq, Eq)]
+#[derive(Clone, Copy)]
 pub enum AlignPoint {
     Star,
     Dummy { dimension: usize, offset: i64 },

@@ -7,7 +7,7 @@ use xmp_num::Ty;
 use xmp_scopes::Scopes;
 
 /// Where in a program a part of it stands: at file scope, in a function, or in main, which is the last function.
-#[derive(Clone, Copy, Debug, PartialEq, Eq)]
+#[derive(Clone, Copy, PartialEq, Eq)]
 pub enum Region {
     File,
     Function,
@@ -15,7 +15,7 @@ pub enum Region {
 }
 
 /// What a name means.
-#[derive(Clone, Copy, Debug, PartialEq, Eq)]
+#[derive(Clone, Copy)]
 pub enum Meaning {
     /// a scalar by its slot, and its type
     Scalar(u32, Ty),
@@ -39,7 +39,7 @@ pub struct Array {
 }
 
 /// What a call needs to know of a function: how many parameters it has, and its call depth, which is 0 up to its end.
-#[derive(Clone, Copy, Debug, PartialEq, Eq)]
+#[derive(Clone, Copy)]
 pub struct Signature {
     pub parameters: usize,
     pub depth: u32,

@@ -14,7 +14,7 @@ use xmp_num::{BinOp, Ty};
 use xmp_prog::Expr;
 
 /// The kinds of operator between two operands.
-#[derive(Clone, Copy, Debug, PartialEq, Eq)]
+#[derive(Clone, Copy)]
 pub enum Operator {
     /// of the operands' common type
     Arithmetic(BinOp),

@@ -7,7 +7,7 @@ use std::alloc::{AllocError, Global};
 use xmp_base::Place;
 
 /// The rules of names, N1 to N10, and those of mappings, M1 to M10.
-#[derive(Clone, Copy, Debug, PartialEq, Eq)]
+#[derive(Clone, Copy)]
 pub enum Rule {
     N1,
     N2,
@@ -31,7 +31,7 @@ pub enum Rule {
 }
 
 /// A rule that breaks at a place.
-#[derive(Clone, Copy, Debug, PartialEq, Eq)]
+#[derive(Clone, Copy)]
 pub struct Broken {
     pub rule: Rule,
     pub at: Place,

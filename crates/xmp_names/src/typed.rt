@@ -5,7 +5,7 @@ use xmp_num::Ty;
 use xmp_prog::Expr;
 
 /// What is known of a value before the run.
-#[derive(Clone, Copy, Debug, PartialEq, Eq)]
+#[derive(Clone, Copy)]
 pub enum Value {
     /// a name stands in the expression
     Named,

@@ -36,7 +36,7 @@ pub struct ForParts {
 
 /// A counted loop: its index with the place of its first name, whether the bound is included, the step, and the place of
 /// the bound's first token.
-#[derive(Clone, Copy, Debug, PartialEq, Eq)]
+#[derive(Clone, Copy)]
 pub struct Shape {
     pub index: prog::Name,
     pub inclusive: bool,
