@@ -9,6 +9,7 @@ use crate::declarations::file_declaration;
 use crate::functions::{function_of, main_of};
 use sqlite_items::{Boxed, Items};
 use std::alloc::{AllocError, Global};
+use std::mem::drop;
 use xmp_base::Place;
 use xmp_directives::keep_mapping;
 use xmp_names::{Environment, Mappings, Region, World};
@@ -231,7 +232,14 @@ pub fn walk_program(
     ensures count { IfOk result (λ r. r.1.given ≡ given) }
 {
     let mut world = start_world(alloc, given, has_coarray(t))?;
-    let body = tops(&mut world, alloc, t.parts.as_slice())?;
-    world.given = given;
-    Ok((body, world))
+    match tops(&mut world, alloc, t.parts.as_slice()) {
+        Ok(body) => {
+            world.given = given;
+            Ok((body, world))
+        }
+        Err(e) => {
+            drop(world);
+            Err(e)
+        }
+    }
 }

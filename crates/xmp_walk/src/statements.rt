@@ -7,6 +7,7 @@ ghost use Rattle.xmp_walk.specs.Statements.{call_statement, compound_of, is_scal
 
 use sqlite_items::{Boxed, Items};
 use std::alloc::{AllocError, Global};
+use std::mem::drop;
 use xmp_base::{Bytes, Place};
 use xmp_lex::Mark;
 use xmp_names::{
@@ -71,9 +72,16 @@ pub(crate) fn set(
     match op {
         Some(Operator::Arithmetic(op)) => {
             let ty = value_type(joint(target.ty, value.ty));
-            let value = as_type(alloc, ty, value)?;
-            let compound = Some(prog::Compound { op, ty, at });
-            Ok(assigned(target.made, compound, value))
+            match as_type(alloc, ty, value) {
+                Ok(value) => {
+                    let compound = Some(prog::Compound { op, ty, at });
+                    Ok(assigned(target.made, compound, value))
+                }
+                Err(e) => {
+                    drop(target);
+                    Err(e)
+                }
+            }
         }
         Some(Operator::Shift(op)) => {
             let ty = value_type(target.ty);
@@ -194,8 +202,13 @@ fn returned(world: &mut World, alloc: Global, x: &Expr) -> Result<Operand, Alloc
 {
     let main = is_main(world.names.region);
     let typed = world.typed(alloc, x)?;
-    world.judge(!main || is_known(typed.value), Rule::N4, first_place(x))?;
-    Ok(typed)
+    match world.judge(!main || is_known(typed.value), Rule::N4, first_place(x)) {
+        Ok(()) => Ok(typed),
+        Err(e) => {
+            drop(typed);
+            Err(e)
+        }
+    }
 }
 
 // The arguments of a `printf`.
@@ -245,15 +258,17 @@ pub fn scan(
 {
     world.not_in_function(at)?;
     let Operand { made, ty, .. } = world.typed_reference(alloc, r)?;
-    world.judge(
-        is_scan_format(format.text.as_slice(), ty),
-        Rule::N6,
-        format.at,
-    )?;
-    Ok(prog::Stmt::Plain(prog::Plain::Scan {
-        target: target_of(made),
-        at,
-    }))
+    let fits = is_scan_format(format.text.as_slice(), ty);
+    match world.judge(fits, Rule::N6, format.at) {
+        Ok(()) => Ok(prog::Stmt::Plain(prog::Plain::Scan {
+            target: target_of(made),
+            at,
+        })),
+        Err(e) => {
+            drop(made);
+            Err(e)
+        }
+    }
 }
 
 /// `xmp_sync_all`
