@@ -105,7 +105,7 @@ module _ (env : Environment) where
       at = λ w e. record {
         names = e;
         scalars = refl;
-        holds = λ n. (left_none w.broken (expr_of w.names x).notes.broken n, subst (λ m. Sees p m (expr_of w.names x).made) e (expr_sees w.names p x (right_none w.broken (expr_of w.names x).notes.broken n)));
+        holds = λ n. (left_none w.broken (expr_of w.names x).notes.broken n, subst (λ m. Sees p m (expr_of w.names x).operand.made) e (expr_sees w.names p x (right_none w.broken (expr_of w.names x).notes.broken n)));
       };
     }
 
@@ -116,7 +116,7 @@ module _ (env : Environment) where
         scalars = refl;
         holds = λ n.
             let h : (reference_of w.names r).notes.broken ≡ [] = right_none w.broken (reference_of w.names r).notes.broken n in
-            (left_none w.broken (reference_of w.names r).notes.broken n, (subst (λ m. Sees p m (reference_of w.names r).made) e (reference_sees w.names p r h), reference_place w.names r h));
+            (left_none w.broken (reference_of w.names r).notes.broken n, (subst (λ m. Sees p m (reference_of w.names r).operand.made) e (reference_sees w.names p r h), reference_place w.names r h));
       };
     }
 
@@ -127,7 +127,7 @@ module _ (env : Environment) where
         scalars = refl;
         holds = λ n.
             let t = call w.names c.name (arguments_of w.names c.arguments.item) in
-            (left_none w.broken t.notes.broken n, subst (λ m. Sees p m t.made) e (call_is_seen w.names p c (right_none w.broken t.notes.broken n)));
+            (left_none w.broken t.notes.broken n, subst (λ m. Sees p m t.operand.made) e (call_is_seen w.names p c (right_none w.broken t.notes.broken n)));
       };
     }
 

@@ -285,7 +285,7 @@ module _ (p : ProgParts) where
         broken = v.broken ++ unless (not (scope.is_declared_here n.text v.names.scopes || walk.is_reserved n.text)) N2 n.at;
       } in
       let t : Typed = expr_of d.names x.1 in
-      λ e. items_declared p w v (record d { deepest = greater d.deepest t.notes.deepest; broken = d.broken ++ t.notes.broken }) done n.text ty (Some t.made) n.at f (one_longer v.scalars ty) refl refl (expr_sees d.names p x.1 (right_none d.broken t.notes.broken e))
+      λ e. items_declared p w v (record d { deepest = greater d.deepest t.notes.deepest; broken = d.broken ++ t.notes.broken }) done n.text ty (Some t.operand.made) n.at f (one_longer v.scalars ty) refl refl (expr_sees d.names p x.1 (right_none d.broken t.notes.broken e))
   declarator_ends ty (declarator.Array n extents image) w v done f = array_ends ty n (inner extents) (is_some image) w v done f
 
   -- ---- all statements

@@ -118,5 +118,5 @@ module _ (p : ProgParts) (w : World) (t : Tells w.names p) where
   pub constant_fits : (x : Expr) → numbers_lie x ≡ true → Gives (λ a. Fits w.names p a × (is_known a.value ≡ true)) w (typed_constant x)
   constant_fits x h n =
       let y : Typed = expr_of w.names x in
-      let before : w.broken ++ y.notes.broken ≡ [] = left_none (w.broken ++ y.notes.broken) (unless (is_known y.value) N4 (first_place x)) n in
-      (expr_right w.names p t x h (right_none w.broken y.notes.broken before), holds (is_known y.value) N4 (first_place x) (right_none (w.broken ++ y.notes.broken) _ n))
+      let before : w.broken ++ y.notes.broken ≡ [] = left_none (w.broken ++ y.notes.broken) (unless (is_known y.operand.value) N4 (first_place x)) n in
+      (expr_right w.names p t x h (right_none w.broken y.notes.broken before), holds (is_known y.operand.value) N4 (first_place x) (right_none (w.broken ++ y.notes.broken) _ n))
