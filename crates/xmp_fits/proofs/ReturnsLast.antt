@@ -113,7 +113,7 @@ no_main region.Main h k = cc h
 return_quiet : (own : Own) (at : Place) (x : Expr) → Holds own (λ w v m. is_main v.names.region ≡ true → Quiet m) (return_of false at x)
 return_quiet own at x = record {
   at = λ w g b m.
-      let tests : (w.broken ++ unless (not (is_main w.names.region) || false) N7 at) ++ (expr_of w.names x).notes.broken ≡ [] = left_none _ (unless (not (is_main w.names.region) || is_known (expr_of w.names x).value) N4 (first_place x)) b in
+      let tests : (w.broken ++ unless (not (is_main w.names.region) || false) N7 at) ++ (expr_of w.names x).notes.broken ≡ [] = left_none _ (unless (not (is_main w.names.region) || is_known (expr_of w.names x).operand.value) N4 (first_place x)) b in
       absurd (no_main w.names.region (holds (not (is_main w.names.region) || false) N7 at (right_none w.broken _ (left_none _ (expr_of w.names x).notes.broken tests))) m);
 }
 
