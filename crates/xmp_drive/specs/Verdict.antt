@@ -9,7 +9,7 @@ use Rattle.xmp_base.specs.declared.refusal.Fault.TheVariants as fault
 use Rattle.xmp_syntax.specs.declared.program.Tree.{Tree}
 use Rattle.xmp_prog.specs.declared.parts.ProgParts.{ProgParts}
 use Rattle.xmp_source.specs.Source.{IsTreeOf, Breaks}
-use Rattle.xmp_walk.specs.declared.names.Array.{Array}
+use Rattle.xmp_names.specs.declared.names.Array.{Array}
 use Rattle.xmp_walk.specs.Program.{program_of}
 use Rattle.xmp_elab.specs.Verdict.{verdict, world_after}
 use Rattle.xmp_elab.specs.Parts.{IsParts}

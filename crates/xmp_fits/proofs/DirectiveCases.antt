@@ -21,11 +21,12 @@ use Rattle.xmp_syntax.specs.declared.statement.Plain.{Plain}
 use Rattle.xmp_syntax.specs.declared.statement.Plain.TheVariants as plain
 use Rattle.xmp_walk.specs.declared.loops.First.{First}
 use Rattle.xmp_walk.specs.declared.loops.Shape.{Shape}
-use Rattle.xmp_walk.specs.declared.operators.Operator.{Operator}
-use Rattle.xmp_walk.specs.declared.operators.Operator.TheVariants as operator
-use Rattle.xmp_walk.specs.declared.typed.Operand.{Operand}
-use Rattle.xmp_walk.specs.declared.world.World.{World}
-use Rattle.xmp_walk.specs.Declarations.{declare_array, initialiser, inner, local_declarator}
+use Rattle.xmp_names.specs.declared.operators.Operator.{Operator}
+use Rattle.xmp_names.specs.declared.operators.Operator.TheVariants as operator
+use Rattle.xmp_names.specs.declared.typed.Operand.{Operand}
+use Rattle.xmp_names.specs.declared.world.World.{World}
+use Rattle.xmp_walk.specs.Declarations.{declare_array, initialiser, local_declarator}
+use Rattle.xmp_names.specs.Lists.{inner}
 use Rattle.xmp_walk.specs.Program.{plain_of}
 use Rattle.xmp_walk.specs.Statements.{call_in, return_of, set, shape_of, simple_of}
 use Rattle.xmp_fits.proofs.DirectivesPass.{StmtFits, StmtMade, block_fits, counted_fit, plain_fits}

@@ -18,13 +18,13 @@ use Rattle.xmp_syntax.specs.declared.program.Function.{Function}
 use Rattle.xmp_syntax.specs.declared.program.TopItem.{TopItem}
 use Rattle.xmp_syntax.specs.declared.program.TopItem.TheVariants as top
 use Rattle.xmp_syntax.specs.declared.program.Tree.{Tree}
-use Rattle.xmp_walk.specs.declared.names.Region.TheVariants as region
-use Rattle.xmp_walk.specs.declared.names.Meaning.TheVariants as meaning
-use Rattle.xmp_walk.specs.declared.rules.Rule.TheVariants.{N7}
-use Rattle.xmp_walk.specs.declared.world.World.{World}
-use Rattle.xmp_walk.specs.Rules.{unless}
-use Rattle.xmp_walk.specs.Walk as walk
-use Rattle.xmp_walk.specs.Walk.{Step, Gave, Run, and_then, each}
+use Rattle.xmp_names.specs.declared.names.Region.TheVariants as region
+use Rattle.xmp_names.specs.declared.names.Meaning.TheVariants as meaning
+use Rattle.xmp_names.specs.declared.rules.Rule.TheVariants.{N7}
+use Rattle.xmp_names.specs.declared.world.World.{World}
+use Rattle.xmp_names.specs.Rules.{unless}
+use Rattle.xmp_names.specs.Walk as walk
+use Rattle.xmp_names.specs.Walk.{Step, Gave, Run, and_then, each}
 use Rattle.xmp_walk.specs.Declarations.{type_of}
 use Rattle.xmp_walk.specs.Statements.{return_of}
 use Rattle.xmp_walk.specs.Program.{items_of, parameters_in, parameter_of, main_items, is_main_head, main_of, top_of, last_top, tops_of, coarray_top, start_world, with_count, program_of}

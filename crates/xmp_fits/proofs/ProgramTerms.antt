@@ -18,10 +18,10 @@ use Rattle.xmp_syntax.specs.declared.parts.TypeWords.{TypeWords}
 use Rattle.xmp_syntax.specs.declared.expression.Expr.{Expr}
 use Rattle.xmp_syntax.specs.declared.program.Tree.{Tree}
 use Rattle.xmp_base.specs.declared.place.Place.{Place}
-use Rattle.xmp_walk.specs.declared.world.World.{World}
-use Rattle.xmp_walk.specs.Expressions.{is_function}
-use Rattle.xmp_walk.specs.Walk as walk
-use Rattle.xmp_walk.specs.Walk.{Step, Gave, Run, typed_constant}
+use Rattle.xmp_names.specs.declared.world.World.{World}
+use Rattle.xmp_names.specs.Expressions.{is_function}
+use Rattle.xmp_names.specs.Walk as walk
+use Rattle.xmp_names.specs.Walk.{Step, Gave, Run, typed_constant}
 use Rattle.xmp_walk.specs.Declarations.{type_of}
 use Rattle.xmp_walk.specs.Statements.{return_of}
 use Rattle.xmp_elab.specs.Parts.{Made}
@@ -39,8 +39,7 @@ use Rattle.xmp_fits.proofs.OneWorld.{facts_of, forms_of}
 use Rattle.xmp_fits.proofs.PartsExtend.{extends_before, made_extends}
 use Rattle.xmp_fits.proofs.ProgramWalk.{FunctionOf, MainOf, Starts}
 use Rattle.xmp_fits.proofs.ProgramFits.{Ended, program_fits}
-use Rattle.xmp_fits.specs.NumbersLie.{numbers_lie}
-use Rattle.xmp_fits.specs.NumbersLie.{tree_lies}
+use Rattle.xmp_fits.specs.NumbersLie.{numbers_lie, tree_lies}
 use Rattle.xmp_fits.proofs.TermsFit.{all_append}
 use Rattle.xmp_fits.proofs.TellsTrue.{tells}
 use Rattle.xmp_fits.proofs.RunsFit.{constant_start}

@@ -14,17 +14,17 @@ use Rattle.xmp_syntax.specs.declared.directive.Point.TheVariants as point
 use Rattle.xmp_syntax.specs.declared.directive.Mapping.{Mapping}
 use Rattle.xmp_syntax.specs.declared.directive.Mapping.TheVariants as mapping
 use Rattle.xmp_scopes.specs.Names as scope
-use Rattle.xmp_walk.specs.declared.names.Meaning.{Meaning}
-use Rattle.xmp_walk.specs.declared.mappings.Form.{Form}
-use Rattle.xmp_walk.specs.declared.mappings.Form.TheVariants as form
-use Rattle.xmp_walk.specs.declared.mappings.AlignPoint.{AlignPoint}
-use Rattle.xmp_walk.specs.declared.mappings.AlignPoint.TheVariants as ap_of
-use Rattle.xmp_walk.specs.declared.rules.Rule.TheVariants.{N1, N2, N3}
-use Rattle.xmp_walk.specs.Walk.{an_array, a_nodes, a_template}
-use Rattle.xmp_walk.specs.Declarations.{listed, inner}
-use Rattle.xmp_walk.specs.Directives.{dimensions}
-use Rattle.xmp_walk.specs.MappingLines as lines
-use Rattle.xmp_walk.specs.MappingLines.{Dummies, has_dummy, line_of}
+use Rattle.xmp_names.specs.declared.names.Meaning.{Meaning}
+use Rattle.xmp_names.specs.declared.mappings.Form.{Form}
+use Rattle.xmp_names.specs.declared.mappings.Form.TheVariants as form
+use Rattle.xmp_names.specs.declared.mappings.AlignPoint.{AlignPoint}
+use Rattle.xmp_names.specs.declared.mappings.AlignPoint.TheVariants as ap_of
+use Rattle.xmp_names.specs.declared.rules.Rule.TheVariants.{N1, N2, N3}
+use Rattle.xmp_names.specs.Walk.{an_array, a_nodes, a_template}
+use Rattle.xmp_names.specs.Lists.{listed, inner}
+use Rattle.xmp_directives.specs.Directives.{dimensions}
+use Rattle.xmp_directives.specs.MappingLines as lines
+use Rattle.xmp_directives.specs.MappingLines.{Dummies, has_dummy, line_of}
 use Rattle.xmp_fits.proofs.QuietRuns.{goes_refl, goes_then, Kept, Going, ◌>>=◌, pure, each}
 use Rattle.xmp_fits.proofs.QuietLines.{offset_of, match_template, match_array}
 use Rattle.xmp_fits.proofs.QuietSteps.{judge, constant, meaning_of, name_of, directive_at, stands_outermost}

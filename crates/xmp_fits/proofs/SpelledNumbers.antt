@@ -48,7 +48,7 @@ use Rattle.xmp_syntax.specs.declared.program.Parameters.TheVariants as pr
 use Rattle.xmp_syntax.specs.declared.program.TopItem.{TopItem}
 use Rattle.xmp_syntax.specs.declared.program.TopItem.TheVariants as top
 use Rattle.xmp_syntax.specs.declared.program.Tree.{Tree}
-use Rattle.xmp_walk.specs.Declarations.{listed}
+use Rattle.xmp_names.specs.Lists.{listed}
 use Rattle.xmp_syntax.specs.declared.parts.Inside.{Inside}
 use Rattle.xmp_syntax.specs.declared.parts.Image as made_image
 use Rattle.xmp_syntax.specs.declared.parts.CommaList.{CommaList}

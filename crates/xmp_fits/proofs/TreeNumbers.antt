@@ -13,10 +13,10 @@ use Rattle.xmp_syntax.specs.declared.expression.Expr.{Expr}
 use Rattle.xmp_syntax.specs.declared.expression.Expr.TheFolds.{fold-roll-Expr, ind-Expr, map-Expr}
 use Rattle.xmp_syntax.specs.declared.expression.Expr.TheViews.{roll-Expr}
 use Rattle.xmp_syntax.specs.declared.expression.Expr.TheOpen.{Expr-F}
-use Rattle.xmp_walk.specs.declared.names.Environment.{Environment}
-use Rattle.xmp_walk.specs.declared.typed.Typed.{Typed}
-use Rattle.xmp_walk.specs.declared.typed.Parts.{Parts}
-use Rattle.xmp_walk.specs.Expressions.{no_parts, add, each_subscript, each_next, expr_step, expr_of, inside_of, next_of, right_of}
+use Rattle.xmp_names.specs.declared.names.Environment.{Environment}
+use Rattle.xmp_names.specs.declared.typed.Typed.{Typed}
+use Rattle.xmp_names.specs.declared.typed.Parts.{Parts}
+use Rattle.xmp_names.specs.Expressions.{no_parts, add, each_subscript, each_next, expr_step, expr_of, inside_of, next_of, right_of}
 use Rattle.xmp_elab.proofs.Unbroken.{left_true, right_true}
 use Rattle.xmp_fits.proofs.OperandsFit.{Right, number_right, unary_right, cast_right, chain_right, choose_right}
 use Rattle.xmp_fits.proofs.NamesFit.{Tells, PartsRight, add_right, read_right, call_right}

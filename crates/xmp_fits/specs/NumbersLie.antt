@@ -41,7 +41,7 @@ use Rattle.xmp_syntax.specs.declared.statement.Simple.TheVariants as simple
 use Rattle.xmp_syntax.specs.declared.statement.Simple.{Simple}
 use Rattle.xmp_syntax.specs.declared.statement.Stmt.TheOpen.{Stmt-F}
 use Rattle.xmp_syntax.specs.declared.statement.Stmt.{Stmt, fold-Stmt}
-use Rattle.xmp_walk.specs.Declarations.{listed}
+use Rattle.xmp_names.specs.Lists.{listed}
 
 -- Whether the number that a token is, if it is one, lies in its type.
 abbrev pub number_lies : TokenKind → Bool

@@ -18,10 +18,10 @@ use Rattle.xmp_syntax.specs.declared.statement.BlockItem.TheVariants as b
 use Rattle.xmp_syntax.specs.declared.statement.Stmt.{Stmt, fold-Stmt, fold-roll-Stmt}
 use Rattle.xmp_syntax.specs.declared.statement.Stmt.TheOpen.{Stmt-F}
 use Rattle.xmp_syntax.specs.declared.statement.Stmt.TheVariants as s
-use Rattle.xmp_walk.specs.Walk.{Run}
+use Rattle.xmp_names.specs.Walk.{Run}
 use Rattle.xmp_walk.specs.Statements.{if_of, while_of, for_of}
-use Rattle.xmp_walk.specs.Directives.{loop_directive, lone_task, tasks_of}
-use Rattle.xmp_walk.specs.Program.{stmt_of, stmt_step, plain_of, block_of, inside_item, else_step, task_step}
+use Rattle.xmp_walk.specs.Program.{loop_directive, stmt_of, stmt_step, plain_of, block_of, inside_item, else_step, task_step}
+use Rattle.xmp_directives.specs.Directives.{lone_task, tasks_of}
 
 pub seen_plain : (x : Plain) → stmt_of (s.Plain x) ≡ plain_of x
 seen_plain x = ap stmt_of (sym (s.rolls-Plain x)) ∙ fold-roll-Stmt (Run made.Stmt) stmt_step (Stmt-F.Plain x)
