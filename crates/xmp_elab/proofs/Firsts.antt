@@ -10,7 +10,7 @@ use Rattle.xmp_elab.specs.Verdict.{first_in, IsIn, refusal_of}
 comes_first-refl : (a : Refusal) → comes_first a a ≡ true
 comes_first-refl a = grind (arith, nat_tests)
 
-comes_first-trans : (a b c : Refusal) → comes_first a b ≡ true → comes_first b c ≡ true → comes_first a c ≡ true
+pub comes_first-trans : (a b c : Refusal) → comes_first a b ≡ true → comes_first b c ≡ true → comes_first a c ≡ true
 comes_first-trans a b c h k = grind (arith, nat_tests)
 
 comes_first-total : (a b : Refusal) → comes_first a b ≡ false → comes_first b a ≡ true
@@ -35,7 +35,7 @@ in_first r b bs e = (0, b, omega arith, refl, e)
 in_rest : (r : Refusal) (b : Broken) (bs : List Broken) → IsIn bs r → IsIn (b ∷ bs) r
 in_rest r b bs (k, x, h, is, e) = (suc k, x, omega arith, is, e)
 
-in_either : (r : Refusal) (b : Broken) (bs : List Broken) → IsIn (b ∷ bs) r → (r ≡ refusal_of b) ⊎ IsIn bs r
+pub in_either : (r : Refusal) (b : Broken) (bs : List Broken) → IsIn (b ∷ bs) r → (r ≡ refusal_of b) ⊎ IsIn bs r
 in_either r b bs (zero, x, h, is, e) = inl (subst (λ (y : Broken). r ≡ refusal_of y) (sym is) e)
 in_either r b bs (suc k, x, h, is, e) = inr (k, x, omega arith, is, e)
 

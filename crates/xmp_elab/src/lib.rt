@@ -10,4 +10,3 @@ mod homes;
 mod verdict;
 
 pub use elaborated::elaborate_parts;
-pub use verdict::{first_in, refusal_of, verdict_of};

@@ -1,13 +1,13 @@
 // The verdict on the names and mappings of a program.
-ghost use Rattle.std.specs.Prelude.{◌≡◌, filter, if◌then◌else◌, not, Some};
-ghost use Rattle.xmp_base.specs.First.{first_of, IsFirst};
-ghost use Rattle.xmp_elab.specs.Verdict.{first_in, is_of_names, IsIn, number_of, refusal_of, verdict_of};
+ghost use Rattle.std.specs.Prelude.{◌≡◌, if◌then◌else◌, Some};
+ghost use Rattle.xmp_base.specs.First.{first_of};
+ghost use Rattle.xmp_elab.specs.Verdict.{first_in, is_of_names, number_of, of_mappings, of_names, refusal_of, verdict_of};
 
 use xmp_base::{Phase, Refusal, earlier};
 use xmp_walk::{Broken, Rule};
 
-/// The number of a rule in its phase.
-pub(crate) fn number_of(rule: Rule) -> u16
+// The number of a rule in its phase.
+fn number_of(rule: Rule) -> u16
     ensures { result ≡ number_of rule }
 {
     match rule {
@@ -33,8 +33,8 @@ pub(crate) fn number_of(rule: Rule) -> u16
     }
 }
 
-/// Whether a rule is one of names.
-pub(crate) fn is_of_names(rule: Rule) -> bool
+// Whether a rule is one of names.
+fn is_of_names(rule: Rule) -> bool
     ensures { result ≡ is_of_names rule }
 {
     match rule {
@@ -51,8 +51,8 @@ pub(crate) fn is_of_names(rule: Rule) -> bool
     }
 }
 
-/// The refusal that a broken rule is.
-pub fn refusal_of(broken: Broken) -> Refusal
+// The refusal that a broken rule is.
+fn refusal_of(broken: Broken) -> Refusal
     ensures { result ≡ refusal_of broken }
 {
     let phase = if is_of_names(broken.rule) {
@@ -65,20 +65,6 @@ pub fn refusal_of(broken: Broken) -> Refusal
         rule: number_of(broken.rule),
         at: broken.at,
     }
-}
-
-/// The first refusal of a list of broken rules, which are of one phase.
-pub fn first_in(list: &[Broken]) -> Option<Refusal>
-    ensures value { result ≡ first_in list.now }
-    ensures least { IsFirst (IsIn list.now) result }
-{
-    let mut first = None;
-    let mut left = list.len();
-    'list: for _broken in list {
-        left -= 1;
-        first = earlier(Some(refusal_of(list[left])), first);
-    }
-    first
 }
 
 // The first refusal after one more broken rule, where that is one of the rules that are looked for.
@@ -94,7 +80,7 @@ fn first_if(test: bool, broken: Broken, first: Option<Refusal>) -> Option<Refusa
 
 // The first refusal of the rules of names in a list.
 fn first_of_names(list: &[Broken]) -> Option<Refusal>
-    ensures { result ≡ first_in (filter (λ b. is_of_names b.rule) list.now) }
+    ensures { result ≡ first_in (of_names list.now) }
 {
     let mut first = None;
     let mut left = list.len();
@@ -107,7 +93,7 @@ fn first_of_names(list: &[Broken]) -> Option<Refusal>
 
 // The first refusal of the rules of mappings in a list.
 fn first_of_mappings(list: &[Broken]) -> Option<Refusal>
-    ensures { result ≡ first_in (filter (λ b. not (is_of_names b.rule)) list.now) }
+    ensures { result ≡ first_in (of_mappings list.now) }
 {
     let mut first = None;
     let mut left = list.len();
@@ -120,7 +106,7 @@ fn first_of_mappings(list: &[Broken]) -> Option<Refusal>
 
 /// The verdict on the broken rules of a program: the first of the rules of names, or, where none of these breaks, the
 /// first of the rules of mappings.
-pub fn verdict_of(list: &[Broken]) -> Option<Refusal>
+pub(crate) fn verdict_of(list: &[Broken]) -> Option<Refusal>
     ensures { result ≡ verdict_of list.now }
 {
     match first_of_names(list) {
