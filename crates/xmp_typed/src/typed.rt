@@ -1,8 +1,8 @@
 // The typed program of a tree.
 ghost use Rattle.std.specs.Prelude.{◌≡◌, IfErr, IfOk, IsTrue, None, true};
 ghost use Rattle.xmp_elab.specs.Narrow.{is_count};
-ghost use Rattle.xmp_elab.specs.Parts.{IsParts, RefusedBy};
-ghost use Rattle.xmp_elab.specs.Verdict.{verdict};
+ghost use Rattle.xmp_elab.specs.Parts.{IsParts};
+ghost use Rattle.xmp_elab.specs.Verdict.{IsFaultOf, IsVerdict};
 ghost use Rattle.xmp_fits.specs.NumbersLie.{tree_lies};
 
 use std::alloc::Global;
@@ -19,9 +19,9 @@ use xmp_syntax::Tree;
 pub fn elaborate(alloc: Global, t: &Tree, given: Option<u32>) -> Result<Prog, Fault>
     requires count { IsTrue (is_count given) }
     requires numbers { tree_lies t.now ≡ true }
-    ensures accepted { IfOk result (λ p. verdict t.now given ≡ None) }
+    ensures accepted { IfOk result (λ p. IsVerdict t.now given None) }
     ensures program { IfOk result (λ p. IsParts t.now given p) }
-    ensures refused { IfErr result (λ e. RefusedBy (verdict t.now given) e) }
+    ensures refused { IfErr result (λ e. IsFaultOf t.now given e) }
 {
     parts_fit();
     match elaborate_parts(alloc, t, given) {
