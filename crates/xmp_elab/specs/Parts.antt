@@ -30,9 +30,8 @@ use Rattle.xmp_names.specs.declared.mappings.Align.{Align}
 use Rattle.xmp_names.specs.declared.mappings.Shadow.{Shadow}
 use Rattle.xmp_names.specs.declared.world.World.{World}
 use Rattle.xmp_names.specs.Walk.{Step, Gave}
-use Rattle.xmp_mapping_rules.specs.Numbers.{first_place}
 use Rattle.xmp_names.specs.Sizes.{natural}
-use Rattle.xmp_mapping_rules.specs.MappingRules.{item_at, nodes_of, forms_of, template_sizes, align_of, shadowed, shadow_of}
+use Rattle.xmp_mapping_rules.specs.MappingRules.{nodes_of, forms_of, template_sizes, align_of, shadow_of}
 use Rattle.xmp_walk.specs.Program.{program_of}
 
 -- ---- the grid and the templates

@@ -1,6 +1,6 @@
 -- The verdict on the names and mappings of a program: the first rule of names that breaks, or, where none does, the first
 -- rule of mappings that breaks: by place, and at one place by number. Source: this project.
-use Rattle.std.specs.Prelude.{◌≡◌, ℕ, Bool, true, false, List, [], ◌∷◌, ◌++◌, map, filter, not, ◌⊎◌, ⊤, Option, Some, None}
+use Rattle.std.specs.Prelude.{◌≡◌, ℕ, Bool, true, false, List, [], ◌∷◌, ◌++◌, filter, not, ◌⊎◌, ⊤, Option, Some, None}
 use Rattle.std.specs.List.{Any}
 use Rattle.xmp_base.specs.declared.refusal.Phase.{Phase}
 use Rattle.xmp_base.specs.declared.refusal.Phase.TheVariants as phase

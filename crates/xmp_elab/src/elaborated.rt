@@ -13,9 +13,9 @@ use sqlite_items::Items;
 use std::alloc::{AllocError, Global};
 use xmp_base::{Fault, Refusal};
 use xmp_map::{Grid, Template};
+use xmp_mapping_rules::{Lines, mapping_rules};
 use xmp_prog::{Array, Kind, ProgParts, Stmt};
 use xmp_syntax::Tree;
-use xmp_mapping_rules::{Lines, mapping_rules};
 use xmp_walk::{World, walk_program};
 
 // The verdict on a world after the walk.

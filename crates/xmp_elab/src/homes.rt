@@ -13,9 +13,9 @@ use crate::grids::narrowed;
 use sqlite_items::Items;
 use std::alloc::{AllocError, Global};
 use xmp_map::{ArrayMap, Grid, Target, Template};
+use xmp_mapping_rules::Lines;
 use xmp_prog as prog;
 use xmp_prog::Home;
-use xmp_mapping_rules::Lines;
 use xmp_walk::{Align, AlignPoint, Array, Shadow};
 
 // ---- what the dimensions of an array are aligned with

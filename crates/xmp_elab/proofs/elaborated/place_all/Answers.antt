@@ -1,4 +1,4 @@
-use Rattle.std.proofs.Common.{◌≡◌, ◌∙◌, ℤ, List, IsTrue, map, subst, sym}
+use Rattle.std.proofs.Common.{◌≡◌, ℤ, List, IsTrue, map, subst, sym}
 use Rattle.std.specs.List.{list_all}
 use Rattle.xmp_map.specs.Nodes.{makes_grid}
 use Rattle.xmp_names.specs.Sizes.{natural}
