@@ -1,10 +1,10 @@
 -- A move keeps every node on its own list of states, and every queue on the traffic.
-use Rattle.std.proofs.Common.{◌≡◌, ◌≢◌, ℕ, zero, suc, ◌-◌, ◌<◌, ◌≤◌, true, false, List, [], ◌∷◌, ◌++◌, length, get_or, refl, sym, ap, arith, subst, ◌∙◌, append_assoc, length-append, All, eq-or-lt_of_le, true≢false, inl, inr}
+use Rattle.std.proofs.Common.{◌≡◌, ◌≢◌, ℕ, zero, suc, ◌-◌, ◌<◌, ◌≤◌, true, false, List, [], ◌∷◌, ◌++◌, length, get_or, refl, sym, ap, arith, subst, ◌∙◌, append_assoc, length-append, eq-or-lt_of_le, true≢false, inl, inr}
 use Rattle.std.proofs.Math.ListN.{get_or-append}
 use Rattle.std.proofs.Math.Seq.{get_or-append_seam}
 use Rattle.std.proofs.lemmas.Bool.{cases_eq, cases_lt, cases_Bool, lt-ltb, le-ltb}
 use Rattle.xmp_net.specs.Nodes.{Nodes, World, at, peer, start, ran, received, moved}
-use Rattle.xmp_net.specs.Traffic.{Traffic, fed, own, Carries, AllCarry, firsts, took, sent, OnCourse}
+use Rattle.xmp_net.specs.Traffic.{Traffic, fed, own, Carries, firsts, took, sent, OnCourse}
 
 pub at_same : {A : Type 0} → (f : ℕ → A) (k : ℕ) (v : A) (j : ℕ) → j ≡ k → at f k v j ≡ v
 at_same f k v j e = grind arith

@@ -3,7 +3,7 @@ use Rattle.std.proofs.Common.{◌≡◌, ◌≢◌, ℕ, suc, ◌<◌, List, [],
 use Rattle.xmp_orders.specs.Movers.{AreMovers, AllEnded}
 use Rattle.xmp_orders.specs.Progress.{Progress, AllEndFrom}
 use Rattle.xmp_orders.proofs.Runs.{run_on, all_end}
-use Rattle.xmp_net.specs.Nodes.{Nodes, World, start, movers}
+use Rattle.xmp_net.specs.Nodes.{Nodes, start, movers}
 use Rattle.xmp_net.specs.Traffic.{Traffic, own, AllCarry, OnCourse, IsSameWorld, most_steps}
 use Rattle.xmp_net.specs.Laws.{after}
 use Rattle.xmp_net.proofs.Course.{start_course}

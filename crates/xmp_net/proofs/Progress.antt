@@ -1,7 +1,7 @@
 -- While not all have ended some node can move, and a step brings the nodes further.
 use Rattle.std.proofs.Common.{◌≡◌, ◌≢◌, ℕ, zero, suc, ◌+◌, ◌-◌, ◌*◌, ◌<◌, ◌≤◌, true, false, List, [], ◌∷◌, ◌++◌, length, refl, sym, ap, arith, subst, ◌∙◌, length-append, eq-or-lt_of_le, le_refl, mul-suc, mul-le-mul_right, true≢false, ◌⊎◌, inl, inr}
 use Rattle.std.proofs.lemmas.Bool.{cases_eq, cases_lt, cases_Bool, lt-ltb, le-ltb}
-use Rattle.xmp_orders.specs.Movers.{Moved, Stepped, NotYet, AlreadyEnded, AllEnded}
+use Rattle.xmp_orders.specs.Movers.{Stepped, NotYet, AlreadyEnded, AllEnded}
 use Rattle.xmp_net.specs.Nodes.{Nodes, World, at, peer, ran, received, moved, found, answer, movers}
 use Rattle.xmp_net.specs.Traffic.{Traffic, own, Carries, AllCarry, firsts, took, sent, OnCourse, most_steps}
 use Rattle.xmp_net.proofs.Course.{at_same, at_other, fed_peer, length_firsts, took_more, ran_course, receive_course}

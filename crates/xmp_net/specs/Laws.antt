@@ -1,8 +1,9 @@
 -- What holds of nodes that carry a traffic, in every order of their moves.
 use Rattle.std.specs.Prelude.{◌≡◌, ◌≢◌, ℕ, suc, ◌<◌, List, []}
 use Rattle.xmp_orders.specs.Movers.{run, AreMovers, AllEnded}
+use Rattle.xmp_orders.specs.Progress.{AllEndFrom}
 use Rattle.xmp_net.specs.Nodes.{Nodes, World, start, movers}
-use Rattle.xmp_net.specs.Traffic.{Traffic, own, AllCarry, OnCourse, IsSameWorld, IsSameTraffic}
+use Rattle.xmp_net.specs.Traffic.{Traffic, own, AllCarry, OnCourse, most_steps, IsSameWorld, IsSameTraffic}
 use Rattle.xmp_net.specs.Tables.{Carried}
 
 -- the world when these nodes have moved in turn
@@ -12,6 +13,10 @@ after n ks = run (movers n) ks (start n)
 -- in every order each node keeps to its own list of states, and each queue to the traffic
 abbrev pub StaysOnCourse : {S M : Type 0} → Nodes S M → Traffic M → Type 0
 StaysOnCourse n all = (ks : List ℕ) → AreMovers (movers n) ks → (runs : ℕ → ℕ) × OnCourse n all (after n ks) runs
+
+-- in every order all have ended or some node can move, the steps are few, and lockstep and every choice come to the end of all
+abbrev pub AllEnd : {S M : Type 0} → Nodes S M → Traffic M → Type 0
+AllEnd n all = AllEndFrom (movers n) (most_steps n all) (start n)
 
 -- two runs in which all end come to one world
 abbrev pub OneEnd : {S M : Type 0} → Nodes S M → Type 0

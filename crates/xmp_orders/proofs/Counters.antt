@@ -1,6 +1,6 @@
 -- The counters of the example make progress.
-use Rattle.std.proofs.Common.{◌≡◌, ◌≢◌, ℕ, zero, suc, ◌+◌, ◌<◌, ◌≤◌, refl, sym, ap, ◌∙◌, arith, ◌⊎◌, inl, inr}
-use Rattle.xmp_orders.specs.Movers.{Moved, Stepped, AlreadyEnded, AllEnded, SomeCanMove}
+use Rattle.std.proofs.Common.{◌≡◌, ◌≢◌, ℕ, zero, suc, ◌+◌, ◌<◌, refl, ap, arith, ◌⊎◌, inl, inr}
+use Rattle.xmp_orders.specs.Movers.{Stepped, AlreadyEnded, AllEnded, SomeCanMove}
 use Rattle.xmp_orders.specs.Progress.{Progress}
 use Rattle.xmp_orders.specs.Examples.{Counters, one_less, was, to_go, counters}
 

@@ -1,5 +1,6 @@
--- Loops over states of any kind that show worlds: a fact of all turns that are left follows without an induction of one's own.
-use Rattle.std.proofs.Common.{◌≡◌, ℕ, zero, suc, ◌+◌, ◌<◌, ◌≤◌, refl, sym, ap, arith, subst, ◌∙◌, le_refl, inl, inr}
+-- Loops over states of any kind that show worlds: a fact of all turns that are left follows without an induction of
+-- one's own.
+use Rattle.std.proofs.Common.{◌≡◌, ℕ, zero, suc, ◌+◌, ◌<◌, ◌≤◌, arith, subst, le_refl, inl, inr}
 use Rattle.xmp_orders.specs.Movers.{Movers, Stepped, run, AllEnded, below}
 use Rattle.xmp_orders.specs.Progress.{Progress}
 use Rattle.xmp_orders.proofs.Runs.{turn, run_turn, turn_either}

@@ -1,6 +1,6 @@
 -- Things that make progress come to their end in lockstep, and by every choice of such that can move.
 use Rattle.std.proofs.Common.{◌≡◌, ◌≢◌, ℕ, zero, suc, ◌+◌, ◌<◌, ◌≤◌, List, [], ◌∷◌, ◌++◌, length, refl, sym, ap, arith, subst, ◌∙◌, All, eq-or-lt_of_le, le_refl, lt_trans, ◌⊎◌, inl, inr}
-use Rattle.xmp_orders.specs.Movers.{Moved, Movers, Stepped, NotYet, AlreadyEnded, run, AreMovers, AllEnded, SomeCanMove, AllStep, below, rounds}
+use Rattle.xmp_orders.specs.Movers.{Moved, Movers, Stepped, NotYet, AlreadyEnded, run, AreMovers, AllEnded, AllStep, below, rounds}
 use Rattle.xmp_orders.specs.Choices.{Choice, PicksSteps, picked, EndsBy}
 use Rattle.xmp_orders.specs.Progress.{Progress, AllEndFrom}
 
@@ -76,10 +76,13 @@ turn_either {W} {R} {m} {on} {far} p w r o (suc c) le = elim (turn_either p w r 
       let Q : W → Type 0 = λ v. ((m.moved v c ≡ w) × ((k : ℕ) → k < suc c → m.answer w k ≢ Stepped)) ⊎ ((z : R) × on (m.moved v c) z × (far w r < far (m.moved v c) z)) in
       subst Q (sym still.0) (elim (is_step (m.answer w c)) [
         | inl step ↦ inr (p.steps w r c o le step)
-        | inr none ↦ inl (p.stays w c none, λ k lt. elim (eq-or-lt_of_le lt) [
-          | inl e ↦ (let e' : k ≡ c = omega arith in let P : ℕ → Type 0 = λ x. m.answer w x ≢ Stepped in subst P (sym e') none)
-          | inr less ↦ still.1 k (omega arith)
-        ])
+        | inr none ↦ inl (
+          p.stays w c none,
+          λ k lt. elim (eq-or-lt_of_le lt) [
+            | inl e ↦ (let e' : k ≡ c = omega arith in let P : ℕ → Type 0 = λ x. m.answer w x ≢ Stepped in subst P (sym e') none)
+            | inr less ↦ still.1 k (omega arith)
+          ],
+        )
       ])
   | inr gone ↦ elim (is_step (m.answer (turn m c w) c)) [
     | inl step ↦ let s = p.steps (turn m c w) gone.0 c gone.1 le step in inr (s.0, s.1, lt_trans gone.2 s.2)
@@ -154,26 +157,30 @@ picks_end {m} p c able (suc d) x w r o enough = elim (p.moves w r o) [
       let k : ℕ = c.pick y w in
       let here = able y w can.0 can.1 can.2 in
       let s = p.steps w r k o here.0 here.1 in
-      let h = picks_end p c able d y (m.moved w k) s.0 s.1 (let rise = s.2 in omega arith) in
-      (k ∷ h.0, record {
-        movers = all_cons m.count k h.0 here.0 h.1.movers;
-        picked = ap (λ ks. k ∷ ks) h.1.picked;
-        steps = (here.1, h.1.steps);
-        ended = h.1.ended;
-      })
+      let h = picks_end p c able d y (m.moved w k) s.0 s.1 (let rise = s.2 in omega arith) in (
+        k ∷ h.0,
+        record {
+          movers = all_cons m.count k h.0 here.0 h.1.movers;
+          picked = ap (λ ks. k ∷ ks) h.1.picked;
+          steps = (here.1, h.1.steps);
+          ended = h.1.ended;
+        },
+      )
 ]
 
 choices_end : {W R : Type 0} {m : Movers W} {on : W → R → Type 0} {far : W → R → ℕ} {most : ℕ} → Progress m on far most →
     (w : W) (r : R) → on w r → (c : Choice W) → PicksSteps m c → (x : ℕ) → (ks : List ℕ) × EndsBy m most c x w ks
 choices_end {most} p w r o c able x =
-    let h = picks_end p c able most x w r o (omega arith) in
-    (h.0, record {
-      movers = h.1.movers;
-      picked = h.1.picked;
-      steps = h.1.steps;
-      few = few_steps p h.0 h.1.movers w r o h.1.steps;
-      ended = h.1.ended;
-    })
+    let h = picks_end p c able most x w r o (omega arith) in (
+      h.0,
+      record {
+        movers = h.1.movers;
+        picked = h.1.picked;
+        steps = h.1.steps;
+        few = few_steps p h.0 h.1.movers w r o h.1.steps;
+        ended = h.1.ended;
+      },
+    )
 
 -- What follows of a world, in every order.
 pub all_end : {W R : Type 0} {m : Movers W} {on : W → R → Type 0} {far : W → R → ℕ} {most : ℕ} → Progress m on far most →

@@ -37,6 +37,11 @@ first_from m w (suc many) k = if can_move m w k then k else first_from m w many 
 abbrev pub first_able : {W : Type 0} → Movers W → (ℕ → ℕ) → (ℕ → ℕ) → Choice W
 first_able m from onward = record { onward = onward; pick = λ x w. first_from m w m.count (from x) }
 
+-- that it picks one that can move, whatever the numbers
+abbrev pub FirstsPickSteps : {W : Type 0} → Movers W → Type 0
+FirstsPickSteps m =
+    (from onward : ℕ → ℕ) → ((x : ℕ) → from x < m.count) → PicksSteps m (first_able m from onward)
+
 -- from a world and a number these are picked by a choice, at most so many; each of them steps, and then all have ended
 pub record EndsBy {W : Type 0} (m : Movers W) (most : ℕ) (c : Choice W) (x : ℕ) (w : W) (ks : List ℕ) : Type 0 where
   pub movers : AreMovers m ks

@@ -1,6 +1,7 @@
 -- Two counters, to show the laws at work (this project).
-use Rattle.std.specs.Prelude.{ℕ, zero, suc}
+use Rattle.std.specs.Prelude.{ℕ, zero, suc, ◌+◌, ◌%◌}
 use Rattle.xmp_orders.specs.Movers.{Movers, Moved, Stepped, AlreadyEnded}
+use Rattle.xmp_orders.specs.Choices.{Choice, first_able}
 
 -- counter 0 has `left` steps to go, and counter 1 has `right`
 pub record Counters : Type 0 where
@@ -30,3 +31,11 @@ counted w (suc k) = record w { right = one_less w.right }
 -- each counts down to 0, and ends
 abbrev pub counters : Movers Counters
 counters = record { count = 2; moved = counted; answer = λ w k. was (to_go w k) }
+
+-- 2 and 3 steps to go
+abbrev pub two_and_three : Counters
+two_and_three = record { left = 2; right = 3 }
+
+-- the first that can count, from the one or the other on in turn
+abbrev pub in_turn : Choice Counters
+in_turn = first_able counters (λ x. x % 2) (λ x. x + 1)

@@ -1,10 +1,9 @@
 use Rattle.std.proofs.Common.{◌≡◌, ℕ, zero, suc, ◌+◌, ◌%◌, ◌<◌, refl, arith}
 use Rattle.xmp_orders.specs.Movers.{AlreadyEnded, rounds}
-use Rattle.xmp_orders.specs.Choices.{first_able}
 use Rattle.xmp_orders.proofs.Rounds.{firsts_pick}
 use Rattle.xmp_net.specs.Nodes.{answer, movers}
 use Rattle.xmp_net.specs.Laws.{after}
-use Rattle.xmp_net.specs.Examples.{pair, told}
+use Rattle.xmp_net.specs.Examples.{pair, told, in_turn}
 use Rattle.xmp_net.proofs.Orders.{in_every_order}
 use Rattle.xmp_net.proofs.Tables.{tabled}
 use Rattle.xmp_net.proofs.Pair.{pair_carries}
@@ -20,8 +19,8 @@ pub returns : goal.returns
 returns c = record {
   carry = pair_carries;
   table = tabled pair told 0 pair_carries;
-  chosen = λ x. (in_every_order pair told pair_carries).chosen
-      (first_able (movers pair) (λ y. y % 2) (λ y. y + 1)) (firsts_pick (movers pair) (λ y. y % 2) (λ y. y + 1) (λ y. omega arith)) x;
+  chosen = (in_every_order pair told pair_carries).chosen in_turn
+      (firsts_pick (movers pair) (λ x. x % 2) (λ x. x + 1) (λ x. omega arith));
   ended = ended;
   zero = refl;
   one = refl;
