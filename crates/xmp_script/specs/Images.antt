@@ -66,16 +66,18 @@ takes im images v k (suc rest) =
       queue = λ i j. if (i == v.next k) && (j == k) then rest else v.queue i j;
     }
 
+-- image k runs to its next access, sync or end, and does that
+abbrev pub goes : {S V : Type 0} → Images S V → ℕ → Standing S V → ℕ → Standing S V
+goes im images v k =
+    let x = im.go (v.state k) in
+    does im images v k x (im.stands x)
+
 -- one move of image k
 abbrev pub moved : {S V : Type 0} → Images S V → ℕ → Standing S V → ℕ → Standing S V
 moved im images v k =
-    let x = im.go (v.state k) in
     if v.ended k
     then v
-    else (
-    if nat_lt (v.next k) images
-    then takes im images v k (v.queue (v.next k) k)
-    else does im images v k x (im.stands x))
+    else (if nat_lt (v.next k) images then takes im images v k (v.queue (v.next k) k) else goes im images v k)
 
 -- whether a message was there
 abbrev pub found : ℕ → Moved
