@@ -6,6 +6,7 @@ ghost use Rattle.xmp_meaning.specs.declared.outcome.Outcome.TheVariants as outco
 ghost use Rattle.xmp_meaning.specs.Programs.{serial};
 ghost use Rattle.xmp_meaning.specs.Traffic.{report};
 ghost use Rattle.xmp_meaning.specs.Accesses.{Get, Put, phase_accesses};
+ghost use Rattle.xmp_meaning.specs.Shifted.{shifted};
 ghost use Rattle.xmp_meaning.specs.Examples.{after_first, put_and_get, read_and_print, ten_turns};
 
 /// `int i; int main() { while (i < 10) i++; printf("%d\n", i); }` prints `10` with ten steps, and is out of steps with nine.
@@ -28,4 +29,12 @@ pub fn two_images_put_and_get()
         × (phase_accesses (put_and_get at) [] 0 1 ≡ Put 0 (pos 1) ∷ Put 4 (pos 0) ∷ []) }
     ensures second { (at : Place) → (phase_accesses (put_and_get at) after_first 1 0 ≡ Get 0 ∷ Put 3 (pos 0) ∷ [])
         × (phase_accesses (put_and_get at) after_first 1 1 ≡ Get 1 ∷ Put 5 (pos 0) ∷ []) }
+{}
+
+/// An array in blocks over three nodes is filled, reflected, shifted by one cell and summed, and node 0 prints the sum. Node 1 sends a cell to each
+/// neighbour at the reflect, one at the shift, three words at the end of the first loop and four at that of the second to each other node.
+pub fn an_array_is_shifted_and_summed()
+    ensures { (at : Place) → report (shifted at) [] 0
+        ≡ record { words = 6; turns = 6; sent = 22 } ∷ record { words = 7; turns = 6; sent = 17 }
+        ∷ record { words = 5; turns = 4; sent = 15 } ∷ [] }
 {}
