@@ -25,7 +25,7 @@ use Rattle.xmp_meaning.specs.Exchanges.{PartEnd, Exchange, AtBarrier, Broadcast,
 use Rattle.xmp_meaning.specs.TrapWords.{index_at, SaidTrap, trap_said}
 use Rattle.xmp_meaning.specs.Messages.{is_reflected, takes, gives, tells, part_words, words_alone, message}
 use Rattle.xmp_meaning.specs.Stores.{words_on, base_of, store_of}
-use Rattle.xmp_meaning.specs.Traffic.{traffic}
+use Rattle.xmp_meaning.specs.Traffic.{traffic, node_beginning}
 
 -- ---- the words of a trap
 
@@ -137,3 +137,8 @@ pub record StoreIsLaid {X : Type 0} (p : ProgParts) (node : ℕ) (s : State X) :
 -- the same of every such state
 abbrev pub StoresAreLaid : (X : Type 0) → ProgParts → Type 0
 StoresAreLaid X p = (node : ℕ) (s : State X) → IsNodeState p node s → StoreIsLaid p node s
+
+-- a node begins with one
+abbrev pub BeginsLaid : ProgParts → Type 0
+BeginsLaid p = (node steps : ℕ) → AllByRecursion (λ a. is_image a.home ≡ false) p.arrays
+    → IsNodeState p node (node_beginning p node steps)
