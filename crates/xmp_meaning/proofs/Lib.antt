@@ -13,6 +13,7 @@ pub mod TenTurns
 pub mod ReadAndPrint
 pub mod PutAndGet
 pub mod ShiftedReport
+pub mod CornersReport
 pub mod StoresLaid
 pub mod Unrolled
 pub mod FormatLaws

@@ -29,3 +29,4 @@ pub mod Laws
 pub mod TrafficLaws
 pub mod Examples
 pub mod Shifted
+pub mod Corners

@@ -17,8 +17,8 @@ pub use laws::{
 pub use location::Location;
 pub use outcome::Outcome;
 pub use rows::{
-    a_number_is_read_and_printed, an_array_is_shifted_and_summed, ten_turns_take_ten_steps,
-    two_images_put_and_get,
+    a_number_is_read_and_printed, an_array_is_shifted_and_summed, corners_are_summed,
+    ten_turns_take_ten_steps, two_images_put_and_get,
 };
 pub use traffic_laws::{
     cells_are_numbered, ends_are_read_back, messages_are_as_due, notes_are_added, stores_are_laid,

@@ -7,6 +7,7 @@ ghost use Rattle.xmp_meaning.specs.Programs.{serial};
 ghost use Rattle.xmp_meaning.specs.Traffic.{report};
 ghost use Rattle.xmp_meaning.specs.Accesses.{Get, Put, phase_accesses};
 ghost use Rattle.xmp_meaning.specs.Shifted.{shifted};
+ghost use Rattle.xmp_meaning.specs.Corners.{corners};
 ghost use Rattle.xmp_meaning.specs.Examples.{after_first, put_and_get, read_and_print, ten_turns};
 
 /// `int i; int main() { while (i < 10) i++; printf("%d\n", i); }` prints `10` with ten steps, and is out of steps with nine.
@@ -37,4 +38,12 @@ pub fn an_array_is_shifted_and_summed()
     ensures { (at : Place) → report (shifted at) [] 0
         ≡ record { words = 6; turns = 6; sent = 22 } ∷ record { words = 7; turns = 6; sent = 17 }
         ∷ record { words = 5; turns = 4; sent = 15 } ∷ [] }
+{}
+
+/// An array in blocks over a grid of 2 x 2 nodes is filled, reflected and summed from its second row and column on, and node 0 prints the sum. Each
+/// node sends five cells at the reflect, a corner among them.
+pub fn corners_are_summed()
+    ensures { (at : Place) → report (corners at) [] 0
+        ≡ record { words = 12; turns = 8; sent = 35 } ∷ record { words = 12; turns = 6; sent = 26 }
+        ∷ record { words = 12; turns = 6; sent = 26 } ∷ record { words = 12; turns = 5; sent = 26 } ∷ [] }
 {}
