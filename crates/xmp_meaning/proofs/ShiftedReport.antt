@@ -1,4 +1,4 @@
--- The report of a program with loops, a reflect, a gmove, a reduction and a task.
+-- The report of a program with loops, a gmove, a reduction and a task.
 use Rattle.std.proofs.Common.{◌≡◌, ℤ, pos, false, [], ◌∷◌, map, length, List, refl, None, ap, ◌∙◌}
 use Rattle.std.specs.Prelude.{unwrap_or, slice_get}
 use Rattle.std.specs.List.{range_with_len}
@@ -41,7 +41,7 @@ use Rattle.xmp_meaning.specs.Messages.{sent_in_all}
 use Rattle.xmp_meaning.specs.Stores.{words_on}
 use Rattle.xmp_meaning.specs.Traffic.{Counts, report}
 use Rattle.xmp_meaning.specs.Examples.{number, task_on}
-use Rattle.xmp_meaning.specs.Shifted.{three_nodes, blocks_of_three, map_of_a, eight_turns, loop_on, name_a, cell_i, fill, add, sum_of, section_from, show, statements, shifted}
+use Rattle.xmp_meaning.specs.Shifted.{three_nodes, blocks_of_three, map_of_a, eight_turns, loop_on, cell_i, fill, add, sum_of, section_from, show, statements, shifted}
 use Rattle.xmp_meaning.proofs.Forms.{expr_const, expr_scalar, expr_cell, stmt_plain, stmt_block, stmt_loop}
 use Rattle.xmp_meaning.proofs.ReadAndPrint.{task_with, tasks_are}
 
@@ -110,34 +110,29 @@ module _ {X : Type 0} (h : Handlers X) (cx : Context) where
   show_is at = rw (expr_scalar h cx 1 at) refl
 
   -- ---- all of them
-  abbrev runs : Place → Run X Flow → Run X Flow → Run X Flow → Run X Flow → Run X Flow → Run X Flow
-  runs at a b c d e = block (a ∷ b ∷ c ∷ d ∷ e ∷ [])
+  abbrev runs : Run X Flow → Run X Flow → Run X Flow → Run X Flow → Run X Flow
+  runs a b c d = block (a ∷ b ∷ c ∷ d ∷ [])
 
   abbrev loop_run : Place → List Reduction → Run X Flow → Run X Flow
   loop_run at rs body = h.loop (loop_on at rs) (nest_by at (pure (pos 0)) (pure (pos 8))) body
 
   abbrev whole_run : Place → Run X Flow
-  whole_run at = runs at (loop_run at [] (fill_run at)) (h.reflect (name_a at ∷ [])) (move_run at) (loop_run at (sum_of at) (add_run at))
+  whole_run at = runs (loop_run at [] (fill_run at)) (move_run at) (loop_run at (sum_of at) (add_run at))
       (h.tasks (task_with h cx at 0 show_run ∷ []))
 
   pub whole_is : (at : Place) → stmt_of h cx (stmt.Block (statements at)) ≡ whole_run at
   whole_is at = stmt_block h cx (statements at)
-      ∙ ap (λ r. runs at r second third fourth last) (loop_is at [] (fill at) ∙ ap (loop_run at []) (fill_is at))
-      ∙ ap (λ r. runs at (loop_run at [] (fill_run at)) r third fourth last) (stmt_plain h cx (plain.Reflect (name_a at ∷ []) at))
-      ∙ ap (λ r. runs at (loop_run at [] (fill_run at)) (h.reflect (name_a at ∷ [])) r fourth last) (move_is at)
-      ∙ ap (λ r. runs at (loop_run at [] (fill_run at)) (h.reflect (name_a at ∷ [])) (move_run at) r last)
-      (loop_is at (sum_of at) (add at) ∙ ap (loop_run at (sum_of at)) (add_is at))
-      ∙ ap (λ r. runs at (loop_run at [] (fill_run at)) (h.reflect (name_a at ∷ [])) (move_run at) (loop_run at (sum_of at) (add_run at)) r)
+      ∙ ap (λ r. runs r second third last) (loop_is at [] (fill at) ∙ ap (loop_run at []) (fill_is at))
+      ∙ ap (λ r. runs (loop_run at [] (fill_run at)) r third last) (move_is at)
+      ∙ ap (λ r. runs (loop_run at [] (fill_run at)) (move_run at) r last) (loop_is at (sum_of at) (add at) ∙ ap (loop_run at (sum_of at)) (add_is at))
+      ∙ ap (λ r. runs (loop_run at [] (fill_run at)) (move_run at) (loop_run at (sum_of at) (add_run at)) r)
       (tasks_are h cx at 0 (show at) ∙ ap (λ r. h.tasks (task_with h cx at 0 r ∷ [])) (show_is at))
     where
       second : Run X Flow
-      second = stmt_of h cx (stmt.Plain (plain.Reflect (name_a at ∷ []) at))
+      second = stmt_of h cx (stmt.Plain (plain.Gmove (section_from at 1) (section_from at 0) at))
 
       third : Run X Flow
-      third = stmt_of h cx (stmt.Plain (plain.Gmove (section_from at 1) (section_from at 0) at))
-
-      fourth : Run X Flow
-      fourth = stmt_of h cx (stmt.Loop (loop_on at (sum_of at)) (add at))
+      third = stmt_of h cx (stmt.Loop (loop_on at (sum_of at)) (add at))
 
       last : Run X Flow
       last = stmt_of h cx (task_on at 0 (show at))
@@ -154,11 +149,11 @@ main_run : Place → Run Notes Flow
 main_run at = whole_run (traced (shifted at)) (main_context (shifted at) 0 []) at
 
 reported : (at : Place) → report_by at (main_run at)
-    ≡ record { words = 6; turns = 6; sent = 22 } ∷ record { words = 7; turns = 6; sent = 17 } ∷ record { words = 5; turns = 4; sent = 15 } ∷ []
+    ≡ record { words = 5; turns = 6; sent = 21 } ∷ record { words = 5; turns = 6; sent = 15 } ∷ record { words = 4; turns = 4; sent = 14 } ∷ []
 unfolding main_run three_nodes blocks_of_three map_of_a product row_major unravel all_pass sum_below count_cells holds_at owner_inside count_below binary_of pieces_of digits int_wrap
 reported at = refl
 
 pub shifted_reported : (at : Place) → report (shifted at) [] 0
-    ≡ record { words = 6; turns = 6; sent = 22 } ∷ record { words = 7; turns = 6; sent = 17 } ∷ record { words = 5; turns = 4; sent = 15 } ∷ []
+    ≡ record { words = 5; turns = 6; sent = 21 } ∷ record { words = 5; turns = 6; sent = 15 } ∷ record { words = 4; turns = 4; sent = 14 } ∷ []
 unfolding main_run
 shifted_reported at = ap (report_by at) (whole_is (traced (shifted at)) (main_context (shifted at) 0 []) at) ∙ reported at

@@ -4,11 +4,9 @@
 --   #pragma xmp template t[8]
 --   #pragma xmp distribute t[block] onto p
 --   #pragma xmp align a[k] with t[k]
---   #pragma xmp shadow a[1]
 --   int main() {
 --   #pragma xmp loop (i) on t[i]
 --     for (i = 0; i < 8; i++) a[i] = i;
---   #pragma xmp reflect (a)
 --   #pragma xmp gmove
 --     a[1:7] = a[0:7];
 --   #pragma xmp loop (i) on t[i] reduction(+:s)
@@ -75,15 +73,15 @@ blocks_of_three = record {
   covers = refl;
 }
 
--- `a[k]` with `t[k]`, and a shadow of one cell on each side
-abbrev pub with_shadow : AlignedDim
-with_shadow = record { target = record { dim = Some 0; offset = pos 0 }; extent = 8; low = 1; high = 1 }
+-- `a[k]` with `t[k]`
+abbrev pub with_k : AlignedDim
+with_k = record { target = record { dim = Some 0; offset = pos 0 }; extent = 8; low = 0; high = 0 }
 
 unfoldable pub map_of_a : ArrayMap
 unfolding blocks_of_three product
 map_of_a = record {
   template = blocks_of_three;
-  aligned = with_shadow ∷ unused ∷ unused ∷ [];
+  aligned = with_k ∷ unused ∷ unused ∷ [];
   dims = 1;
   most = lit≤ tt;
   rest = refl;
@@ -146,7 +144,6 @@ show at = plain.Print (37 ∷ 100 ∷ 10 ∷ []) (expr.Scalar 1 at ∷ []) at
 abbrev pub statements : Place → List Stmt
 statements at =
     stmt.Loop (loop_on at []) (fill at)
-    ∷ stmt.Plain (plain.Reflect (name_a at ∷ []) at)
     ∷ stmt.Plain (plain.Gmove (section_from at 1) (section_from at 0) at)
     ∷ stmt.Loop (loop_on at (sum_of at)) (add at)
     ∷ task_on at 0 (show at)

@@ -32,12 +32,12 @@ pub fn two_images_put_and_get()
         × (phase_accesses (put_and_get at) after_first 1 1 ≡ Get 1 ∷ Put 5 (pos 0) ∷ []) }
 {}
 
-/// An array in blocks over three nodes is filled, reflected, shifted by one cell and summed, and node 0 prints the sum. Node 1 sends a cell to each
-/// neighbour at the reflect, one at the shift, three words at the end of the first loop and four at that of the second to each other node.
+/// An array in blocks over three nodes is filled, shifted by one cell and summed, and node 0 prints the sum. At the shift node 0 sends a word to node
+/// 1, and node 1 one to node 2.
 pub fn an_array_is_shifted_and_summed()
     ensures { (at : Place) → report (shifted at) [] 0
-        ≡ record { words = 6; turns = 6; sent = 22 } ∷ record { words = 7; turns = 6; sent = 17 }
-        ∷ record { words = 5; turns = 4; sent = 15 } ∷ [] }
+        ≡ record { words = 5; turns = 6; sent = 21 } ∷ record { words = 5; turns = 6; sent = 15 }
+        ∷ record { words = 4; turns = 4; sent = 14 } ∷ [] }
 {}
 
 /// An array in blocks over a grid of 2 x 2 nodes is filled, reflected and summed from its second row and column on, and node 0 prints the sum. Each
