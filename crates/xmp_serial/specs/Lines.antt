@@ -1,5 +1,5 @@
 -- Where a store's cells lie, as the interpreter keeps it: a line an array, an axis a dimension.
-use Rattle.std.specs.Prelude.{◌≡◌, ◌<◌, ◌-◌, ◌&&◌, nat_le, nat_lt, ℕ, Bool, false, ℤ, pos, negsuc, ◌+ℤ◌, ◌*ℤ◌, List, [], ◌∷◌, Option, Some, None, if◌then◌else◌}
+use Rattle.std.specs.Prelude.{◌≡◌, ◌<◌, ◌-◌, ◌&&◌, nat_le, nat_lt, ℕ, Bool, false, ℤ, pos, negsuc, ◌+ℤ◌, ◌*ℤ◌, List, [], ◌∷◌, length, Option, Some, None, if◌then◌else◌}
 use Rattle.xmp_map.specs.RowMajor.{product}
 use Rattle.xmp_prog.specs.declared.parts.ProgParts.{ProgParts}
 use Rattle.xmp_prog.specs.declared.parts.Array.{Array}
@@ -8,7 +8,7 @@ use Rattle.xmp_meaning.specs.Runs.{Step}
 use Rattle.xmp_meaning.specs.Layouts as layouts
 use Rattle.xmp_meaning.specs.Layouts.{Layout, Whole, Packed, axes_of, kept, row_length}
 use Rattle.xmp_meaning.specs.Context.{Context}
-use Rattle.xmp_meaning.specs.Calls.{context_with}
+use Rattle.xmp_meaning.specs.Calls.{call_of, context_with}
 use Rattle.xmp_serial.specs.declared.lines.Axis.{Axis}
 use Rattle.xmp_serial.specs.declared.lines.Line.{Line}
 use Rattle.xmp_serial.specs.declared.lines.Reach.{Reach}
@@ -22,6 +22,10 @@ layout_of (Some node) = Packed node
 -- what a run is read against, in a store of this layout
 abbrev pub context_at : ProgParts → Option ℕ → ℕ → List ℕ → (ℕ → List ℤ → ℕ → Step (Unit {0}) ℤ) → Context
 context_at p packed node input call = context_with p (layout_of packed) node input call
+
+-- the same for main, which may call all functions
+abbrev pub context_of : ProgParts → Option ℕ → ℕ → List ℕ → Context
+context_of p packed node input = context_at p packed node input (call_of p node (length p.functions))
 
 -- the position of a subscript
 abbrev pub position_of : Reach → ℕ → ℤ

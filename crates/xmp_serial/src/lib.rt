@@ -2,6 +2,7 @@
 #![tactic(auto)]
 
 mod assign;
+mod beginning;
 mod callee;
 mod calls;
 mod declared;
@@ -14,11 +15,16 @@ mod layout;
 mod lines;
 mod lists;
 mod outcome;
+mod outside;
 mod plain;
 mod program;
 mod rows;
 mod sections;
 mod state;
 
+pub use layout::Layout;
+pub use outside::{Interpreter, step_up};
 pub use program::serial;
+pub use sections::Chosen;
+pub use state::State;
 pub use xmp_meaning::Outcome;
