@@ -1,10 +1,10 @@
 -- A move keeps every node on its own list of states, and every queue on the traffic.
-use Rattle.std.proofs.Common.{◌≡◌, ◌≢◌, ℕ, zero, suc, ◌-◌, ◌<◌, ◌≤◌, true, false, List, [], ◌∷◌, ◌++◌, length, get_or, refl, sym, ap, arith, subst, ◌∙◌, append_assoc, length-append, All, eq-or-lt_of_le, true≢false, inl, inr}
+use Rattle.std.proofs.Common.{◌≡◌, ◌≢◌, ℕ, zero, suc, ◌-◌, ◌<◌, ◌≤◌, true, false, List, [], ◌∷◌, ◌++◌, length, get_or, refl, sym, ap, arith, subst, ◌∙◌, append_assoc, length-append, eq-or-lt_of_le, true≢false, inl, inr}
 use Rattle.std.proofs.Math.ListN.{get_or-append}
 use Rattle.std.proofs.Math.Seq.{get_or-append_seam}
 use Rattle.std.proofs.lemmas.Bool.{cases_eq, cases_lt, cases_Bool, lt-ltb, le-ltb}
-use Rattle.xmp_net.specs.Nodes.{Nodes, World, at, peer, start, ran, received, moved, run}
-use Rattle.xmp_net.specs.Traffic.{Traffic, fed, own, Carries, AllCarry, firsts, took, sent, OnCourse}
+use Rattle.xmp_net.specs.Nodes.{Nodes, World, at, peer, start, ran, received, moved}
+use Rattle.xmp_net.specs.Traffic.{Traffic, fed, own, Carries, firsts, took, sent, OnCourse}
 
 pub at_same : {A : Type 0} → (f : ℕ → A) (k : ℕ) (v : A) (j : ℕ) → j ≡ k → at f k v j ≡ v
 at_same f k v j e = grind arith
@@ -243,13 +243,3 @@ start_course n all = record {
   state = λ k lt. refl;
   queue = λ i k li lk ne. grind arith;
 }
-
--- every schedule
-pub run_course : {S M : Type 0} → (n : Nodes S M) (all : Traffic M) → AllCarry n all → (ks : List ℕ) →
-    All (λ k. k < n.count) ks → (w : World S M) (runs : ℕ → ℕ) → OnCourse n all w runs →
-    (runs' : ℕ → ℕ) × OnCourse n all (run n ks w) runs'
-run_course n all carry [] ok w runs c = (runs, c)
-run_course n all carry (k ∷ ks) ok w runs c =
-    let lt : k < n.count = ok 0 0 (omega arith) in
-    let next = moved_course n all w runs k (carry k lt) c lt in
-    run_course n all carry ks (λ i d li. ok (suc i) d (omega arith)) (moved n w k) next.0 next.1

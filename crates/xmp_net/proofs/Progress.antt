@@ -1,9 +1,9 @@
 -- While not all have ended some node can move, and a step brings the nodes further.
 use Rattle.std.proofs.Common.{◌≡◌, ◌≢◌, ℕ, zero, suc, ◌+◌, ◌-◌, ◌*◌, ◌<◌, ◌≤◌, true, false, List, [], ◌∷◌, ◌++◌, length, refl, sym, ap, arith, subst, ◌∙◌, length-append, eq-or-lt_of_le, le_refl, mul-suc, mul-le-mul_right, true≢false, ◌⊎◌, inl, inr}
 use Rattle.std.proofs.lemmas.Bool.{cases_eq, cases_lt, cases_Bool, lt-ltb, le-ltb}
-use Rattle.xmp_net.specs.Nodes.{Nodes, World, Stepped, NotYet, AlreadyEnded, at, peer, ran, received, moved, found, answer}
-use Rattle.xmp_net.specs.Traffic.{Traffic, own, Carries, AllCarry, firsts, took, sent, OnCourse, AllEnded}
-use Rattle.xmp_net.specs.Orders.{most_steps}
+use Rattle.xmp_orders.specs.Movers.{Stepped, NotYet, AlreadyEnded, AllEnded}
+use Rattle.xmp_net.specs.Nodes.{Nodes, World, at, peer, ran, received, moved, found, answer, movers}
+use Rattle.xmp_net.specs.Traffic.{Traffic, own, Carries, AllCarry, firsts, took, sent, OnCourse, most_steps}
 use Rattle.xmp_net.proofs.Course.{at_same, at_other, fed_peer, length_firsts, took_more, ran_course, receive_course}
 
 -- the least of some numbers
@@ -84,7 +84,7 @@ least_found n all w runs k c lt waits early fewest (m ∷ rest) e = refl
 -- While not all have ended, some node can move.
 some_node : {S M : Type 0} → (n : Nodes S M) (all : Traffic M) → AllCarry n all → (w : World S M) (runs : ℕ → ℕ) →
     OnCourse n all w runs → 0 < n.count →
-    AllEnded n w ⊎ ((k : ℕ) × (k < n.count) × (answer n w k ≡ Stepped))
+    AllEnded (movers n) w ⊎ ((k : ℕ) × (k < n.count) × (answer n w k ≡ Stepped))
 some_node n all carry w runs c some =
     let l = least runs (n.count - 1) in
     let k : ℕ = l.0 in
@@ -107,7 +107,7 @@ some_node n all carry w runs c some =
 
 pub some_moves : {S M : Type 0} → (n : Nodes S M) (all : Traffic M) → AllCarry n all → (w : World S M) (runs : ℕ → ℕ) →
     OnCourse n all w runs →
-    AllEnded n w ⊎ ((k : ℕ) × (k < n.count) × (answer n w k ≡ Stepped))
+    AllEnded (movers n) w ⊎ ((k : ℕ) × (k < n.count) × (answer n w k ≡ Stepped))
 some_moves n all carry w runs c = elim (cases_lt 0 n.count) [
   | inl some ↦ some_node n all carry w runs c some
   | inr none ↦ inl (λ k lt. absurd (omega arith))
@@ -122,7 +122,7 @@ took_all ex k i ne = grind arith
 
 -- the end of every run that ends
 pub one_end : {S M : Type 0} → (n : Nodes S M) (all : Traffic M) → AllCarry n all → (w : World S M) (runs : ℕ → ℕ) →
-    OnCourse n all w runs → AllEnded n w →
+    OnCourse n all w runs → AllEnded (movers n) w →
     ((k : ℕ) → k < n.count → w.state k ≡ own n all k (suc all.exchanges) 0) × ((k : ℕ) → k < n.count → w.next k ≡ peer k 0) × ((i k : ℕ) → i < n.count → k < n.count → i ≢ k → w.queue i k ≡ [])
 one_end n all carry w runs c ended = (
   (λ k lt.

@@ -1,6 +1,7 @@
 -- Nodes that exchange messages (this project, after the message passing of XcalableMP 1.4): the world that they stand
 -- in, and its moves.
 use Rattle.std.specs.Prelude.{ℕ, suc, Bool, not, ◌&&◌, ◌==◌, nat_lt, if◌then◌else◌, List, [], ◌∷◌, ◌++◌}
+use Rattle.xmp_orders.specs.Movers.{Moved, Movers, Stepped, NotYet, AlreadyEnded}
 
 -- Programs of some nodes. Each runs from stop to stop: a stop is an exchange or the end.
 pub record Nodes (S M : Type 0) : Type 0 where
@@ -16,12 +17,6 @@ pub record World (S M : Type 0) : Type 0 where
   pub state : ℕ → S
   pub next : ℕ → ℕ  -- the least peer whose message a node still awaits; `count` where it awaits none
   pub queue : ℕ → ℕ → List M  -- from, to
-
--- what one move came to
-pub data Moved : Type 0 where
-  Stepped : Moved
-  NotYet : Moved
-  AlreadyEnded : Moved
 
 -- f, with v at k
 abbrev pub at : {A : Type 0} → (ℕ → A) → ℕ → A → ℕ → A
@@ -74,7 +69,6 @@ answer n w k =
     then AlreadyEnded
     else (if nat_lt (w.next k) n.count then found (w.queue (w.next k) k) else Stepped)
 
--- a run: the chosen nodes move in turn
-abbrev pub run : {S M : Type 0} → Nodes S M → List ℕ → World S M → World S M
-run n [] w = w
-run n (k ∷ ks) w = run n ks (moved n w k)
+-- the nodes, as things that move one at a time
+abbrev pub movers : {S M : Type 0} → Nodes S M → Movers (World S M)
+movers n = record { count = n.count; moved = moved n; answer = answer n }

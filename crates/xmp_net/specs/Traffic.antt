@@ -1,6 +1,6 @@
 -- The messages of a whole run, and nodes that send just these (this project).
-use Rattle.std.specs.Prelude.{◌≡◌, ◌≢◌, ℕ, zero, suc, ◌-◌, ◌<◌, ◌≤◌, min, true, false, ◌==◌, nat_lt, if◌then◌else◌, List, [], ◌∷◌, ◌++◌, All}
-use Rattle.xmp_net.specs.Nodes.{Nodes, World, answer, AlreadyEnded, peer}
+use Rattle.std.specs.Prelude.{◌≡◌, ◌≢◌, ℕ, zero, suc, ◌+◌, ◌-◌, ◌*◌, ◌<◌, ◌≤◌, min, true, false, ◌==◌, nat_lt, if◌then◌else◌, List, [], ◌∷◌, ◌++◌}
+use Rattle.xmp_net.specs.Nodes.{Nodes, World, peer}
 
 -- The messages of a whole run: at exchange t, from i to j.
 pub record Traffic (M : Type 0) : Type 0 where
@@ -54,13 +54,9 @@ pub record OnCourse {S M : Type 0} (n : Nodes S M) (all : Traffic M) (w : World 
       firsts (λ t. all.message t i k) (took all.exchanges (runs k) (w.next k) i) ++ w.queue i k
       ≡ firsts (λ t. all.message t i k) (sent all.exchanges (runs i))
 
--- no node has a move left
-abbrev pub AllEnded : {S M : Type 0} → Nodes S M → World S M → Type 0
-AllEnded n w = (k : ℕ) → k < n.count → answer n w k ≡ AlreadyEnded
-
--- each chosen number is a node
-abbrev pub AreNodes : {S M : Type 0} → Nodes S M → List ℕ → Type 0
-AreNodes n ks = All (λ k. k < n.count) ks
+-- a bound of the steps of nodes that carry a traffic
+abbrev pub most_steps : {S M : Type 0} → Nodes S M → Traffic M → ℕ
+most_steps n all = n.count * (suc all.exchanges * suc n.count + n.count)
 
 -- two worlds agree on all nodes and on all queues between two nodes
 pub record IsSameWorld {S M : Type 0} (n : Nodes S M) (w v : World S M) : Type 0 where

@@ -9,5 +9,3 @@ pub mod Progress
 pub mod Plays
 pub mod Walkers
 pub mod RoundRobin
-pub mod Rounds
-pub mod Loops

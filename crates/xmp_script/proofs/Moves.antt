@@ -3,9 +3,10 @@ use Rattle.std.proofs.Common.{◌≡◌, ◌≢◌, ℕ, zero, suc, ◌+◌, ◌
 use Rattle.std.proofs.lemmas.Bool.{cases_eq, cases_lt, cases_Bool, lt-ltb, le-ltb}
 use Rattle.xmp_script.specs.Script.{Access, Script, at}
 use Rattle.xmp_script.specs.World.{World, accessed, has_arrived, passed, Reached}
-use Rattle.xmp_script.specs.Images.{Images, Standing, Stand, AtAccess, AtSync, AtEnd, Stepped, NotYet, AlreadyEnded, peer, does, takes, moved, found, answer}
+use Rattle.xmp_orders.specs.Movers.{Stepped, NotYet, AlreadyEnded}
+use Rattle.xmp_script.specs.Images.{Images, Standing, Stand, AtAccess, AtSync, AtEnd, peer, does, takes, moved, found, answer}
 use Rattle.xmp_script.specs.Carries.{own, AllCarry}
-use Rattle.xmp_script.specs.Orders.{sum_below, moves_below}
+use Rattle.xmp_script.specs.Bounds.{sum_below, moves_below}
 use Rattle.xmp_script.proofs.Words.{at_same, at_other}
 use Rattle.xmp_script.proofs.Course.{Course, SameRow, runs, at_own, waits, access_course}
 use Rattle.xmp_script.proofs.Syncs.{sync_course, alone_course, end_course}

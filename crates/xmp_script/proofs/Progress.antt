@@ -1,14 +1,15 @@
 -- While not all images have ended some image can move, and where all have, they stand in one way.
-use Rattle.std.proofs.Common.{◌≡◌, ◌≢◌, ℕ, zero, suc, ◌-◌, ◌<◌, ◌≤◌, Bool, true, false, ◌||◌, nat_lt, List, [], ◌∷◌, length, slice_get, Option, Some, None, refl, sym, ap, ◌∙◌, subst, arith, true≢false, eq-or-lt_of_le, le_refl, ◌⊎◌, inl, inr}
+use Rattle.std.proofs.Common.{◌≡◌, ◌≢◌, ℕ, zero, suc, ◌-◌, ◌<◌, ◌≤◌, Bool, true, false, ◌||◌, nat_lt, length, slice_get, Option, Some, None, refl, sym, ap, ◌∙◌, subst, arith, true≢false, eq-or-lt_of_le, le_refl, ◌⊎◌, inl, inr}
 use Rattle.std.proofs.lemmas.Bool.{cases_lt, cases_Bool, lt-ltb, le-ltb}
 use Rattle.xmp_script.specs.Script.{Access, Get, Script, seen, words_at}
 use Rattle.xmp_script.specs.World.{World, start, MayAccess, arrivals, Reached}
-use Rattle.xmp_script.specs.Images.{Images, Standing, AtAccess, AtSync, AtEnd, Moved, Stepped, NotYet, AlreadyEnded, begun, found, moved, answer, run}
-use Rattle.xmp_script.specs.Carries.{own, AllCarry, AllEnded, AreImages, StandsAs}
-use Rattle.xmp_script.specs.Orders.{moves_below, most_steps}
+use Rattle.xmp_orders.specs.Movers.{Stepped, AlreadyEnded, AllEnded}
+use Rattle.xmp_script.specs.Images.{Images, Standing, AtAccess, AtSync, AtEnd, begun, found, answer, movers}
+use Rattle.xmp_script.specs.Carries.{own, AllCarry, StandsAs}
+use Rattle.xmp_script.specs.Bounds.{moves_below, most_steps}
 use Rattle.xmp_script.proofs.Orders.{gets_see, done_words}
 use Rattle.xmp_script.proofs.Course.{Stands, Course, puts, puts_in, puts_out, took_out, took_not, runs, waits, at_stop}
-use Rattle.xmp_script.proofs.Moves.{far_of, effort, sum_most, get_none, stand_is, answer_ended, answer_runs, answer_waits, stepped, stays}
+use Rattle.xmp_script.proofs.Moves.{far_of, effort, sum_most, get_none, stand_is, answer_ended, answer_runs, answer_waits}
 
 -- ---- the beginning
 
@@ -29,27 +30,6 @@ begun_course im s carry = record {
   };
   queue = λ i k li lk ne. rw (took_out s.images 0 s.images i (le_refl s.images), puts_out s.images 0 s.images (le_refl s.images)) refl;
 }
-
--- ---- every run
-
-pub is_step : (a : Moved) → (a ≡ Stepped) ⊎ (a ≢ Stepped)
-is_step Stepped = inl refl
-is_step NotYet = inr (λ e. cc)
-is_step AlreadyEnded = inr (λ e. cc)
-
-pub run_course : {S V : Type 0} (im : Images S V) (s : Script V) → AllCarry im s → (ks : List ℕ) →
-    AreImages s.images ks → (v : Standing S V) (w : World V) → Reached s w → Course im s v w →
-    (z : World V) × Reached s z × Course im s (run im s.images ks v) z
-run_course im s carry [] ok v w r c = (w, r, c)
-run_course {S} {V} im s carry (k ∷ ks) ok v w r c =
-    let lk : k < s.images = ok 0 0 (omega arith) in
-    let rest : AreImages s.images ks = λ i d li. ok (suc i) d (omega arith) in
-    elim (is_step (answer s.images v k)) [
-      | inl step ↦ let m = stepped im s carry v w r c k lk step in run_course im s carry ks rest (moved im s.images v k) m.0 m.1.reached m.1.course
-      | inr none ↦
-          let P : Standing S V → Type 0 = λ u. (z : World V) × Reached s z × Course im s (run im s.images ks u) z in
-          subst P (sym (stays im s.images v k none)) (run_course im s carry ks rest v w r c)
-    ]
 
 -- ---- what stands
 
@@ -205,7 +185,7 @@ least_found im s v w c k lk waiting fewest =
 -- While not all have ended, some image can move.
 pub some_moves : {S V : Type 0} (im : Images S V) (s : Script V) → AllCarry im s → (v : Standing S V) (w : World V) →
     Course im s v w →
-    AllEnded s.images v ⊎ ((k : ℕ) × (k < s.images) × (answer s.images v k ≡ Stepped))
+    AllEnded (movers im s.images) v ⊎ ((k : ℕ) × (k < s.images) × (answer s.images v k ≡ Stepped))
 some_moves im s carry v w c =
     let some = carry.images in
     let l = least (arrivals w) (s.images - 1) in
@@ -278,7 +258,7 @@ pub record AtTheEnd {S V : Type 0} (im : Images S V) (s : Script V) (v : Standin
   pub queue : (i k : ℕ) → i < s.images → k < s.images → i ≢ k → v.queue i k ≡ 0
 
 pub at_the_end : {S V : Type 0} (im : Images S V) (s : Script V) → AllCarry im s → (v : Standing S V) (w : World V) →
-    Reached s w → Course im s v w → AllEnded s.images v → AtTheEnd im s v
+    Reached s w → Course im s v w → AllEnded (movers im s.images) v → AtTheEnd im s v
 at_the_end im s carry v w r c all =
     let over : (k : ℕ) → k < s.images → v.ended k ≡ true = λ k lk. ended_over s.images v k (all k lk) in
     let end : (k : ℕ) → k < s.images → suc (w.phase k) ≡ s.phases = λ k lk. ((c.each k lk).last (over k lk)).0 in

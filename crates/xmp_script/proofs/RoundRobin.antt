@@ -1,9 +1,9 @@
 -- The script of the example is free of conflicts, and its images carry it.
 use Rattle.std.proofs.Common.{◌≡◌, ℕ, zero, suc, ◌<◌, [], ◌∷◌, length, slice_get, Some, None, refl, sym, ap, ◌∙◌, subst, arith}
 use Rattle.xmp_script.specs.Script.{Access, Get, Put, IsPutTo, IsTo, IsFree}
-use Rattle.xmp_script.specs.Images.{AtAccess, AtSync, AtEnd, AlreadyEnded, answer}
+use Rattle.xmp_script.specs.Images.{AtAccess, AtSync, AtEnd, answer}
 use Rattle.xmp_script.specs.Carries.{own, AllCarry}
-use Rattle.xmp_script.specs.Orders.{rounds}
+use Rattle.xmp_orders.specs.Movers.{AlreadyEnded, rounds}
 use Rattle.xmp_script.specs.Laws.{played}
 use Rattle.xmp_script.specs.Examples.{neighbour, handed, round_robin, keepers}
 use Rattle.xmp_script.proofs.Words.{some_inj}

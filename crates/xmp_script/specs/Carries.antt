@@ -1,8 +1,8 @@
 -- Images that make the accesses of a script (this project).
-use Rattle.std.specs.Prelude.{◌≡◌, ◌≢◌, ℕ, zero, suc, ◌<◌, ◌≤◌, true, false, if◌then◌else◌, List, length, slice_get, Option, Some, None, All, ◌⊎◌}
+use Rattle.std.specs.Prelude.{◌≡◌, ◌≢◌, ℕ, zero, suc, ◌<◌, ◌≤◌, true, false, if◌then◌else◌, length, slice_get, Option, Some, None, ◌⊎◌}
 use Rattle.xmp_script.specs.Script.{Access, Get, Script, IsFree, seen}
 use Rattle.xmp_script.specs.World.{World}
-use Rattle.xmp_script.specs.Images.{Images, Standing, AtAccess, AtSync, AtEnd, AlreadyEnded, behind, answer}
+use Rattle.xmp_script.specs.Images.{Images, Standing, AtAccess, AtSync, AtEnd, behind}
 
 -- the state behind the next access, where there is one
 abbrev pub onward : {S V : Type 0} → Images S V → (ℕ → V) → Option (Access V) → S → S
@@ -48,14 +48,6 @@ pub record StandsAs {S V : Type 0} (im : Images S V) (s : Script V) (v : Standin
   pub running : (k : ℕ) → k < s.images → w.arrived k ≡ false → (v.ended k ≡ false) × (s.images ≤ v.next k)
   pub gets : (k e : ℕ) → k < s.images → w.arrived k ≡ false → im.stands (im.go (v.state k)) ≡ AtAccess (Get e) →
       v.words e ≡ seen s k (w.phase k) (w.place k) e
-
--- no image has a move left
-abbrev pub AllEnded : {S V : Type 0} → ℕ → Standing S V → Type 0
-AllEnded images v = (k : ℕ) → k < images → answer images v k ≡ AlreadyEnded
-
--- each chosen number is an image
-abbrev pub AreImages : ℕ → List ℕ → Type 0
-AreImages images ks = All (λ k. k < images) ks
 
 -- the same words, the same images, and the same queues between two of them
 pub record IsSameStanding {S V : Type 0} (images : ℕ) (v u : Standing S V) : Type 0 where

@@ -1,9 +1,11 @@
 -- Three images, of which each writes its number to the word of the next, and reads its own behind a sync (this
 -- project).
-use Rattle.std.specs.Prelude.{◌≡◌, ℕ, zero, suc, ◌≤◌, ◌==◌, if◌then◌else◌, List, [], ◌∷◌}
+use Rattle.std.specs.Prelude.{◌≡◌, ℕ, zero, suc, ◌+◌, ◌%◌, ◌≤◌, ◌==◌, if◌then◌else◌, List, [], ◌∷◌}
 use Rattle.std.proofs.Common.{refl, arith}
+use Rattle.xmp_orders.specs.Choices.{Choice, first_able}
 use Rattle.xmp_script.specs.Script.{Access, Get, Put, Script}
-use Rattle.xmp_script.specs.Images.{Images, Stand, AtAccess, AtSync, AtEnd}
+use Rattle.xmp_script.specs.Images.{Images, Stand, AtAccess, AtSync, AtEnd, Standing}
+use Rattle.xmp_script.specs.Laws.{movers_of}
 
 -- the image behind image k, counted round
 abbrev pub neighbour : ℕ → ℕ
@@ -44,3 +46,7 @@ keepers = record {
   answer = λ x v. record x { stops = suc x.stops; value = v };
   pass = λ x. record x { stops = suc x.stops };
 }
+
+-- the first that can move, from each of them on in turn
+abbrev pub in_turn : Choice (Standing Keeper ℕ)
+in_turn = first_able (movers_of keepers round_robin) (λ x. x % 3) (λ x. x + 1)

@@ -1,6 +1,7 @@
 -- Images that run by themselves and share words (this project, after the coarrays of XcalableMP 1.4). At a sync an
 -- image puts an empty message to each other image, and takes one of each, in the order of their numbers.
-use Rattle.std.specs.Prelude.{ℕ, zero, suc, Bool, true, false, not, ◌&&◌, ◌==◌, nat_lt, if◌then◌else◌, List, [], ◌∷◌}
+use Rattle.std.specs.Prelude.{ℕ, zero, suc, Bool, true, false, not, ◌&&◌, ◌==◌, nat_lt, if◌then◌else◌}
+use Rattle.xmp_orders.specs.Movers.{Moved, Movers, Stepped, NotYet, AlreadyEnded}
 use Rattle.xmp_script.specs.Script.{Access, Get, Put, at, after}
 
 -- what an image stands at
@@ -25,12 +26,6 @@ pub record Standing (S V : Type 0) : Type 0 where
   pub next : ℕ → ℕ  -- in a sync, the least image whose message is still awaited; else the number of images
   pub ended : ℕ → Bool
   pub queue : ℕ → ℕ → ℕ  -- from, to: how many messages
-
--- what one move came to
-pub data Moved : Type 0 where
-  Stepped : Moved
-  NotYet : Moved
-  AlreadyEnded : Moved
 
 -- the least image other than k from i on
 abbrev pub peer : ℕ → ℕ → ℕ
@@ -71,13 +66,18 @@ takes im images v k (suc rest) =
       queue = λ i j. if (i == v.next k) && (j == k) then rest else v.queue i j;
     }
 
+-- image k runs to its next access, sync or end, and does that
+abbrev pub goes : {S V : Type 0} → Images S V → ℕ → Standing S V → ℕ → Standing S V
+goes im images v k =
+    let x = im.go (v.state k) in
+    does im images v k x (im.stands x)
+
 -- one move of image k
 abbrev pub moved : {S V : Type 0} → Images S V → ℕ → Standing S V → ℕ → Standing S V
 moved im images v k =
-    let x = im.go (v.state k) in
     if v.ended k
     then v
-    else (if nat_lt (v.next k) images then takes im images v k (v.queue (v.next k) k) else does im images v k x (im.stands x))
+    else (if nat_lt (v.next k) images then takes im images v k (v.queue (v.next k) k) else goes im images v k)
 
 -- whether a message was there
 abbrev pub found : ℕ → Moved
@@ -91,7 +91,6 @@ answer images v k =
     then AlreadyEnded
     else (if nat_lt (v.next k) images then found (v.queue (v.next k) k) else Stepped)
 
--- a run: the chosen images move in turn
-abbrev pub run : {S V : Type 0} → Images S V → ℕ → List ℕ → Standing S V → Standing S V
-run im images [] v = v
-run im images (k ∷ ks) v = run im images ks (moved im images v k)
+-- so many images, as things that move one at a time
+abbrev pub movers : {S V : Type 0} → Images S V → ℕ → Movers (Standing S V)
+movers im images = record { count = images; moved = moved im images; answer = answer images }

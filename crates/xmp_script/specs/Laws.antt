@@ -1,11 +1,13 @@
 -- What holds of a script without conflicts, and of images that carry it, in every order of their steps.
-use Rattle.std.specs.Prelude.{◌≡◌, ◌≢◌, ℕ, suc, ◌<◌, ◌≤◌, List, length, ◌⊎◌}
+use Rattle.std.specs.Prelude.{◌≡◌, ◌≢◌, ℕ, suc, ◌<◌, List, length}
+use Rattle.xmp_orders.specs.Movers.{Movers, run, AreMovers, AllEnded}
+use Rattle.xmp_orders.specs.Progress.{AllEndFrom}
 use Rattle.xmp_script.specs.Script.{Script, Get, seen, words_at}
 use Rattle.xmp_script.specs.World.{World, Reached, MayAccess}
 use Rattle.xmp_script.specs.LastPuts.{IsSeen}
-use Rattle.xmp_script.specs.Images.{Images, Standing, Stepped, begun, answer, run}
-use Rattle.xmp_script.specs.Carries.{own, StandsAs, AllEnded, AreImages, IsSameStanding}
-use Rattle.xmp_script.specs.Orders.{rounds, AllStep, most_steps, Choice, PicksSteps, picked, first_able}
+use Rattle.xmp_script.specs.Images.{Images, Standing, begun, movers}
+use Rattle.xmp_script.specs.Carries.{own, StandsAs, IsSameStanding}
+use Rattle.xmp_script.specs.Bounds.{most_steps}
 
 -- in every order a get finds what its image sees
 abbrev pub GetsSee : {V : Type 0} → Script V → Type 0
@@ -26,31 +28,28 @@ SeesLastPut {V} s =
 
 -- ---- images that carry a script
 
+-- the images of a script, as things that move
+abbrev pub movers_of : {S V : Type 0} → Images S V → Script V → Movers (Standing S V)
+movers_of im s = movers im s.images
+
+-- the images before any move
+abbrev pub begun_of : {S V : Type 0} → Images S V → Script V → Standing S V
+begun_of im s = begun im s.images s.start
+
 -- the images when these have moved in turn
 abbrev pub played : {S V : Type 0} → Images S V → Script V → List ℕ → Standing S V
-played im s ks = run im s.images ks (begun im s.images s.start)
+played im s ks = run (movers_of im s) ks (begun_of im s)
 
 -- every run is a run of the script's steps
 abbrev pub StepsAreTheScripts : {S V : Type 0} → Images S V → Script V → Type 0
 StepsAreTheScripts {S} {V} im s =
-    (ks : List ℕ) → AreImages s.images ks → (w : World V) × Reached s w × StandsAs im s (played im s ks) w
-
--- all have ended or some image can move
-abbrev pub SomeCanMove : {S V : Type 0} → Images S V → Script V → Type 0
-SomeCanMove im s = (ks : List ℕ) → AreImages s.images ks →
-    AllEnded s.images (played im s ks) ⊎ ((k : ℕ) × (k < s.images) × (answer s.images (played im s ks) k ≡ Stepped))
-
--- no run makes more steps than that
-abbrev pub FewSteps : {S V : Type 0} → Images S V → Script V → Type 0
-FewSteps im s =
-    (ks : List ℕ) → AreImages s.images ks → AllStep im s.images ks (begun im s.images s.start) →
-    length ks ≤ most_steps s
+    (ks : List ℕ) → AreMovers (movers_of im s) ks → (w : World V) × Reached s w × StandsAs im s (played im s ks) w
 
 -- two runs in which all end leave the same
 abbrev pub OneEnd : {S V : Type 0} → Images S V → Script V → Type 0
 OneEnd im s =
-    (ks ls : List ℕ) → AreImages s.images ks → AreImages s.images ls → AllEnded s.images (played im s ks) →
-    AllEnded s.images (played im s ls) →
+    (ks ls : List ℕ) → AreMovers (movers_of im s) ks → AreMovers (movers_of im s) ls →
+    AllEnded (movers_of im s) (played im s ks) → AllEnded (movers_of im s) (played im s ls) →
     IsSameStanding s.images (played im s ks) (played im s ls)
 
 -- that is the script's final words, each image at the end of its own list, and no message
@@ -59,38 +58,14 @@ pub record Ends {S V : Type 0} (im : Images S V) (s : Script V) (v : Standing S 
   pub state : (q k : ℕ) → suc q ≡ s.phases → k < s.images → v.state k ≡ im.go (own im s k q (length (s.accesses q k)))
   pub empty : (i k : ℕ) → i < s.images → k < s.images → i ≢ k → v.queue i k ≡ 0
 
+-- where all have ended
 abbrev pub EndsAsTheScript : {S V : Type 0} → Images S V → Script V → Type 0
 EndsAsTheScript im s =
-    (ks : List ℕ) → AreImages s.images ks → AllEnded s.images (played im s ks) → Ends im s (played im s ks)
-
--- lockstep comes to the end of all
-abbrev pub LockstepEnds : {S V : Type 0} → Images S V → Script V → Type 0
-LockstepEnds im s = (d : ℕ) × (d ≤ most_steps s) × AllEnded s.images (played im s (rounds s.images d))
-
--- these images are picked by a choice, each of them moves, and then all have ended
-pub record EndsBy {S V : Type 0} (im : Images S V) (s : Script V) (c : Choice S V) (x : ℕ) (ks : List ℕ) : Type 0 where
-  pub images : AreImages s.images ks
-  pub picked : picked im s.images c (length ks) x (begun im s.images s.start) ≡ ks
-  pub steps : AllStep im s.images ks (begun im s.images s.start)
-  pub few : length ks ≤ most_steps s
-  pub ended : AllEnded s.images (played im s ks)
-
--- every choice of images that can move comes to the end of all, from every number
-abbrev pub ChoicesEnd : {S V : Type 0} → Images S V → Script V → Type 0
-ChoicesEnd {S} {V} im s = (c : Choice S V) → PicksSteps s.images c → (x : ℕ) → (ks : List ℕ) × EndsBy im s c x ks
-
--- the first image that can move, counted upwards and round from anywhere, is such a choice
-abbrev pub FirstsPickSteps : Type 0 → Type 0 → Type 0
-FirstsPickSteps S V =
-    (images : ℕ) (from onward : ℕ → ℕ) → ((x : ℕ) → from x < images) →
-    PicksSteps {S = S} {V = V} images (first_able images from onward)
+    (ks : List ℕ) → AreMovers (movers_of im s) ks → AllEnded (movers_of im s) (played im s ks) → Ends im s (played im s ks)
 
 -- What holds of images that carry a script, in every order of their moves.
 pub record InEveryOrder {S V : Type 0} (im : Images S V) (s : Script V) : Type 0 where
   pub steps : StepsAreTheScripts im s
-  pub moves : SomeCanMove im s
-  pub few : FewSteps im s
+  pub orders : AllEndFrom (movers_of im s) (most_steps s) (begun_of im s)
   pub one : OneEnd im s
   pub last : EndsAsTheScript im s
-  pub lockstep : LockstepEnds im s
-  pub chosen : ChoicesEnd im s

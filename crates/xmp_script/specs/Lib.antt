@@ -3,7 +3,7 @@ pub mod World
 pub mod LastPuts
 pub mod Images
 pub mod Carries
-pub mod Orders
+pub mod Bounds
 pub mod Walkers
 pub mod Laws
 pub mod Examples

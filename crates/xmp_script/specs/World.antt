@@ -16,7 +16,8 @@ start s = record { words = s.start; phase = λ k. 0; place = λ k. 0; arrived = 
 
 -- the next access of image k is this one
 abbrev pub MayAccess : {V : Type 0} → Script V → World V → ℕ → Access V → Type 0
-MayAccess s w k a = (w.phase k < s.phases) × (w.arrived k ≡ false) × (slice_get (s.accesses (w.phase k) k) (w.place k) ≡ Some a)
+MayAccess s w k a =
+    (w.phase k < s.phases) × (w.arrived k ≡ false) × (slice_get (s.accesses (w.phase k) k) (w.place k) ≡ Some a)
 
 -- image k has made its accesses of one of the script's phases
 abbrev pub MayArrive : {V : Type 0} → Script V → World V → ℕ → Type 0

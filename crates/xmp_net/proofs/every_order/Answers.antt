@@ -1,5 +1,4 @@
-use Rattle.xmp_net.proofs.Orders.{on_course, moves_on, few_steps, same_end, ends_own, ends_empty, lockstep_ends, choices_end}
-use Rattle.xmp_net.proofs.Rounds.{firsts_pick}
+use Rattle.xmp_net.proofs.Orders.{on_course, in_every_order, same_end, ends_own, ends_empty}
 use Rattle.xmp_net.proofs.OneTraffic as unique
 use Rattle.xmp_net.proofs.Tables as tables
 use Rattle.xmp_net.proofs.every_order.Goals as goal
@@ -7,14 +6,10 @@ use Rattle.xmp_net.proofs.every_order.Goals as goal
 pub returns : goal.returns
 returns g c = record {
   course = on_course;
-  moves = moves_on;
-  few = few_steps;
+  orders = in_every_order;
   one = same_end;
   ends = ends_own;
   empty = ends_empty;
-  lockstep = lockstep_ends;
-  chosen = choices_end;
-  ordered = firsts_pick;
   one_traffic = unique.one_traffic;
   table = tables.tabled;
   one_table = tables.one_table;

@@ -1,7 +1,6 @@
 use Rattle.xmp_script.proofs.Orders.{gets_see, last_words}
 use Rattle.xmp_script.proofs.LastPuts.{sees_last_put}
 use Rattle.xmp_script.proofs.Plays.{in_every_order}
-use Rattle.xmp_script.proofs.Rounds.{firsts_pick}
 use Rattle.xmp_script.proofs.Walkers.{walkers_carry}
 use Rattle.xmp_script.specs.Walkers.{walkers}
 use Rattle.xmp_script.proofs.every_order.Goals as goal
@@ -13,5 +12,4 @@ returns g c = record {
   one_seen = sees_last_put;
   synced = λ s free images phases. in_every_order (walkers s) s (walkers_carry s free images phases);
   played = in_every_order;
-  ordered = firsts_pick;
 }

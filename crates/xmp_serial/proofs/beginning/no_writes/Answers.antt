@@ -3,7 +3,7 @@ use Rattle.std.proofs.lemmas.List.{take_all}
 use Rattle.xmp_serial.specs.declared.lines.Line.{Line}
 use Rattle.xmp_serial.specs.Lines.{layout_of}
 use Rattle.xmp_serial.proofs.Laid.{rows_at_first}
-use Rattle.xmp_serial.proofs.program.no_writes.Goals as goal
+use Rattle.xmp_serial.proofs.beginning.no_writes.Goals as goal
 
 pub returns : goal.returns
 returns c =
