@@ -7,7 +7,7 @@ use Rattle.xmp_base.specs.declared.refusal.Refusal.{Refusal}
 use Rattle.xmp_syntax.specs.declared.program.Tree.{Tree}
 use Rattle.xmp_prog.specs.declared.parts.ProgParts.{ProgParts}
 use Rattle.xmp_source.specs.Source.{IsTreeOf, IsSourceFault}
-use Rattle.xmp_elab.specs.Verdict.{IsFaultOf}
+use Rattle.xmp_parts.specs.Verdict.{IsFaultOf}
 use Rattle.xmp_drive.specs.Verdict.{IsRefused, in_source, in_tree, IsTreeFault, IsVerdictFault}
 
 pub err_map : {A E : Type 0} {P Q : E → Type 0} (r : Result A E) → ((e : E) → P e → Q e) → IfErr r P → IfErr r Q

@@ -18,8 +18,8 @@ use Rattle.xmp_names.specs.declared.world.World.{World}
 use Rattle.xmp_names.specs.Walk.{Step, Gave}
 use Rattle.xmp_mapping_rules.specs.MappingRules.{align_of}
 use Rattle.xmp_walk.specs.Program.{program_of}
-use Rattle.xmp_elab.specs.Parts.{EachMade, IsAligned, IsArray, IsHome, IsParts, MadeAfter}
-use Rattle.xmp_elab.specs.Verdict.{IsVerdict, world_after}
+use Rattle.xmp_parts.specs.Parts.{EachMade, IsAligned, IsArray, IsHome, IsParts, MadeAfter}
+use Rattle.xmp_parts.specs.Verdict.{IsVerdict, world_after}
 use Rattle.xmp_drive.specs.Verdict.{arrays_of, coarray_refusal, first_coarray, IsTreeVerdict}
 
 -- a home that is no image's own is that of no coarray

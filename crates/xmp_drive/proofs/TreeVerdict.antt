@@ -3,8 +3,8 @@ use Rattle.std.proofs.Common.{◌≡◌, ◌∙◌, sym, ap, ℕ, inl, inr}
 use Rattle.std.specs.Prelude.{Option, Some, None}
 use Rattle.xmp_base.specs.declared.refusal.Refusal.{Refusal}
 use Rattle.xmp_syntax.specs.declared.program.Tree.{Tree}
-use Rattle.xmp_elab.specs.Verdict.{verdict}
-use Rattle.xmp_elab.proofs.VerdictLaws.{verdict_alone}
+use Rattle.xmp_parts.specs.Verdict.{verdict}
+use Rattle.xmp_parts.proofs.VerdictLaws.{verdict_alone}
 use Rattle.xmp_drive.specs.Verdict.{coarray_verdict, IsTreeVerdict}
 
 -- a later phase is looked at only where no rule breaks before it

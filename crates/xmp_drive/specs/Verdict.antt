@@ -11,8 +11,8 @@ use Rattle.xmp_prog.specs.declared.parts.ProgParts.{ProgParts}
 use Rattle.xmp_source.specs.Source.{IsTreeOf, Breaks}
 use Rattle.xmp_names.specs.declared.names.Array.{Array}
 use Rattle.xmp_walk.specs.Program.{program_of}
-use Rattle.xmp_elab.specs.Verdict.{IsVerdict, world_after}
-use Rattle.xmp_elab.specs.Parts.{IsParts}
+use Rattle.xmp_parts.specs.Verdict.{IsVerdict, world_after}
+use Rattle.xmp_parts.specs.Parts.{IsParts}
 
 -- ---- coarrays: as yet a program that declares one is refused, by the rule 9, at the name of its first
 

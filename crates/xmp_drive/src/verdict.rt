@@ -4,9 +4,9 @@ ghost use Rattle.xmp_base.specs.declared.refusal.Refusal.{Refusal};
 ghost use Rattle.xmp_base.specs.declared.refusal.Fault.TheVariants as fault;
 ghost use Rattle.xmp_prog.specs.declared.parts.ProgParts.{ProgParts};
 ghost use Rattle.xmp_prog.specs.declared.parts.Kind.TheVariants.{Global};
-ghost use Rattle.xmp_elab.specs.Narrow.{is_count};
-ghost use Rattle.xmp_elab.specs.Parts.{IsParts};
-ghost use Rattle.xmp_elab.specs.Verdict.{IsVerdict};
+ghost use Rattle.xmp_parts.specs.Narrow.{is_count};
+ghost use Rattle.xmp_parts.specs.Parts.{IsParts};
+ghost use Rattle.xmp_parts.specs.Verdict.{IsVerdict};
 ghost use Rattle.xmp_fits.specs.NumbersLie.{tree_lies};
 ghost use Rattle.xmp_drive.specs.Verdict.{IsAccepted, IsRefused, IsTreeFault, IsTreeVerdict, IsVerdictFault, arrays_of, first_coarray};
 
@@ -15,10 +15,10 @@ use crate::coarrays::coarray_of;
 use crate::laws::{never_accepted_and_refused, one_refusal};
 use std::alloc::Global;
 use xmp_base::{Fault, Phase, Refusal};
+use xmp_elab::{elaborate, text_numbers_lie};
 use xmp_prog::{Kind, Prog};
 use xmp_source::tree_of;
 use xmp_syntax::Tree;
-use xmp_typed::{elaborate, text_numbers_lie};
 
 // What the tree of a program with a coarray is refused for.
 fn coarray_fault(alloc: Global, t: &Tree, given: Option<u32>) -> Fault

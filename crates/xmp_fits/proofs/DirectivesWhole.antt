@@ -16,8 +16,8 @@ use Rattle.xmp_syntax.specs.declared.expression.Expr.{Expr}
 use Rattle.xmp_syntax.specs.declared.program.Tree.{Tree}
 use Rattle.xmp_names.specs.declared.world.World.{World}
 use Rattle.xmp_mapping_rules.specs.MappingRules.{mapping_rules}
-use Rattle.xmp_elab.specs.Narrow.{is_count}
-use Rattle.xmp_elab.specs.Parts.{Made}
+use Rattle.xmp_parts.specs.Narrow.{is_count}
+use Rattle.xmp_parts.specs.Parts.{Made}
 use Rattle.xmp_walk.specs.Program.{program_of}
 use Rattle.xmp_walk.specs.Statements.{return_of}
 use Rattle.xmp_names.specs.Walk as walk

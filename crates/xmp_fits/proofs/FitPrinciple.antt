@@ -38,7 +38,7 @@ use Rattle.xmp_walk.specs.Program.{loop_directive, plain_of, item_of, items_of, 
 use Rattle.xmp_names.specs.declared.rules.Rule.TheVariants.{N5}
 use Rattle.xmp_names.specs.Rules.{unless}
 use Rattle.xmp_names.specs.Expressions.{is_function}
-use Rattle.xmp_elab.proofs.Unbroken.{left_true, right_true, right_none, holds}
+use Rattle.xmp_parts.proofs.Unbroken.{left_true, right_true, right_none, holds}
 use Rattle.xmp_fits.specs.NumbersLie.{numbers_lie, mapping_lies, declarator_lies, declaration_lies, loop_line_lies, task_line_lies, head_lies, plain_lies, stmt_lies, item_lies, items_lie, task_lies, tasks_lie}
 use Rattle.xmp_fits.proofs.NumbersLie as lie
 use Rattle.xmp_fits.proofs.Laters.{unbroken_before}

@@ -44,7 +44,7 @@ use Rattle.xmp_names.specs.Lists.{inner}
 use Rattle.xmp_directives.specs.Directives as directives
 use Rattle.xmp_directives.specs.Directives.{unwritten, first_extent, no_side}
 use Rattle.xmp_names.specs.Sizes.{extents_in}
-use Rattle.xmp_elab.proofs.Unbroken.{left_true, right_true}
+use Rattle.xmp_parts.proofs.Unbroken.{left_true, right_true}
 use Rattle.xmp_fits.proofs.GoodWorlds.{Own, Good}
 use Rattle.xmp_fits.proofs.GoodSteps.{Stays, onward_stays, true_name}
 use Rattle.xmp_fits.proofs.KeptRuns.{Ends, Goes, goes_refl, goes_trans, GoesOn, Kept}

@@ -31,7 +31,7 @@ use Rattle.xmp_names.specs.Walk.{Step, Gave, Run, first_place}
 use Rattle.xmp_names.specs.Lists.{inner}
 use Rattle.xmp_walk.specs.Declarations.{initialiser, local_declarator, declare_array}
 use Rattle.xmp_walk.specs.Statements.{set, first_of, index_of, first_part}
-use Rattle.xmp_elab.proofs.Unbroken.{left_none, right_none, left_true, right_true}
+use Rattle.xmp_parts.proofs.Unbroken.{left_none, right_none, left_true, right_true}
 use Rattle.xmp_fits.proofs.GoodWorlds.{Own, Good}
 use Rattle.xmp_fits.proofs.GoodSteps.{Stays, onward_stays, begins_get, get_last}
 use Rattle.xmp_fits.proofs.KeptRuns.{Ends, Goes}

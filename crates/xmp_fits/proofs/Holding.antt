@@ -8,7 +8,7 @@ use Rattle.xmp_names.specs.declared.world.World.{World}
 use Rattle.xmp_names.specs.Rules.{unless}
 use Rattle.xmp_names.specs.Walk as walk
 use Rattle.xmp_names.specs.Walk.{Step, Gave, Run, and_then}
-use Rattle.xmp_elab.proofs.Unbroken.{right_none, holds}
+use Rattle.xmp_parts.proofs.Unbroken.{right_none, holds}
 use Rattle.xmp_fits.proofs.Laters.{unbroken_before}
 use Rattle.xmp_fits.proofs.GoodWorlds.{Own, Good}
 use Rattle.xmp_fits.proofs.KeptRuns.{Ends, Goes, goes_refl, GoesOn, Kept, Going, each_after}

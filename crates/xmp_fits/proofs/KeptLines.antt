@@ -34,7 +34,7 @@ use Rattle.xmp_directives.specs.Directives.{signed, dimensions}
 use Rattle.xmp_names.specs.Sizes.{limited, extents_in}
 use Rattle.xmp_directives.specs.MappingLines as lines
 use Rattle.xmp_directives.specs.MappingLines.{Dummies, has_dummy, line_of}
-use Rattle.xmp_elab.proofs.Unbroken.{right_none}
+use Rattle.xmp_parts.proofs.Unbroken.{right_none}
 use Rattle.xmp_fits.proofs.Laters.{Scopes, Begins, begins_refl, begins_with, begins_trans, mappings_refl}
 use Rattle.xmp_fits.proofs.KeptRuns.{goes_refl, goes_then, Kept, Going, ◌>>=◌, pure, each}
 use Rattle.xmp_fits.proofs.KeptSteps.{goes_declared, judged, typed, typed_constant, constant, declare_scalar}

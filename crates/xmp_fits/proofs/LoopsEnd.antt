@@ -23,7 +23,7 @@ use Rattle.xmp_names.specs.Rules.{unless}
 use Rattle.xmp_names.specs.Lists.{inner}
 use Rattle.xmp_directives.specs.Directives.{Nest, dimensions, is_indexed, judged_loop, loop_line, loop_right, made_of_point, match_template, name_list, nest_of, point_of, reductions_of, use_template}
 use Rattle.xmp_mapping_rules.specs.MappingRules.{forms_of, indexed_right, loop_rule, loop_rules, mapping_rules, cell_rules, nodes_of, shadow_rules, template_sizes, template_sizes_in}
-use Rattle.xmp_elab.specs.Parts.{IsOf, IsTemplate}
+use Rattle.xmp_parts.specs.Parts.{IsOf, IsTemplate}
 use Rattle.xmp_names.specs.Walk.{Gave, a_template, each, if_there, name_of}
 use Rattle.xmp_fits.proofs.DirectivesPass.{DirectiveFits, StmtFits, StmtMade, loop_fits, map_all}
 use Rattle.xmp_fits.proofs.Endings.{Ending, Number, before_judged, directed, earlier, found_at, goes_directed, item_there, judged_true, later_at, no_broken, opened, same_world, template_number}
@@ -35,11 +35,11 @@ use Rattle.xmp_fits.proofs.KeptRuns as kept
 use Rattle.xmp_fits.proofs.KeptRuns.{Ends, Goes, Kept}
 use Rattle.xmp_fits.proofs.KeptSteps as kept_steps
 use Rattle.xmp_fits.proofs.LoopsPass.{RightLoop, constants_small, distributed_named, each_of_nest, each_once, points_there, template_named}
-use Rattle.xmp_elab.proofs.MadeLists.{made_here}
+use Rattle.xmp_parts.proofs.MadeLists.{made_here}
 use Rattle.xmp_fits.proofs.NestsPass.{nest_fits, nest_passes}
-use Rattle.xmp_elab.proofs.Padded.{at_most_three}
-use Rattle.xmp_elab.proofs.Unbroken.{RightTemplate, holds, left_none, left_true, none_here, right_none, template_at}
-use Rattle.xmp_elab.proofs.Unbroken.{after_aligns}
+use Rattle.xmp_parts.proofs.Padded.{at_most_three}
+use Rattle.xmp_parts.proofs.Unbroken.{RightTemplate, holds, left_none, left_true, none_here, right_none, template_at}
+use Rattle.xmp_parts.proofs.Unbroken.{after_aligns}
 
 -- ---- the template of a loop directive, at the end
 

@@ -40,7 +40,7 @@ use Rattle.xmp_fits.proofs.KeptDirectives as kept_directives
 use Rattle.xmp_fits.proofs.KeptRuns as kept
 use Rattle.xmp_fits.proofs.KeptRuns.{Ends, Goes, Kept}
 use Rattle.xmp_fits.proofs.KeptSteps as kept_steps
-use Rattle.xmp_elab.proofs.Unbroken.{both_true, left_true, right_true}
+use Rattle.xmp_parts.proofs.Unbroken.{both_true, left_true, right_true}
 
 -- ---- arrays by their names
 

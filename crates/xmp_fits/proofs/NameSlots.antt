@@ -29,7 +29,7 @@ use Rattle.xmp_names.specs.Lists.{listed, inner}
 use Rattle.xmp_directives.specs.Directives as directives
 use Rattle.xmp_directives.specs.Directives.{slot_or_zero, made_of_point, operation_of}
 use Rattle.xmp_names.specs.Sizes.{limited}
-use Rattle.xmp_elab.proofs.Unbroken.{right_none, holds}
+use Rattle.xmp_parts.proofs.Unbroken.{right_none, holds}
 use Rattle.xmp_fits.proofs.GoodWorlds.{Own, Good}
 use Rattle.xmp_fits.proofs.GoodSteps.{onward_stays, begins_get, true_name}
 use Rattle.xmp_fits.proofs.KeptRuns.{Ends, Goes, goes_refl, goes_trans, GoesOn, Kept, Going}

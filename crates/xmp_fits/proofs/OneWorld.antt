@@ -34,7 +34,7 @@ use Rattle.xmp_walk.specs.Statements.{simple_of, first_of, set, one, right_side,
 use Rattle.xmp_directives.specs.Directives.{loop_line, judged_loop, nest_of, task_line, made_task}
 use Rattle.xmp_walk.specs.Program.{plain_of}
 use Rattle.xmp_names.specs.Expressions.{is_function}
-use Rattle.xmp_elab.proofs.Unbroken.{left_true, right_true}
+use Rattle.xmp_parts.proofs.Unbroken.{left_true, right_true}
 use Rattle.xmp_fits.specs.NumbersLie.{numbers_lie, there_lies, simple_lies, plain_lies, first_lies, head_lies, declarator_lies, loop_line_lies, task_line_lies}
 use Rattle.xmp_fits.proofs.GoodWorlds.{Own, Good}
 use Rattle.xmp_fits.proofs.GoodSteps.{Stays, onward_stays, good_opened}

@@ -26,7 +26,7 @@ use Rattle.xmp_names.specs.Walk.{Step, Gave, Run, and_then, each}
 use Rattle.xmp_walk.specs.Declarations.{type_of}
 use Rattle.xmp_names.specs.Lists.{listed}
 use Rattle.xmp_walk.specs.Program.{parameters_in, parameter_of, items_of, inside_item, main_items, function_of, is_main_head, main_of, top_of, last_top, tops_of, start_world, coarray_top, program_of, with_count}
-use Rattle.xmp_elab.proofs.Unbroken.{right_none, holds, right_true, left_true}
+use Rattle.xmp_parts.proofs.Unbroken.{right_none, holds, right_true, left_true}
 use Rattle.xmp_fits.specs.NumbersLie.{numbers_lie, items_lie, top_lies, tree_lies}
 use Rattle.xmp_fits.proofs.Laters.{begins_refl, names_refl, mappings_refl, Later, later_refl, later_trans, unbroken_before, Scopes, Widened}
 use Rattle.xmp_fits.proofs.GoodWorlds.{Own, Good, being_read}

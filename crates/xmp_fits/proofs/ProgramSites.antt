@@ -30,7 +30,7 @@ use Rattle.xmp_names.specs.Walk.{Step, Gave, Run, and_then, each}
 use Rattle.xmp_names.specs.Lists.{listed, inner}
 use Rattle.xmp_walk.specs.Declarations.{type_of, start_of, file_declarator}
 use Rattle.xmp_walk.specs.Program.{items_of, inside_item, parameters_in, parameter_of, function_of, top_of}
-use Rattle.xmp_elab.proofs.Unbroken.{left_none}
+use Rattle.xmp_parts.proofs.Unbroken.{left_none}
 use Rattle.xmp_fits.proofs.Laters.{Scopes, unbroken_before}
 use Rattle.xmp_fits.proofs.GoodWorlds.{Own, Good}
 use Rattle.xmp_fits.proofs.KeptRuns as kept_runs

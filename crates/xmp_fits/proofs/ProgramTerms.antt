@@ -24,7 +24,7 @@ use Rattle.xmp_names.specs.Walk as walk
 use Rattle.xmp_names.specs.Walk.{Step, Gave, Run, typed_constant}
 use Rattle.xmp_walk.specs.Declarations.{type_of}
 use Rattle.xmp_walk.specs.Statements.{return_of}
-use Rattle.xmp_elab.specs.Parts.{Made}
+use Rattle.xmp_parts.specs.Parts.{Made}
 use Rattle.xmp_walk.specs.Program.{parameter_of, program_of}
 use Rattle.xmp_fits.proofs.Laters.{Later, unbroken_before}
 use Rattle.xmp_fits.proofs.GoodWorlds.{Own, Good, being_read}

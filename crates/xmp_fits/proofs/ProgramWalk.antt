@@ -24,7 +24,7 @@ use Rattle.xmp_names.specs.Walk.{Step, Gave, Run, and_then, each}
 use Rattle.xmp_names.specs.Lists.{inner}
 use Rattle.xmp_walk.specs.Declarations.{start_of, file_declarator}
 use Rattle.xmp_walk.specs.Program.{parameter_of}
-use Rattle.xmp_elab.proofs.Unbroken.{right_true, left_true}
+use Rattle.xmp_parts.proofs.Unbroken.{right_true, left_true}
 use Rattle.xmp_fits.specs.NumbersLie.{numbers_lie, there_lies, second_lies, declarator_lies}
 use Rattle.xmp_fits.proofs.Laters.{begins_refl, begins_with, names_refl, mappings_refl, Later, later_refl, later_trans, unbroken_before}
 use Rattle.xmp_fits.proofs.GoodWorlds.{Own, Good}

@@ -50,7 +50,7 @@ use Rattle.xmp_directives.specs.Directives.{judged_loop, nest_of, task_line, loo
 use Rattle.xmp_prog.specs.Directives.{sections_in}
 use Rattle.xmp_walk.specs.Program.{plain_of, program_of}
 use Rattle.xmp_syntax.specs.declared.program.Tree.{Tree}
-use Rattle.xmp_elab.proofs.Unbroken.{left_none, right_none, holds}
+use Rattle.xmp_parts.proofs.Unbroken.{left_none, right_none, holds}
 use Rattle.xmp_fits.specs.NumbersLie.{numbers_lie, tree_lies}
 use Rattle.xmp_directives.proofs.Nests.{out_block}
 use Rattle.xmp_fits.proofs.NestsPass.{nest_passes}

@@ -21,7 +21,7 @@ use Rattle.xmp_names.specs.declared.names.Meaning.TheVariants as meaning
 use Rattle.xmp_names.specs.declared.names.Environment.{Environment}
 use Rattle.xmp_names.specs.declared.world.World.{World}
 use Rattle.xmp_directives.specs.Directives.{made_task}
-use Rattle.xmp_elab.proofs.Unbroken.{both_true}
+use Rattle.xmp_parts.proofs.Unbroken.{both_true}
 use Rattle.xmp_fits.proofs.Laters.{Begins, Scopes, Widened}
 use Rattle.xmp_fits.proofs.KeptRuns.{Goes}
 use Rattle.xmp_fits.proofs.KeptStatements.{opened, closed}

@@ -32,7 +32,7 @@ use Rattle.xmp_walk.specs.declared.loops.Shape.{Shape}
 use Rattle.xmp_names.specs.declared.world.World.{World}
 use Rattle.xmp_walk.specs.Statements.{set, right_side, in_block, counted_with, begun, condition, last_of, uncounted, loop_in, loop_of, shape_of}
 use Rattle.xmp_directives.specs.Directives.{Nest, counted_in, unbraced_in, head_of, nest_in, nest_of}
-use Rattle.xmp_elab.proofs.Unbroken.{left_true, both_true}
+use Rattle.xmp_parts.proofs.Unbroken.{left_true, both_true}
 use Rattle.xmp_fits.proofs.KeptRuns.{Goes}
 use Rattle.xmp_fits.proofs.KeptStatements.{opened, closed}
 use Rattle.xmp_fits.proofs.Holding.{IfThere}

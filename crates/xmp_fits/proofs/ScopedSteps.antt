@@ -52,7 +52,7 @@ use Rattle.xmp_directives.specs.Directives.{signed, scalar_name, task_line, offs
 use Rattle.xmp_names.specs.Sizes.{limited}
 use Rattle.xmp_directives.specs.MappingLines.{mapping_of}
 use Rattle.xmp_walk.specs.Program.{plain_of}
-use Rattle.xmp_elab.proofs.Unbroken.{left_none, right_none}
+use Rattle.xmp_parts.proofs.Unbroken.{left_none, right_none}
 use Rattle.xmp_fits.proofs.GoodWorlds.{Own}
 use Rattle.xmp_fits.proofs.KeptRuns.{ends_then, ends_map, ends_both, Goes, goes_trans}
 use Rattle.xmp_fits.proofs.KeptMappings.{mapping_kept}

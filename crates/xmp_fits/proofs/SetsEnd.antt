@@ -37,9 +37,9 @@ use Rattle.xmp_fits.proofs.KeptRuns.{Ends, Goes, Kept}
 use Rattle.xmp_fits.proofs.KeptDirectives as kept_directives
 use Rattle.xmp_fits.proofs.KeptStatements as kept_statements
 use Rattle.xmp_fits.proofs.KeptSteps as kept_steps
-use Rattle.xmp_elab.proofs.Rows.{right_nodes}
+use Rattle.xmp_parts.proofs.Rows.{right_nodes}
 use Rattle.xmp_fits.proofs.SetsPass.{apart_more, one_node, set_inside}
-use Rattle.xmp_elab.proofs.Unbroken.{both_true, left_true, right_true}
+use Rattle.xmp_parts.proofs.Unbroken.{both_true, left_true, right_true}
 
 -- ---- a set of nodes
 

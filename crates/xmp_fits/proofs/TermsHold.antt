@@ -41,7 +41,7 @@ use Rattle.xmp_names.specs.Rules.{unless}
 use Rattle.xmp_names.specs.declared.rules.Rule.TheVariants.{M7}
 use Rattle.xmp_directives.specs.Directives as directives
 use Rattle.xmp_directives.specs.Directives.{made_of_point, made_loop, made_task, nest_of}
-use Rattle.xmp_elab.proofs.Unbroken.{left_none, left_true}
+use Rattle.xmp_parts.proofs.Unbroken.{left_none, left_true}
 use Rattle.xmp_fits.proofs.GoodWorlds.{Own}
 use Rattle.xmp_fits.proofs.GoodSteps.{Stays, onward_stays}
 use Rattle.xmp_fits.proofs.KeptRuns.{goes_trans}
