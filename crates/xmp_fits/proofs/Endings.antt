@@ -28,8 +28,9 @@ use Rattle.xmp_parts.specs.Parts.{IsArray, Made}
 use Rattle.xmp_names.specs.Walk.{Step, Gave, Run, and_then, first_of_two, a_nodes, a_template, an_array, name_of, of_kind}
 use Rattle.xmp_fits.proofs.GoodSteps.{begins_get, true_name}
 use Rattle.xmp_fits.proofs.GoodWorlds.{Good, Own}
-use Rattle.xmp_fits.proofs.KeptRuns.{Ends, Goes, Kept}
-use Rattle.xmp_fits.proofs.KeptSteps.{directive_at, goes_noted}
+use Rattle.xmp_fits.proofs.KeptRuns.{Goes, Kept, goes_noted, going}
+use Rattle.xmp_fits.proofs.Respected.{Ends}
+use Rattle.xmp_fits.proofs.RespectedSteps.{directive_at}
 use Rattle.xmp_fits.proofs.Laters.{Later, later_trans, unbroken_before}
 use Rattle.xmp_parts.proofs.MadeLists.{made_here}
 use Rattle.xmp_parts.proofs.Unbroken.{holds, left_none, left_true, none_here, right_none}
@@ -84,7 +85,7 @@ directed at w = record w {
 }
 
 pub goes_directed : (at : Place) (w : World) → Goes w (directed at w)
-goes_directed at w = (directive_at at).kept.at w
+goes_directed at w = (directive_at going at).kept.at w
 
 -- What a step made.
 abbrev value_in : {A : Type 0} → Step A → A

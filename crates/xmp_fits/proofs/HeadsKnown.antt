@@ -20,8 +20,8 @@ use Rattle.xmp_names.specs.Walk.{typed}
 use Rattle.xmp_fits.proofs.Endings.{Ending, before_noted, no_broken}
 use Rattle.xmp_fits.proofs.GoodSteps.{begins_get}
 use Rattle.xmp_fits.proofs.GoodWorlds.{ArrayOf, Extends, Good, Own}
-use Rattle.xmp_fits.proofs.KeptRuns.{Ends, Goes}
-use Rattle.xmp_fits.proofs.KeptSteps.{goes_noted, scalar_goes}
+use Rattle.xmp_fits.proofs.KeptRuns.{Goes, goes_noted, scalar_goes}
+use Rattle.xmp_fits.proofs.Respected.{Ends}
 use Rattle.xmp_fits.proofs.KindsPass.{made_image, made_kind}
 use Rattle.xmp_fits.proofs.Laters.{Begins}
 use Rattle.xmp_parts.proofs.MadeLists.{made_here}

@@ -20,7 +20,7 @@ use Rattle.xmp_names.specs.Expressions.{may_name, is_function, expr_of, referenc
 use Rattle.xmp_names.specs.Walk as walk
 use Rattle.xmp_names.specs.Walk.{Step, Gave, Run, and_then, a_scalar, an_int_scalar}
 use Rattle.xmp_parts.proofs.Unbroken.{left_none, right_none, holds}
-use Rattle.xmp_fits.proofs.KeptRuns.{Ends, ends_then, ends_map}
+use Rattle.xmp_fits.proofs.Respected.{Ends, ends_then, ends_map}
 use Rattle.xmp_fits.proofs.Holding.{IfThere}
 use Rattle.xmp_fits.proofs.StepsFit.{IsPlace, reference_place}
 use Rattle.xmp_fits.proofs.ScopedFits.{Sees}

@@ -31,8 +31,8 @@ use Rattle.xmp_walk.specs.Program.{items_of, parameters_in, parameter_of, main_i
 use Rattle.xmp_parts.proofs.Unbroken.{right_none, left_true, right_true, holds}
 use Rattle.xmp_fits.proofs.Laters.{Later, unbroken_before}
 use Rattle.xmp_fits.proofs.GoodWorlds.{Own, Good}
-use Rattle.xmp_fits.proofs.KeptRuns.{Ends, ends_then, ends_map, ends_both, Goes}
-use Rattle.xmp_fits.proofs.KeptSteps.{goes_noted}
+use Rattle.xmp_fits.proofs.KeptRuns.{Goes, goes_noted}
+use Rattle.xmp_fits.proofs.Respected.{Ends, ends_then, ends_map, ends_both}
 use Rattle.xmp_fits.proofs.KeptStatements.{main_body_kept}
 use Rattle.xmp_fits.proofs.Holding.{Unbroken}
 use Rattle.xmp_fits.proofs.FitPrinciple.{main_holds}

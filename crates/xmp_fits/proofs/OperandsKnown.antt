@@ -30,7 +30,7 @@ use Rattle.xmp_names.specs.Typing.{is_of}
 use Rattle.xmp_names.specs.Walk.{if_there}
 use Rattle.xmp_fits.proofs.Endings.{ends_in}
 use Rattle.xmp_fits.proofs.ForsPass.{one_step}
-use Rattle.xmp_fits.proofs.KeptRuns.{Ends}
+use Rattle.xmp_fits.proofs.Respected.{Ends}
 use Rattle.xmp_fits.proofs.NamesFit.{Tells}
 use Rattle.xmp_fits.proofs.OperandsFit.{Fits}
 use Rattle.xmp_fits.proofs.TermsFit.{TermFits}
