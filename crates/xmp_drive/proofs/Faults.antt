@@ -4,7 +4,7 @@ use Rattle.std.specs.Prelude.{IfErr, IfOk, OnOk, Result, Ok, Err}
 use Rattle.xmp_base.specs.declared.refusal.Fault.{Fault}
 use Rattle.xmp_base.specs.declared.refusal.Fault.TheVariants as fault
 use Rattle.xmp_base.specs.declared.refusal.Refusal.{Refusal}
-use Rattle.xmp_tree.specs.declared.program.Tree.{Tree}
+use Rattle.xmp_syntax.specs.declared.program.Tree.{Tree}
 use Rattle.xmp_prog.specs.declared.parts.ProgParts.{ProgParts}
 use Rattle.xmp_source.specs.Source.{IsTreeOf, IsSourceFault}
 use Rattle.xmp_elab.specs.Parts.{RefusedBy}

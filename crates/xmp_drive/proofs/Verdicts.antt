@@ -3,7 +3,7 @@ use Rattle.std.proofs.Common.{◌≡◌, ℕ, List, sym, ap, ◌∙◌}
 use Rattle.std.specs.Prelude.{Option, Some, None}
 use Rattle.xmp_base.specs.declared.refusal.Refusal.{Refusal}
 use Rattle.xmp_base.specs.declared.refusal.Fault.TheVariants as fault
-use Rattle.xmp_tree.specs.declared.program.Tree.{Tree}
+use Rattle.xmp_syntax.specs.declared.program.Tree.{Tree}
 use Rattle.xmp_prog.specs.declared.parts.ProgParts.{ProgParts}
 use Rattle.xmp_source.specs.Source.{IsTreeOf, Breaks}
 use Rattle.xmp_drive.specs.Verdict.{IsAccepted, IsRefused, in_source, in_tree, tree_verdict}

@@ -6,10 +6,10 @@ use Rattle.xmp_base.specs.declared.refusal.Refusal.{Refusal}
 use Rattle.xmp_base.specs.declared.refusal.Phase.TheVariants as phase
 use Rattle.xmp_base.specs.declared.refusal.Fault.{Fault}
 use Rattle.xmp_base.specs.declared.refusal.Fault.TheVariants as fault
-use Rattle.xmp_tree.specs.declared.program.Tree.{Tree}
+use Rattle.xmp_syntax.specs.declared.program.Tree.{Tree}
 use Rattle.xmp_prog.specs.declared.parts.ProgParts.{ProgParts}
 use Rattle.xmp_source.specs.Source.{IsTreeOf, Breaks}
-use Rattle.xmp_walk.specs.declared.names.Array.{Array}
+use Rattle.xmp_names.specs.declared.names.Array.{Array}
 use Rattle.xmp_walk.specs.Program.{program_of}
 use Rattle.xmp_elab.specs.Verdict.{verdict, world_after}
 use Rattle.xmp_elab.specs.Parts.{IsParts}

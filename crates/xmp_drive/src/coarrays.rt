@@ -4,7 +4,7 @@ ghost use Rattle.xmp_drive.specs.Verdict.{arrays_of, first_coarray};
 
 use std::alloc::{AllocError, Global};
 use xmp_base::Place;
-use xmp_tree::Tree;
+use xmp_syntax::Tree;
 use xmp_walk::{Array, walk_program};
 
 // The name of the first coarray of these.

@@ -32,10 +32,13 @@ fn letter(phase: Phase) -> char {
         Phase::Lex => 'L',
         Phase::Macro => 'E',
         Phase::Syntax => 'S',
+        Phase::Procedure => 'Q',
+        Phase::Subset => 'P',
         Phase::Names => 'N',
         Phase::Mapping => 'M',
         Phase::Flow => 'F',
         Phase::Coarray => 'C',
+        Phase::Script => 'O',
     }
 }
 

@@ -12,12 +12,12 @@ ghost use Rattle.xmp_drive.specs.Verdict.{IsAccepted, IsRefused, IsVerdictFault,
 
 use crate::accepted::Accepted;
 use crate::coarrays::coarray_of;
-use crate::laws::{accepted_or_refused, one_refusal};
+use crate::laws::{never_accepted_and_refused, one_refusal};
 use std::alloc::Global;
 use xmp_base::{Fault, Phase, Refusal};
 use xmp_prog::{Kind, Prog};
 use xmp_source::tree_of;
-use xmp_tree::Tree;
+use xmp_syntax::Tree;
 use xmp_typed::{elaborate, text_numbers_lie};
 
 // What the tree of a program with a coarray is refused for.
@@ -77,7 +77,7 @@ pub fn compile(alloc: Global, text: &[u8], nodes: Option<u32>) -> Result<Accepte
     ensures refused_alone { (r : Refusal) → IsRefused text.now nodes r
         → OnOk result ⊥ × IfErr result (λ e. (e ≡ fault.Refused r) ⊎ (e ≡ fault.NoMemory)) }
 {
-    accepted_or_refused();
+    never_accepted_and_refused();
     one_refusal();
     judged(alloc, text, nodes)
 }

@@ -9,21 +9,21 @@ use Rattle.xmp_map.specs.declared.template.Template.{Template}
 use Rattle.xmp_map.specs.Align.{aligned_dims, is_target, map_fault}
 use Rattle.xmp_map.specs.RowMajor.{product}
 use Rattle.xmp_map.specs.Spread.{sizes_fit}
-use Rattle.xmp_walk.specs.declared.mappings.Align.{Align}
-use Rattle.xmp_walk.specs.declared.mappings.AlignPoint.{AlignPoint}
-use Rattle.xmp_walk.specs.declared.mappings.AlignPoint.TheVariants as point
-use Rattle.xmp_walk.specs.declared.mappings.Form.{Form}
-use Rattle.xmp_walk.specs.declared.mappings.Shadow.{Shadow}
-use Rattle.xmp_walk.specs.declared.mappings.TemplateLine.{TemplateLine}
-use Rattle.xmp_walk.specs.declared.names.Array.{Array}
-use Rattle.xmp_walk.specs.declared.rules.Rule.TheVariants.{M10}
-use Rattle.xmp_walk.specs.declared.world.World.{World}
-use Rattle.xmp_walk.specs.Rules.{unless}
-use Rattle.xmp_walk.specs.Declarations.{most_cells}
-use Rattle.xmp_walk.specs.Directives.{extents_in, is_small}
-use Rattle.xmp_walk.specs.MappingRules.{align_of, align_right, all_different, cells_from, copies, dimensions_in, distributes, dummies_right, forms_of, interval_dimensions, mapping_rules, nodes_of, number_of_nodes, one_to_three, point_fits, points_right, shadow_right, template_sizes, template_sizes_in, widths_right}
+use Rattle.xmp_names.specs.declared.mappings.Align.{Align}
+use Rattle.xmp_names.specs.declared.mappings.AlignPoint.{AlignPoint}
+use Rattle.xmp_names.specs.declared.mappings.AlignPoint.TheVariants as point
+use Rattle.xmp_names.specs.declared.mappings.Form.{Form}
+use Rattle.xmp_names.specs.declared.mappings.Shadow.{Shadow}
+use Rattle.xmp_names.specs.declared.mappings.TemplateLine.{TemplateLine}
+use Rattle.xmp_names.specs.declared.names.Array.{Array}
+use Rattle.xmp_names.specs.declared.rules.Rule.TheVariants.{M10}
+use Rattle.xmp_names.specs.declared.world.World.{World}
+use Rattle.xmp_names.specs.Rules.{unless}
+use Rattle.xmp_names.specs.Sizes.{most_cells, extents_in, is_small}
+use Rattle.xmp_mapping_rules.specs.MappingRules.{align_of, align_right, all_different, cells_from, copies, dimensions_in, distributes, dummies_right, forms_of, interval_dimensions, mapping_rules, nodes_of, number_of_nodes, one_to_three, point_fits, points_right, shadow_right, template_sizes, template_sizes_in, widths_right}
 use Rattle.xmp_elab.specs.Narrow.{are_narrow, is_narrow_point}
-use Rattle.xmp_elab.specs.Parts.{EachMade, IsOf, IsTemplate, shadow_of, targets, widths_in}
+use Rattle.xmp_elab.specs.Parts.{EachMade, IsOf, IsTemplate, targets, widths_in}
+use Rattle.xmp_mapping_rules.specs.MappingRules.{shadow_of}
 use Rattle.xmp_elab.proofs.MadeLists.{made_here}
 use Rattle.xmp_elab.proofs.Padded.{at_most_three}
 use Rattle.xmp_elab.proofs.TargetsFit.{RightPoints, Spreads, names_right, targets_right}
@@ -32,7 +32,7 @@ use Rattle.xmp_elab.proofs.WidthsFit.{RightShadow, narrow_shadow, shadows_right,
 
 -- ---- cells
 
-cells_at : (times before : ℕ) (xs : List Array) (k : ℕ) (a : Array) → cells_from times before xs ≡ [] → slice_get xs k ≡ Some a →
+pub cells_at : (times before : ℕ) (xs : List Array) (k : ℕ) (a : Array) → cells_from times before xs ≡ [] → slice_get xs k ≡ Some a →
     (b : ℕ) × ((sizes_fit a.extents && nat_le ((b + product a.extents) * times) most_cells) ≡ true)
 cells_at times before [] k a h e = absurd (none-some a e)
 cells_at times before (x ∷ xs) zero a h e = (
@@ -133,7 +133,7 @@ points_of w k array a l at is e h t =
           (right_true (all_different (dimensions_in a.points) && dummies_right a.dummies (dimensions_in a.points)) _ rest));
     }
 
-shadow_of_array : (w : World) (k : ℕ) (array : Array) (a : Align) → mapping_rules w ≡ [] → slice_get w.names.arrays k ≡ Some array → align_of w k ≡ Some a →
+pub shadow_of_array : (w : World) (k : ℕ) (array : Array) (a : Align) → mapping_rules w ≡ [] → slice_get w.names.arrays k ≡ Some array → align_of w k ≡ Some a →
     RightShadow array.extents (forms_of w a.template) a.points (shadow_of w k)
 shadow_of_array w k array a h at e = go (shadow_of w k) refl
   where

@@ -7,11 +7,11 @@ use Rattle.std.proofs.lemmas.Option.{same_Some, none-some, slice_get-get_or}
 use Rattle.std.proofs.lemmas.List.Quantifiers.{position-Some}
 use Rattle.xmp_map.specs.declared.aligned.Target.{Target}
 use Rattle.xmp_map.specs.Align.{names}
-use Rattle.xmp_walk.specs.declared.mappings.AlignPoint.{AlignPoint}
-use Rattle.xmp_walk.specs.declared.mappings.AlignPoint.TheVariants as point
-use Rattle.xmp_walk.specs.declared.mappings.Form.{Form}
-use Rattle.xmp_walk.specs.Numbers.{first_place, is_at}
-use Rattle.xmp_walk.specs.MappingRules.{all_different, dimension_in, dimensions_in, interval_dimension, spans_intervals}
+use Rattle.xmp_names.specs.declared.mappings.AlignPoint.{AlignPoint}
+use Rattle.xmp_names.specs.declared.mappings.AlignPoint.TheVariants as point
+use Rattle.xmp_names.specs.declared.mappings.Form.{Form}
+use Rattle.xmp_mapping_rules.specs.Numbers.{first_place, is_at}
+use Rattle.xmp_mapping_rules.specs.MappingRules.{all_different, dimension_in, dimensions_in, interval_dimension, spans_intervals}
 use Rattle.xmp_elab.specs.Parts.{no_target, target_at, target_from}
 use Rattle.xmp_elab.proofs.Unbroken.{all_here}
 

@@ -4,7 +4,7 @@ use Rattle.std.specs.Prelude.{Option, Some, None, if◌then◌else◌}
 use Rattle.std.proofs.lemmas.Bool.Decides.{nat_tests}
 use Rattle.xmp_base.specs.First.{comes_first, IsFirst, first_of}
 use Rattle.xmp_base.specs.declared.refusal.Refusal.{Refusal}
-use Rattle.xmp_walk.specs.declared.rules.Broken.{Broken}
+use Rattle.xmp_names.specs.declared.rules.Broken.{Broken}
 use Rattle.xmp_elab.specs.Verdict.{first_in, IsIn, refusal_of}
 
 comes_first-refl : (a : Refusal) → comes_first a a ≡ true

@@ -10,13 +10,12 @@ use Rattle.xmp_map.specs.declared.grid.Grid.{Grid}
 use Rattle.xmp_map.specs.declared.fault.MapError.TheVariants.{Size, Spread, Chunk}
 use Rattle.xmp_map.specs.Nodes.{filled}
 use Rattle.xmp_map.specs.Spread.{chunk_fits, chunks_fit, sizes_fit, spread, spreads, template_fault}
-use Rattle.xmp_walk.specs.declared.mappings.Form.{Form}
-use Rattle.xmp_walk.specs.declared.mappings.Form.TheVariants as form
-use Rattle.xmp_walk.specs.declared.mappings.TemplateLine.{TemplateLine}
-use Rattle.xmp_walk.specs.declared.world.World.{World}
-use Rattle.xmp_walk.specs.Declarations.{is_extent}
-use Rattle.xmp_walk.specs.Directives.{natural}
-use Rattle.xmp_walk.specs.MappingRules.{counts, form_fits, form_right, forms_of, forms_right, is_distributed, lengths_right, mapping_rules, nodes_behind, nodes_of, one_to_three}
+use Rattle.xmp_names.specs.declared.mappings.Form.{Form}
+use Rattle.xmp_names.specs.declared.mappings.Form.TheVariants as form
+use Rattle.xmp_names.specs.declared.mappings.TemplateLine.{TemplateLine}
+use Rattle.xmp_names.specs.declared.world.World.{World}
+use Rattle.xmp_names.specs.Sizes.{is_extent, natural}
+use Rattle.xmp_mapping_rules.specs.MappingRules.{counts, form_fits, form_right, forms_of, forms_right, is_distributed, lengths_right, mapping_rules, nodes_behind, nodes_of, one_to_three}
 use Rattle.xmp_elab.specs.Narrow.{is_count, is_narrow, is_narrow_form}
 use Rattle.xmp_elab.specs.Parts.{IsGrid, made_form, padded}
 use Rattle.xmp_elab.proofs.Rows.{RightNodes, right_nodes, small_nodes}

@@ -4,8 +4,8 @@ use Rattle.std.specs.Prelude.{slice_get, slice_set, ◌==◌, if◌then◌else�
 use Rattle.std.proofs.lemmas.Option.{same_Some, none-some}
 use Rattle.std.proofs.lemmas.List.{length-map, length-take, map-append, take_more, take_all, drop_all}
 use Rattle.xmp_map.specs.declared.aligned.Target.{Target}
-use Rattle.xmp_walk.specs.declared.mappings.AlignPoint.{AlignPoint}
-use Rattle.xmp_walk.specs.declared.mappings.AlignPoint.TheVariants as point
+use Rattle.xmp_names.specs.declared.mappings.AlignPoint.{AlignPoint}
+use Rattle.xmp_names.specs.declared.mappings.AlignPoint.TheVariants as point
 use Rattle.xmp_elab.specs.Parts.{EachMade, no_target, offset_for, padded, target_at, target_from, targets_from}
 
 made_push : {A B : Type 0} (Is : ℕ → A → B → Type 0) (k : ℕ) (xs : List A) (ys : List B) (x : A) (y : B) → EachMade Is k xs ys → Is (k + length xs) x y →

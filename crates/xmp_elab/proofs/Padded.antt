@@ -4,7 +4,7 @@ use Rattle.std.specs.Prelude.{slice_get, nat_le}
 use Rattle.std.specs.List.{list_all, count_by}
 use Rattle.std.proofs.lemmas.Option.{same_Some, none-some}
 use Rattle.xmp_map.specs.Nodes.{filled}
-use Rattle.xmp_walk.specs.MappingRules.{one_to_three}
+use Rattle.xmp_mapping_rules.specs.MappingRules.{one_to_three}
 use Rattle.xmp_elab.proofs.Unbroken.{both_true, left_true, right_true}
 
 pub at_most_three : (n : ℕ) → one_to_three n ≡ true → n ≤ 3

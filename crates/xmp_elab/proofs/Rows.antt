@@ -7,10 +7,10 @@ use Rattle.std.proofs.lemmas.Bool.Decides.{nat_tests}
 use Rattle.std.proofs.lemmas.List.{length-map}
 use Rattle.xmp_map.specs.Nodes.{makes_grid}
 use Rattle.xmp_map.specs.RowMajor.{product}
-use Rattle.xmp_walk.specs.declared.mappings.NodesLine.{NodesLine}
-use Rattle.xmp_walk.specs.declared.world.World.{World}
-use Rattle.xmp_walk.specs.Directives.{given_or_one, line_sizes, natural}
-use Rattle.xmp_walk.specs.MappingRules.{is_given, mapping_rules, node_product, nodes_of, nodes_right, one_to_three, sizes_or_row}
+use Rattle.xmp_names.specs.declared.mappings.NodesLine.{NodesLine}
+use Rattle.xmp_names.specs.declared.world.World.{World}
+use Rattle.xmp_names.specs.Sizes.{given_or_one, line_sizes, natural}
+use Rattle.xmp_mapping_rules.specs.MappingRules.{is_given, mapping_rules, node_product, nodes_of, nodes_right, one_to_three, sizes_or_row}
 use Rattle.xmp_elab.specs.Narrow.{is_count, is_narrow}
 use Rattle.xmp_elab.proofs.Unbroken.{both_true, left_true, nodes_at, right_true}
 

@@ -12,12 +12,12 @@ use Rattle.xmp_map.specs.declared.spread_dim.SpreadDim.{SpreadDim}
 use Rattle.xmp_map.specs.Align.{aligned_dim, aligned_dims, dims_of, is_target, named, names, names_fit, positions_fit, target_fits, unused}
 use Rattle.xmp_map.specs.Nodes.{filled}
 use Rattle.xmp_map.specs.Spread.{is_whole}
-use Rattle.xmp_walk.specs.declared.mappings.AlignPoint.{AlignPoint}
-use Rattle.xmp_walk.specs.declared.mappings.AlignPoint.TheVariants as point
-use Rattle.xmp_walk.specs.declared.mappings.Form.{Form}
-use Rattle.xmp_walk.specs.declared.mappings.Form.TheVariants as form
-use Rattle.xmp_walk.specs.Directives.{is_small, natural}
-use Rattle.xmp_walk.specs.MappingRules.{all_different, dimensions_in, distributes, one_to_three, point_fits, points_right, reaches}
+use Rattle.xmp_names.specs.declared.mappings.AlignPoint.{AlignPoint}
+use Rattle.xmp_names.specs.declared.mappings.AlignPoint.TheVariants as point
+use Rattle.xmp_names.specs.declared.mappings.Form.{Form}
+use Rattle.xmp_names.specs.declared.mappings.Form.TheVariants as form
+use Rattle.xmp_names.specs.Sizes.{is_small, natural}
+use Rattle.xmp_mapping_rules.specs.MappingRules.{all_different, dimensions_in, distributes, one_to_three, point_fits, points_right, reaches}
 use Rattle.xmp_elab.specs.Parts.{made_form, target_from, targets, targets_from}
 use Rattle.xmp_elab.proofs.Dimensions.{Named, found, named_by, named_by_none, star_not}
 use Rattle.xmp_elab.proofs.Padded.{all_filled, at_most_three, count_filled, filled_get, filled_past, mapped, mapped_to}

@@ -5,20 +5,19 @@ use Rattle.std.specs.List.{flat_map, list_all, enumerate_from}
 use Rattle.std.proofs.lemmas.Option.{same_Some, none-some}
 use Rattle.std.proofs.lemmas.List.Quantifiers.{position-Some}
 use Rattle.xmp_base.specs.declared.place.Place.{Place}
-use Rattle.xmp_walk.specs.declared.mappings.Align.{Align}
-use Rattle.xmp_walk.specs.declared.mappings.Distribution.{Distribution}
-use Rattle.xmp_walk.specs.declared.mappings.Form.{Form}
-use Rattle.xmp_walk.specs.declared.mappings.NodesLine.{NodesLine}
-use Rattle.xmp_walk.specs.declared.mappings.Shadow.{Shadow}
-use Rattle.xmp_walk.specs.declared.mappings.TemplateLine.{TemplateLine}
-use Rattle.xmp_walk.specs.declared.rules.Rule.{Rule}
-use Rattle.xmp_walk.specs.declared.rules.Rule.TheVariants.{M1, M2, M3, M4, M5, M6}
-use Rattle.xmp_walk.specs.declared.world.World.{World}
-use Rattle.xmp_walk.specs.Rules.{unless}
-use Rattle.xmp_walk.specs.Numbers.{first_place, is_at}
-use Rattle.xmp_walk.specs.Declarations.{is_extent}
-use Rattle.xmp_walk.specs.Directives.{given_or_one, line_sizes}
-use Rattle.xmp_walk.specs.MappingRules.{item_at, nodes_of, nodes_right, nodes_rule, nodes_rules, has_nodes, template_rule, template_rules, distribution_rule, distribution_rules, align_rule, align_rules, shadow_rule, shadow_rules, loop_rules, cell_rules, mapping_rules, distributed, shadowed, align_of, forms_in, forms_of, template_sizes, template_sizes_in, one_to_three, spread_right, forms_right, is_first_distribution, is_first_align, is_first_shadow, align_right, shadow_right}
+use Rattle.xmp_names.specs.declared.mappings.Align.{Align}
+use Rattle.xmp_names.specs.declared.mappings.Distribution.{Distribution}
+use Rattle.xmp_names.specs.declared.mappings.Form.{Form}
+use Rattle.xmp_names.specs.declared.mappings.NodesLine.{NodesLine}
+use Rattle.xmp_names.specs.declared.mappings.Shadow.{Shadow}
+use Rattle.xmp_names.specs.declared.mappings.TemplateLine.{TemplateLine}
+use Rattle.xmp_names.specs.declared.rules.Rule.{Rule}
+use Rattle.xmp_names.specs.declared.rules.Rule.TheVariants.{M1, M2, M3, M4, M5, M6}
+use Rattle.xmp_names.specs.declared.world.World.{World}
+use Rattle.xmp_names.specs.Rules.{unless}
+use Rattle.xmp_mapping_rules.specs.Numbers.{first_place, is_at}
+use Rattle.xmp_names.specs.Sizes.{is_extent, given_or_one, line_sizes}
+use Rattle.xmp_mapping_rules.specs.MappingRules.{item_at, nodes_of, nodes_right, nodes_rule, nodes_rules, has_nodes, template_rule, template_rules, distribution_rule, distribution_rules, align_rule, align_rules, shadow_rule, shadow_rules, loop_rules, cell_rules, mapping_rules, distributed, shadowed, align_of, forms_in, forms_of, template_sizes, template_sizes_in, one_to_three, spread_right, forms_right, is_first_distribution, is_first_align, is_first_shadow, align_right, shadow_right}
 
 -- ---- lists with nothing in them
 
@@ -130,7 +129,7 @@ after_templates w h = right_none (template_rules w) _ (after_nodes w h)
 after_distributions : (w : World) → mapping_rules w ≡ [] → (align_rules w ++ (shadow_rules w ++ (loop_rules w ++ cell_rules w))) ≡ []
 after_distributions w h = right_none (distribution_rules w) _ (after_templates w h)
 
-after_aligns : (w : World) → mapping_rules w ≡ [] → (shadow_rules w ++ (loop_rules w ++ cell_rules w)) ≡ []
+pub after_aligns : (w : World) → mapping_rules w ≡ [] → (shadow_rules w ++ (loop_rules w ++ cell_rules w)) ≡ []
 after_aligns w h = right_none (align_rules w) _ (after_distributions w h)
 
 pub no_cell_rule : (w : World) → mapping_rules w ≡ [] → cell_rules w ≡ []

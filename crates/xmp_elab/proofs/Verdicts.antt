@@ -4,9 +4,9 @@ use Rattle.std.specs.Prelude.{filter, if◌then◌else◌}
 use Rattle.std.proofs.lemmas.Option.{none-some}
 use Rattle.xmp_base.specs.declared.refusal.Refusal.{Refusal}
 use Rattle.xmp_base.specs.First.{comes_first, first_of}
-use Rattle.xmp_walk.specs.declared.rules.Broken.{Broken}
-use Rattle.xmp_walk.specs.declared.world.World.{World}
-use Rattle.xmp_walk.specs.MappingRules.{mapping_rules}
+use Rattle.xmp_names.specs.declared.rules.Broken.{Broken}
+use Rattle.xmp_names.specs.declared.world.World.{World}
+use Rattle.xmp_mapping_rules.specs.MappingRules.{mapping_rules}
 use Rattle.xmp_elab.specs.Verdict.{after_names, broken_in, first_in, is_of_names, refusal_of, verdict_of}
 use Rattle.xmp_elab.proofs.Unbroken.{right_none}
 

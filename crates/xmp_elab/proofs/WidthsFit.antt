@@ -8,13 +8,13 @@ use Rattle.xmp_dist.specs.declared.form.Dist.TheVariants as dist
 use Rattle.xmp_map.specs.declared.spread_dim.SpreadDim.{SpreadDim}
 use Rattle.xmp_map.specs.Align.{aligned_dim, aligned_dims, dims_of, is_chunked_under, is_shadow, shadow_fits, under, unused}
 use Rattle.xmp_map.specs.Shadow.{has_shadow}
-use Rattle.xmp_walk.specs.declared.mappings.AlignPoint.{AlignPoint}
-use Rattle.xmp_walk.specs.declared.mappings.Form.{Form}
-use Rattle.xmp_walk.specs.declared.mappings.Form.TheVariants as form
-use Rattle.xmp_walk.specs.declared.mappings.Shadow.{Shadow}
-use Rattle.xmp_walk.specs.Directives.{natural}
-use Rattle.xmp_walk.specs.Numbers.{first_place}
-use Rattle.xmp_walk.specs.MappingRules.{has_intervals, interval_dimensions, is_width, spans_intervals, width_right, widths_right}
+use Rattle.xmp_names.specs.declared.mappings.AlignPoint.{AlignPoint}
+use Rattle.xmp_names.specs.declared.mappings.Form.{Form}
+use Rattle.xmp_names.specs.declared.mappings.Form.TheVariants as form
+use Rattle.xmp_names.specs.declared.mappings.Shadow.{Shadow}
+use Rattle.xmp_names.specs.Sizes.{natural}
+use Rattle.xmp_mapping_rules.specs.Numbers.{first_place}
+use Rattle.xmp_mapping_rules.specs.MappingRules.{has_intervals, interval_dimensions, is_width, spans_intervals, width_right, widths_right}
 use Rattle.xmp_elab.specs.Narrow.{are_narrow, is_narrow, is_narrow_pair}
 use Rattle.xmp_elab.specs.Parts.{made_form, target_from, targets, widths_in}
 use Rattle.xmp_elab.proofs.Dimensions.{Chunked, Named, found, in_intervals, unique}

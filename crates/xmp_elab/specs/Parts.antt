@@ -20,19 +20,19 @@ use Rattle.xmp_prog.specs.declared.parts.Kind.TheVariants.{Global, Coarray}
 use Rattle.xmp_prog.specs.declared.parts.Array as made_array
 use Rattle.xmp_prog.specs.declared.parts.ProgParts.{ProgParts}
 use Rattle.xmp_prog.specs.declared.statements.Stmt.{Stmt}
-use Rattle.xmp_tree.specs.declared.program.Tree.{Tree}
-use Rattle.xmp_walk.specs.declared.names.Array.{Array}
-use Rattle.xmp_walk.specs.declared.mappings.Form.{Form}
-use Rattle.xmp_walk.specs.declared.mappings.Form.TheVariants as form
-use Rattle.xmp_walk.specs.declared.mappings.AlignPoint.{AlignPoint}
-use Rattle.xmp_walk.specs.declared.mappings.AlignPoint.TheVariants as ap
-use Rattle.xmp_walk.specs.declared.mappings.Align.{Align}
-use Rattle.xmp_walk.specs.declared.mappings.Shadow.{Shadow}
-use Rattle.xmp_walk.specs.declared.world.World.{World}
-use Rattle.xmp_walk.specs.Walk.{Step, Gave}
-use Rattle.xmp_walk.specs.Numbers.{first_place}
-use Rattle.xmp_walk.specs.Directives.{natural}
-use Rattle.xmp_walk.specs.MappingRules.{item_at, nodes_of, forms_of, template_sizes, align_of, shadowed}
+use Rattle.xmp_syntax.specs.declared.program.Tree.{Tree}
+use Rattle.xmp_names.specs.declared.names.Array.{Array}
+use Rattle.xmp_names.specs.declared.mappings.Form.{Form}
+use Rattle.xmp_names.specs.declared.mappings.Form.TheVariants as form
+use Rattle.xmp_names.specs.declared.mappings.AlignPoint.{AlignPoint}
+use Rattle.xmp_names.specs.declared.mappings.AlignPoint.TheVariants as ap
+use Rattle.xmp_names.specs.declared.mappings.Align.{Align}
+use Rattle.xmp_names.specs.declared.mappings.Shadow.{Shadow}
+use Rattle.xmp_names.specs.declared.world.World.{World}
+use Rattle.xmp_names.specs.Walk.{Step, Gave}
+use Rattle.xmp_mapping_rules.specs.Numbers.{first_place}
+use Rattle.xmp_names.specs.Sizes.{natural}
+use Rattle.xmp_mapping_rules.specs.MappingRules.{item_at, nodes_of, forms_of, template_sizes, align_of, shadowed, shadow_of}
 use Rattle.xmp_walk.specs.Program.{program_of}
 
 -- ---- the grid and the templates
@@ -89,9 +89,6 @@ abbrev pub targets : List ℕ → List AlignPoint → List Target
 targets extents points = targets_from 0 extents points
 
 -- The widths of the first shadow of an array.
-abbrev pub shadow_of : World → ℕ → Option Shadow
-shadow_of w k = item_at w.mappings.shadows (first_place k (shadowed w))
-
 abbrev pub widths_in : List ℕ → Option Shadow → List (ℕ × ℕ)
 widths_in extents None = map (λ x. (0, 0)) extents
 widths_in extents (Some s) = map (λ x. (natural x.0, natural x.1)) s.widths

@@ -1,7 +1,7 @@
 // The parts of the typed program of a tree.
 ghost use Rattle.std.specs.Prelude.{◌≡◌, [], IfErr, IfOk, IsTrue, None, map};
-ghost use Rattle.xmp_walk.specs.Directives.{natural};
-ghost use Rattle.xmp_walk.specs.MappingRules.{mapping_rules, nodes_of};
+ghost use Rattle.xmp_names.specs.Sizes.{natural};
+ghost use Rattle.xmp_mapping_rules.specs.MappingRules.{mapping_rules, nodes_of};
 ghost use Rattle.xmp_elab.specs.Narrow.{is_count};
 ghost use Rattle.xmp_elab.specs.Parts.{EachMade, IsArray, IsGrid, IsParts, IsTemplate, Made, RefusedBy, kind_of};
 ghost use Rattle.xmp_elab.specs.Verdict.{broken_in, verdict, verdict_of};
@@ -14,15 +14,16 @@ use std::alloc::{AllocError, Global};
 use xmp_base::{Fault, Refusal};
 use xmp_map::{Grid, Template};
 use xmp_prog::{Array, Kind, ProgParts, Stmt};
-use xmp_tree::Tree;
-use xmp_walk::{World, mapping_rules, nodes_of, walk_program};
+use xmp_syntax::Tree;
+use xmp_mapping_rules::{Lines, mapping_rules};
+use xmp_walk::{World, walk_program};
 
 // The verdict on a world after the walk.
-fn judged(alloc: Global, w: &World) -> Result<Option<Refusal>, AllocError>
-    ensures { IfOk result (λ r. r ≡ verdict_of (broken_in w.now)) }
+fn judged(alloc: Global, lines: &Lines) -> Result<Option<Refusal>, AllocError>
+    ensures { IfOk result (λ r. r ≡ verdict_of (broken_in lines.now)) }
 {
-    let rules = mapping_rules(alloc, w)?;
-    let mut broken = Items::from_slice(alloc, w.broken.as_slice())?;
+    let rules = mapping_rules(alloc, lines)?;
+    let mut broken = Items::from_slice(alloc, lines.world().broken.as_slice())?;
     broken.append(rules)?;
     Ok(verdict_of(broken.as_slice()))
 }
@@ -42,17 +43,16 @@ struct Placed {
 }
 
 // The same of a program in which no rule of mappings breaks.
-fn place_all(alloc: Global, w: &World) -> Result<Placed, AllocError>
-    requires unbroken { mapping_rules w.now ≡ [] }
-    requires count { IsTrue (is_count w.now.given) }
-    ensures grid { IfOk result (λ m. IsGrid (map natural (nodes_of w.now)) m.grid) }
-    ensures templates { IfOk result (λ m. EachMade (λ k line t. IsTemplate w.now m.grid k t) 0 w.now.mappings.templates m.templates) }
-    ensures arrays { IfOk result (λ m. EachMade (IsArray w.now m.templates) 0 w.now.names.arrays m.arrays) }
+fn place_all(alloc: Global, lines: &Lines) -> Result<Placed, AllocError>
+    requires unbroken { mapping_rules lines.now ≡ [] }
+    requires count { IsTrue (is_count lines.now.given) }
+    ensures grid { IfOk result (λ m. IsGrid (map natural (nodes_of lines.now)) m.grid) }
+    ensures templates { IfOk result (λ m. EachMade (λ k line t. IsTemplate lines.now m.grid k t) 0 lines.now.mappings.templates m.templates) }
+    ensures arrays { IfOk result (λ m. EachMade (IsArray lines.now m.templates) 0 lines.now.names.arrays m.arrays) }
 {
-    let nodes = nodes_of(alloc, w)?;
-    let grid = made_grid(alloc, nodes.as_slice())?;
-    let templates = made_templates(alloc, w, &grid)?;
-    let arrays = made_arrays(alloc, w, &grid, templates.as_slice())?;
+    let grid = made_grid(alloc, lines.nodes())?;
+    let templates = made_templates(alloc, lines, &grid)?;
+    let arrays = made_arrays(alloc, lines, &grid, templates.as_slice())?;
     Ok(Placed {
         grid,
         templates,
@@ -61,7 +61,26 @@ fn place_all(alloc: Global, w: &World) -> Result<Placed, AllocError>
 }
 
 // The same of a program by the world after the walk, or the rule that it is refused for.
-fn place_or_refuse(alloc: Global, w: &World) -> Result<Placed, Fault>
+fn place_or_refuse(alloc: Global, lines: &Lines) -> Result<Placed, Fault>
+    requires { IsTrue (is_count lines.now.given) }
+    ensures accepted { IfOk result (λ m. verdict_of (broken_in lines.now) ≡ None) }
+    ensures grid { IfOk result (λ m. IsGrid (map natural (nodes_of lines.now)) m.grid) }
+    ensures templates { IfOk result (λ m. EachMade (λ k line t. IsTemplate lines.now m.grid k t) 0 lines.now.mappings.templates m.templates) }
+    ensures arrays { IfOk result (λ m. EachMade (IsArray lines.now m.templates) 0 lines.now.names.arrays m.arrays) }
+    ensures refused { IfErr result (λ e. RefusedBy (verdict_of (broken_in lines.now)) e) }
+{
+    match judged(alloc, lines) {
+        Ok(None) => match place_all(alloc, lines) {
+            Ok(found) => Ok(found),
+            Err(_) => Err(Fault::NoMemory),
+        },
+        Ok(Some(refusal)) => Err(Fault::Refused(refusal)),
+        Err(_) => Err(Fault::NoMemory),
+    }
+}
+
+// The same by the world alone.
+fn placed_in(alloc: Global, w: &World) -> Result<Placed, Fault>
     requires { IsTrue (is_count w.now.given) }
     ensures accepted { IfOk result (λ m. verdict_of (broken_in w.now) ≡ None) }
     ensures grid { IfOk result (λ m. IsGrid (map natural (nodes_of w.now)) m.grid) }
@@ -69,12 +88,8 @@ fn place_or_refuse(alloc: Global, w: &World) -> Result<Placed, Fault>
     ensures arrays { IfOk result (λ m. EachMade (IsArray w.now m.templates) 0 w.now.names.arrays m.arrays) }
     ensures refused { IfErr result (λ e. RefusedBy (verdict_of (broken_in w.now)) e) }
 {
-    match judged(alloc, w) {
-        Ok(None) => match place_all(alloc, w) {
-            Ok(found) => Ok(found),
-            Err(_) => Err(Fault::NoMemory),
-        },
-        Ok(Some(refusal)) => Err(Fault::Refused(refusal)),
+    match Lines::new(alloc, w) {
+        Ok(lines) => place_or_refuse(alloc, &lines),
         Err(_) => Err(Fault::NoMemory),
     }
 }
@@ -120,7 +135,7 @@ pub fn elaborate_parts(alloc: Global, t: &Tree, given: Option<u32>) -> Result<Pr
     let Ok((body, world)) = walk_program(alloc, t, given) else {
         return Err(Fault::NoMemory);
     };
-    match place_or_refuse(alloc, &world) {
+    match placed_in(alloc, &world) {
         Ok(found) => Ok(assembled(body, world, found)),
         Err(fault) => Err(fault),
     }

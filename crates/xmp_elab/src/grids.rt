@@ -4,8 +4,8 @@ ghost use Rattle.std.specs.List.{list_all};
 ghost use Rattle.xmp_dist.specs.declared.form.Dist.TheVariants.{Whole};
 ghost use Rattle.xmp_map.specs.Nodes.{filled, makes_grid};
 ghost use Rattle.xmp_map.specs.Spread.{template_fault};
-ghost use Rattle.xmp_walk.specs.Directives.{natural};
-ghost use Rattle.xmp_walk.specs.MappingRules.{distributed, forms_in, forms_of, mapping_rules, nodes_of};
+ghost use Rattle.xmp_names.specs.Sizes.{natural};
+ghost use Rattle.xmp_mapping_rules.specs.MappingRules.{forms_of, mapping_rules, nodes_of};
 ghost use Rattle.xmp_elab.specs.Narrow.{is_count, is_narrow, is_narrow_form};
 ghost use Rattle.xmp_elab.specs.Parts.{EachMade, IsGrid, IsOf, IsTemplate, made_form, padded};
 
@@ -13,7 +13,8 @@ use sqlite_items::Items;
 use std::alloc::{AllocError, Global};
 use xmp_dist::{Dist, Lengths};
 use xmp_map::{Grid, Template};
-use xmp_walk::{Distribution, Form, Numbers, TemplateLine, World, distributed};
+use xmp_mapping_rules::Lines;
+use xmp_walk::{Form, TemplateLine};
 
 /// A number that no narrow type cuts off.
 pub(crate) fn narrowed(n: i64) -> u32
@@ -125,61 +126,38 @@ fn made_template(
     Ok(template_of(grid, sizes.as_slice(), dists.as_slice()))
 }
 
-// The forms of a template by its place.
-fn forms_at<'a>(w: &'a World, distributions: &Numbers, k: usize) -> &'a [Form]
-    requires { distributions.now ≡ distributed w.now }
-    ensures { result.now ≡ forms_of w.now k }
-{
-    match distributions.first_place(k) {
-        Some(place) => forms_in(w.mappings.distributions.get(place)),
-        None => &[],
-    }
-}
-
-fn forms_in<'a>(distribution: Option<&'a Distribution>) -> &'a [Form]
-    ensures { result.now ≡ forms_in (option_copied distribution.entry) }
-{
-    match distribution {
-        Some(distribution) => distribution.forms.as_slice(),
-        None => &[],
-    }
-}
-
 fn template_at(
     alloc: Global,
-    w: &World,
-    distributions: &Numbers,
+    lines: &Lines,
     grid: &Grid,
     k: usize,
     line: &TemplateLine,
 ) -> Result<Template, AllocError>
-    requires distributions { distributions.now ≡ distributed w.now }
-    requires unbroken { mapping_rules w.now ≡ [] }
-    requires count { IsTrue (is_count w.now.given) }
-    requires grid { IsGrid (map natural (nodes_of w.now)) grid.now }
-    requires line { slice_get w.now.mappings.templates k ≡ Some line.now }
-    ensures { IfOk result (λ t. IsTemplate w.now grid.now k t) }
+    requires unbroken { mapping_rules lines.now ≡ [] }
+    requires count { IsTrue (is_count lines.now.given) }
+    requires grid { IsGrid (map natural (nodes_of lines.now)) grid.now }
+    requires line { slice_get lines.now.mappings.templates k ≡ Some line.now }
+    ensures { IfOk result (λ t. IsTemplate lines.now grid.now k t) }
 {
-    let forms = forms_at(w, distributions, k);
+    let forms = lines.forms_of(k);
     made_template(alloc, grid, line.sizes.as_slice(), forms)
 }
 
 /// The templates of a program in which no rule of mappings breaks, in the order of their declarations.
 pub(crate) fn made_templates(
     alloc: Global,
-    w: &World,
+    lines: &Lines,
     grid: &Grid,
 ) -> Result<Items<Template>, AllocError>
-    requires unbroken { mapping_rules w.now ≡ [] }
-    requires count { IsTrue (is_count w.now.given) }
-    requires grid { IsGrid (map natural (nodes_of w.now)) grid.now }
-    ensures { IfOk result (λ ts. EachMade (λ k line t. IsTemplate w.now grid.now k t) 0 w.now.mappings.templates ts) }
+    requires unbroken { mapping_rules lines.now ≡ [] }
+    requires count { IsTrue (is_count lines.now.given) }
+    requires grid { IsGrid (map natural (nodes_of lines.now)) grid.now }
+    ensures { IfOk result (λ ts. EachMade (λ k line t. IsTemplate lines.now grid.now k t) 0 lines.now.mappings.templates ts) }
 {
-    let distributions = distributed(alloc, w)?;
-    let lines = w.mappings.templates.as_slice();
+    let list = lines.world().mappings.templates.as_slice();
     let mut made = Items::new(alloc);
-    'lines: for (k, line) in lines.iter().enumerate() {
-        made.push(template_at(alloc, w, &distributions, grid, k, line)?)?;
+    'list: for (k, line) in list.iter().enumerate() {
+        made.push(template_at(alloc, lines, grid, k, line)?)?;
     }
     Ok(made)
 }

@@ -4,10 +4,10 @@ ghost use Rattle.std.specs.List.{list_all};
 ghost use Rattle.xmp_map.specs.Align.{aligned_dims, map_fault};
 ghost use Rattle.xmp_map.specs.RowMajor.{product};
 ghost use Rattle.xmp_map.specs.Spread.{sizes_fit};
-ghost use Rattle.xmp_walk.specs.Directives.{natural};
-ghost use Rattle.xmp_walk.specs.MappingRules.{align_of, aligned, mapping_rules, shadowed};
+ghost use Rattle.xmp_names.specs.Sizes.{natural};
+ghost use Rattle.xmp_mapping_rules.specs.MappingRules.{align_of, mapping_rules, shadow_of};
 ghost use Rattle.xmp_elab.specs.Narrow.{are_narrow, is_narrow_pair, is_narrow_point};
-ghost use Rattle.xmp_elab.specs.Parts.{EachMade, IsArray, IsHome, IsOver, IsSpread, IsTemplate, offset_for, shadow_of, target_from, targets, widths_in};
+ghost use Rattle.xmp_elab.specs.Parts.{EachMade, IsArray, IsHome, IsOver, IsSpread, IsTemplate, offset_for, target_from, targets, widths_in};
 
 use crate::grids::narrowed;
 use sqlite_items::Items;
@@ -15,7 +15,8 @@ use std::alloc::{AllocError, Global};
 use xmp_map::{ArrayMap, Grid, Target, Template};
 use xmp_prog as prog;
 use xmp_prog::Home;
-use xmp_walk::{Align, AlignPoint, Array, Numbers, Shadow, World, aligned, shadowed};
+use xmp_mapping_rules::Lines;
+use xmp_walk::{Align, AlignPoint, Array, Shadow};
 
 // ---- what the dimensions of an array are aligned with
 
@@ -157,28 +158,6 @@ fn made_map(
 
 // ---- the arrays of a program
 
-// The first shadow of an array by its place.
-fn shadow_at<'a>(w: &'a World, shadows: &Numbers, k: usize) -> Option<&'a Shadow>
-    requires { shadows.now ≡ shadowed w.now }
-    ensures { option_copied result ≡ shadow_of w.now k }
-{
-    match shadows.first_place(k) {
-        Some(place) => w.mappings.shadows.get(place),
-        None => None,
-    }
-}
-
-// The first align of an array by its place.
-fn align_at<'a>(w: &'a World, aligns: &Numbers, k: usize) -> Option<&'a Align>
-    requires { aligns.now ≡ aligned w.now }
-    ensures { option_copied result ≡ align_of w.now k }
-{
-    match aligns.first_place(k) {
-        Some(place) => w.mappings.aligns.get(place),
-        None => None,
-    }
-}
-
 // A template by its number.
 fn template_with(templates: &[Template], number: u32) -> Option<&Template>
     ensures { option_copied result ≡ slice_get templates.now number }
@@ -189,24 +168,22 @@ fn template_with(templates: &[Template], number: u32) -> Option<&Template>
 // The home of an array that is aligned.
 fn spread_home(
     alloc: Global,
-    w: &World,
-    shadows: &Numbers,
+    lines: &Lines,
     grid: &Grid,
     templates: &[Template],
     k: usize,
     array: &Array,
     align: &Align,
 ) -> Result<Home, AllocError>
-    requires shadows { shadows.now ≡ shadowed w.now }
-    requires unbroken { mapping_rules w.now ≡ [] }
-    requires templates { EachMade (λ k line t. IsTemplate w.now grid.now k t) 0 w.now.mappings.templates templates.now }
-    requires array { slice_get w.now.names.arrays k ≡ Some array.now }
-    requires align { align_of w.now k ≡ Some align.now }
-    ensures { IfOk result (λ h. IsSpread w.now templates.now k array.now.extents align.now h) }
+    requires unbroken { mapping_rules lines.now ≡ [] }
+    requires templates { EachMade (λ k line t. IsTemplate lines.now grid.now k t) 0 lines.now.mappings.templates templates.now }
+    requires array { slice_get lines.now.names.arrays k ≡ Some array.now }
+    requires align { align_of lines.now k ≡ Some align.now }
+    ensures { IfOk result (λ h. IsSpread lines.now templates.now k array.now.extents align.now h) }
 {
     match template_with(templates, align.template) {
         Some(template) => {
-            let shadow = shadow_at(w, shadows, k);
+            let shadow = lines.shadow_of(k);
             let extents = array.extents.as_slice();
             let points = align.points.as_slice();
             let map = made_map(alloc, template, extents, points, shadow)?;
@@ -218,48 +195,40 @@ fn spread_home(
 
 fn home_of(
     alloc: Global,
-    w: &World,
-    aligns: &Numbers,
-    shadows: &Numbers,
+    lines: &Lines,
     grid: &Grid,
     templates: &[Template],
     k: usize,
     array: &Array,
 ) -> Result<Home, AllocError>
-    requires aligns { aligns.now ≡ aligned w.now }
-    requires shadows { shadows.now ≡ shadowed w.now }
-    requires unbroken { mapping_rules w.now ≡ [] }
-    requires templates { EachMade (λ k line t. IsTemplate w.now grid.now k t) 0 w.now.mappings.templates templates.now }
-    requires array { slice_get w.now.names.arrays k ≡ Some array.now }
-    ensures { IfOk result (λ h. IsHome array.now.coarray w.now templates.now k array.now.extents h) }
+    requires unbroken { mapping_rules lines.now ≡ [] }
+    requires templates { EachMade (λ k line t. IsTemplate lines.now grid.now k t) 0 lines.now.mappings.templates templates.now }
+    requires array { slice_get lines.now.names.arrays k ≡ Some array.now }
+    ensures { IfOk result (λ h. IsHome array.now.coarray lines.now templates.now k array.now.extents h) }
 {
     if array.coarray {
         return Ok(Home::Image);
     }
-    match align_at(w, aligns, k) {
-        Some(align) => spread_home(alloc, w, shadows, grid, templates, k, array, align),
+    match lines.align_of(k) {
+        Some(align) => spread_home(alloc, lines, grid, templates, k, array, align),
         None => Ok(Home::Copy),
     }
 }
 
 fn array_at(
     alloc: Global,
-    w: &World,
-    aligns: &Numbers,
-    shadows: &Numbers,
+    lines: &Lines,
     grid: &Grid,
     templates: &[Template],
     k: usize,
     array: &Array,
 ) -> Result<prog::Array, AllocError>
-    requires aligns { aligns.now ≡ aligned w.now }
-    requires shadows { shadows.now ≡ shadowed w.now }
-    requires unbroken { mapping_rules w.now ≡ [] }
-    requires templates { EachMade (λ k line t. IsTemplate w.now grid.now k t) 0 w.now.mappings.templates templates.now }
-    requires array { slice_get w.now.names.arrays k ≡ Some array.now }
-    ensures { IfOk result (λ made. IsArray w.now templates.now k array.now made) }
+    requires unbroken { mapping_rules lines.now ≡ [] }
+    requires templates { EachMade (λ k line t. IsTemplate lines.now grid.now k t) 0 lines.now.mappings.templates templates.now }
+    requires array { slice_get lines.now.names.arrays k ≡ Some array.now }
+    ensures { IfOk result (λ made. IsArray lines.now templates.now k array.now made) }
 {
-    let home = home_of(alloc, w, aligns, shadows, grid, templates, k, array)?;
+    let home = home_of(alloc, lines, grid, templates, k, array)?;
     let extents = Items::from_slice(alloc, array.extents.as_slice())?;
     Ok(prog::Array {
         ty: array.ty,
@@ -271,20 +240,18 @@ fn array_at(
 /// The arrays of a program in which no rule of mappings breaks, in the order of their declarations.
 pub(crate) fn made_arrays(
     alloc: Global,
-    w: &World,
+    lines: &Lines,
     grid: &Grid,
     templates: &[Template],
 ) -> Result<Items<prog::Array>, AllocError>
-    requires unbroken { mapping_rules w.now ≡ [] }
-    requires templates { EachMade (λ k line t. IsTemplate w.now grid.now k t) 0 w.now.mappings.templates templates.now }
-    ensures { IfOk result (λ made. EachMade (IsArray w.now templates.now) 0 w.now.names.arrays made) }
+    requires unbroken { mapping_rules lines.now ≡ [] }
+    requires templates { EachMade (λ k line t. IsTemplate lines.now grid.now k t) 0 lines.now.mappings.templates templates.now }
+    ensures { IfOk result (λ made. EachMade (IsArray lines.now templates.now) 0 lines.now.names.arrays made) }
 {
-    let aligns = aligned(alloc, w)?;
-    let shadows = shadowed(alloc, w)?;
-    let arrays = w.names.arrays.as_slice();
+    let arrays = lines.world().names.arrays.as_slice();
     let mut made = Items::new(alloc);
     'arrays: for (k, array) in arrays.iter().enumerate() {
-        made.push(array_at(alloc, w, &aligns, &shadows, grid, templates, k, array)?)?;
+        made.push(array_at(alloc, lines, grid, templates, k, array)?)?;
     }
     Ok(made)
 }

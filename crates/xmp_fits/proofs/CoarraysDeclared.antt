@@ -10,34 +10,35 @@ use Rattle.xmp_prog.specs.declared.statements.Stmt as made
 use Rattle.xmp_prog.specs.declared.statements.Stmt.TheVariants as m
 use Rattle.xmp_prog.specs.declared.statements.Plain.TheVariants as p
 use Rattle.xmp_prog.specs.declared.statements.Task.{Task}
-use Rattle.xmp_tree.specs.declared.parts.Name as named
-use Rattle.xmp_tree.specs.declared.expression.Expr.{Expr}
-use Rattle.xmp_tree.specs.declared.declaration.Declarator.{Declarator}
-use Rattle.xmp_tree.specs.declared.declaration.Declarator.TheVariants as declarator
-use Rattle.xmp_tree.specs.declared.directive.DirectiveLine.{DirectiveLine}
-use Rattle.xmp_tree.specs.declared.directive.LoopLine.{LoopLine}
-use Rattle.xmp_tree.specs.declared.directive.TaskLine.{TaskLine}
-use Rattle.xmp_tree.specs.declared.statement.ForHead.{ForHead}
-use Rattle.xmp_tree.specs.declared.statement.BlockItem.{BlockItem}
-use Rattle.xmp_tree.specs.declared.statement.BlockItem.TheVariants as b
-use Rattle.xmp_tree.specs.declared.statement.Stmt.{Stmt, fold-roll-Stmt}
-use Rattle.xmp_tree.specs.declared.statement.Stmt.TheOpen.{Stmt-F}
-use Rattle.xmp_tree.specs.declared.statement.Stmt.TheVariants as s
-use Rattle.xmp_walk.specs.declared.names.Array.{Array}
+use Rattle.xmp_syntax.specs.declared.parts.Name as named
+use Rattle.xmp_syntax.specs.declared.expression.Expr.{Expr}
+use Rattle.xmp_syntax.specs.declared.declaration.Declarator.{Declarator}
+use Rattle.xmp_syntax.specs.declared.declaration.Declarator.TheVariants as declarator
+use Rattle.xmp_syntax.specs.declared.directive.DirectiveLine.{DirectiveLine}
+use Rattle.xmp_syntax.specs.declared.directive.LoopLine.{LoopLine}
+use Rattle.xmp_syntax.specs.declared.directive.TaskLine.{TaskLine}
+use Rattle.xmp_syntax.specs.declared.statement.ForHead.{ForHead}
+use Rattle.xmp_syntax.specs.declared.statement.BlockItem.{BlockItem}
+use Rattle.xmp_syntax.specs.declared.statement.BlockItem.TheVariants as b
+use Rattle.xmp_syntax.specs.declared.statement.Stmt.{Stmt, fold-roll-Stmt}
+use Rattle.xmp_syntax.specs.declared.statement.Stmt.TheOpen.{Stmt-F}
+use Rattle.xmp_syntax.specs.declared.statement.Stmt.TheVariants as s
+use Rattle.xmp_names.specs.declared.names.Array.{Array}
 use Rattle.xmp_walk.specs.declared.loops.ForParts.{ForParts}
-use Rattle.xmp_walk.specs.declared.rules.Rule.TheVariants.{N8}
-use Rattle.xmp_walk.specs.declared.typed.Operand.{Operand}
-use Rattle.xmp_walk.specs.declared.world.World.{World}
-use Rattle.xmp_walk.specs.Walk as walk
-use Rattle.xmp_walk.specs.Walk.{Step, Gave, Run, and_then}
-use Rattle.xmp_walk.specs.declared.names.Meaning.TheVariants as meaning
+use Rattle.xmp_names.specs.declared.rules.Rule.TheVariants.{N8}
+use Rattle.xmp_names.specs.declared.typed.Operand.{Operand}
+use Rattle.xmp_names.specs.declared.world.World.{World}
+use Rattle.xmp_names.specs.Walk as walk
+use Rattle.xmp_names.specs.Walk.{Step, Gave, Run, and_then}
+use Rattle.xmp_names.specs.declared.names.Meaning.TheVariants as meaning
 use Rattle.xmp_walk.specs.Declarations as declarations
-use Rattle.xmp_walk.specs.Declarations.{declare_array, extent_of, extent_right, file_declarator, inner, listed, local_declarator, local_declarators, start_of, type_of}
-use Rattle.xmp_walk.specs.Directives.{loop_directive, loop_line, lone_task, made_task, nest_of, task_line, tasks_in, tasks_of}
-use Rattle.xmp_walk.specs.MappingLines.{mapping_of}
-use Rattle.xmp_walk.specs.Program.{block_of, coarray_declarator, coarray_in, coarray_step, coarray_stmt, inside_item, item_of, items_of, plain_of, stmt_of, task_step}
+use Rattle.xmp_walk.specs.Declarations.{declare_array, extent_of, extent_right, file_declarator, local_declarator, local_declarators, start_of, type_of}
+use Rattle.xmp_names.specs.Lists.{inner, listed}
+use Rattle.xmp_walk.specs.Program.{loop_directive, block_of, coarray_declarator, coarray_in, coarray_step, coarray_stmt, inside_item, item_of, items_of, plain_of, stmt_of, task_step}
+use Rattle.xmp_directives.specs.Directives.{loop_line, lone_task, made_task, nest_of, task_line, tasks_in, tasks_of}
+use Rattle.xmp_directives.specs.MappingLines.{mapping_of}
 use Rattle.xmp_walk.specs.Statements.{for_of, for_parts, if_of, while_of}
-use Rattle.xmp_fits.proofs.Coarrays.{block_has, tasks_have}
+use Rattle.xmp_walk.proofs.Coarrays.{block_has, tasks_have}
 use Rattle.xmp_fits.proofs.KeptRuns.{Ends, ends_then, ends_map}
 use Rattle.xmp_fits.proofs.KeptStatements as kept
 use Rattle.xmp_fits.proofs.QuietDirectives as quiet
@@ -46,7 +47,7 @@ use Rattle.xmp_fits.proofs.QuietMappings as quiet_mappings
 use Rattle.xmp_fits.proofs.QuietRuns as quiet_runs
 use Rattle.xmp_fits.proofs.QuietRuns.{Goes, Kept, Going, goes_refl, ◌>>=◌, pure}
 use Rattle.xmp_fits.proofs.QuietSteps as quiet_steps
-use Rattle.xmp_fits.proofs.Seen.{seen_block, seen_for, seen_if, seen_loop, seen_plain, seen_task, seen_tasks, seen_while}
+use Rattle.xmp_walk.proofs.Seen.{seen_block, seen_for, seen_if, seen_loop, seen_plain, seen_task, seen_tasks, seen_while}
 use Rattle.xmp_fits.proofs.TreeInduction.{Cases, ItemIs, each_item, each_stmt}
 
 -- ---- runs that declare coarrays

@@ -14,22 +14,22 @@ use Rattle.xmp_prog.specs.declared.statements.Stmt.TheVariants as s
 use Rattle.xmp_prog.specs.declared.parts.ProgParts.{ProgParts}
 use Rattle.xmp_prog.specs.Terms.{terms_of_option}
 use Rattle.xmp_prog.specs.Fits.{has_coarrays}
-use Rattle.xmp_tree.specs.declared.parts.Name as named
-use Rattle.xmp_tree.specs.declared.parts.Reference.{Reference}
-use Rattle.xmp_tree.specs.declared.expression.Expr.{Expr}
-use Rattle.xmp_tree.specs.declared.declaration.Declarator.{Declarator}
-use Rattle.xmp_tree.specs.declared.declaration.Declarator.TheVariants as declarator
-use Rattle.xmp_tree.specs.declared.statement.ForFirst.{ForFirst}
-use Rattle.xmp_tree.specs.declared.statement.ForFirst.TheVariants as for_first
-use Rattle.xmp_walk.specs.declared.typed.Typed.{Typed}
-use Rattle.xmp_walk.specs.declared.typed.Operand.{Operand}
+use Rattle.xmp_syntax.specs.declared.parts.Name as named
+use Rattle.xmp_syntax.specs.declared.parts.Reference.{Reference}
+use Rattle.xmp_syntax.specs.declared.expression.Expr.{Expr}
+use Rattle.xmp_syntax.specs.declared.declaration.Declarator.{Declarator}
+use Rattle.xmp_syntax.specs.declared.declaration.Declarator.TheVariants as declarator
+use Rattle.xmp_syntax.specs.declared.statement.ForFirst.{ForFirst}
+use Rattle.xmp_syntax.specs.declared.statement.ForFirst.TheVariants as for_first
+use Rattle.xmp_names.specs.declared.typed.Typed.{Typed}
+use Rattle.xmp_names.specs.declared.typed.Operand.{Operand}
 use Rattle.xmp_walk.specs.declared.loops.First.{First}
-use Rattle.xmp_walk.specs.declared.world.World.{World}
-use Rattle.xmp_walk.specs.Typing.{operand_of}
-use Rattle.xmp_walk.specs.Expressions.{is_function, expr_of, reference_of}
-use Rattle.xmp_walk.specs.Walk as walk
-use Rattle.xmp_walk.specs.Walk.{Step, Gave, Run, first_place}
-use Rattle.xmp_walk.specs.Declarations.{inner, initialiser, local_declarator, declare_array}
+use Rattle.xmp_names.specs.declared.world.World.{World}
+use Rattle.xmp_names.specs.Expressions.{is_function, expr_of, reference_of}
+use Rattle.xmp_names.specs.Walk as walk
+use Rattle.xmp_names.specs.Walk.{Step, Gave, Run, first_place}
+use Rattle.xmp_names.specs.Lists.{inner}
+use Rattle.xmp_walk.specs.Declarations.{initialiser, local_declarator, declare_array}
 use Rattle.xmp_walk.specs.Statements.{set, first_of, index_of, first_part}
 use Rattle.xmp_elab.proofs.Unbroken.{left_none, right_none, left_true, right_true}
 use Rattle.xmp_fits.proofs.GoodWorlds.{Own, Good}
@@ -41,9 +41,8 @@ use Rattle.xmp_fits.proofs.KeptDirectives as kept
 use Rattle.xmp_fits.proofs.Laters.{unbroken_before}
 use Rattle.xmp_fits.proofs.Endings.{opened, ends_at, later_at}
 use Rattle.xmp_fits.proofs.Holding.{Holds}
-use Rattle.xmp_fits.specs.NumbersLie.{numbers_lie, reference_lies}
+use Rattle.xmp_fits.specs.NumbersLie.{numbers_lie, reference_lies, there_lies, second_lies, declarator_lies, first_lies}
 use Rattle.xmp_fits.proofs.TreeNumbers.{expr_right}
-use Rattle.xmp_fits.specs.NumbersLie.{there_lies, second_lies, declarator_lies, first_lies}
 use Rattle.xmp_fits.proofs.StepsFit.{reference_right, reference_place}
 use Rattle.xmp_fits.proofs.PlainFits.{set_fits}
 use Rattle.xmp_fits.proofs.TellsTrue.{tells}
@@ -102,7 +101,7 @@ record BothGood (v : World) (at : Place) (t x : Operand) : Type 0 where
   value : OperandGood v x
 
 both_good : (own : Own) (w v : World) (at : Place) (r : Reference Expr) (x : Expr) → Good own w → Goes w v → reference_lies r ≡ true → numbers_lie x ≡ true →
-    v.broken ≡ (w.broken ++ (reference_of w.names r).notes.broken) ++ (expr_of w.names x).notes.broken → v.broken ≡ [] → BothGood v at (operand_of (reference_of w.names r)) (operand_of (expr_of w.names x))
+    v.broken ≡ (w.broken ++ (reference_of w.names r).notes.broken) ++ (expr_of w.names x).notes.broken → v.broken ≡ [] → BothGood v at (reference_of w.names r).operand (expr_of w.names x).operand
 both_good own w v at r x g o h k is none =
     let y : Typed = reference_of w.names r in
     let z : Typed = expr_of w.names x in
@@ -112,9 +111,9 @@ both_good own w v at r x g o h k is none =
     let one : y.notes.broken ≡ [] = right_none w.broken y.notes.broken (left_none (w.broken ++ y.notes.broken) z.notes.broken all) in
     let two : z.notes.broken ≡ [] = right_none (w.broken ++ y.notes.broken) z.notes.broken all in record {
       set = λ p r0. let t = tells own w p g (back p w v st r0).extends in
-          stmt_good own p w v (set None at (operand_of y) (operand_of z)) g start t st (set_fits w.names p None at (operand_of y) (operand_of z) tt (reference_right w.names p t r h one) (reference_place w.names r one) (expr_right w.names p t x k two));
-      target = λ p r0. let t = tells own w p g (back p w v st r0).extends in operand_good own p w v (operand_of y) g start t st (reference_right w.names p t r h one);
-      value = λ p r0. let t = tells own w p g (back p w v st r0).extends in operand_good own p w v (operand_of z) g start t st (expr_right w.names p t x k two);
+          stmt_good own p w v (set None at y.operand z.operand) g start t st (set_fits w.names p None at y.operand z.operand tt (reference_right w.names p t r h one) (reference_place w.names r one) (expr_right w.names p t x k two));
+      target = λ p r0. let t = tells own w p g (back p w v st r0).extends in operand_good own p w v y.operand g start t st (reference_right w.names p t r h one);
+      value = λ p r0. let t = tells own w p g (back p w v st r0).extends in operand_good own p w v z.operand g start t st (expr_right w.names p t x k two);
     }
 
 -- What a `for` does first, as it is asked for by the induction.

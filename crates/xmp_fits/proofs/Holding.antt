@@ -3,11 +3,11 @@ use Rattle.std.proofs.Common.{◌≡◌, refl, sym, subst, ◌++◌, ◌∷◌, 
 use Rattle.std.specs.Prelude.{⊤}
 use Rattle.std.specs.List.{AllByRecursion}
 use Rattle.xmp_base.specs.declared.place.Place.{Place}
-use Rattle.xmp_walk.specs.declared.rules.Rule.{Rule}
-use Rattle.xmp_walk.specs.declared.world.World.{World}
-use Rattle.xmp_walk.specs.Rules.{unless}
-use Rattle.xmp_walk.specs.Walk as walk
-use Rattle.xmp_walk.specs.Walk.{Step, Gave, Run, and_then}
+use Rattle.xmp_names.specs.declared.rules.Rule.{Rule}
+use Rattle.xmp_names.specs.declared.world.World.{World}
+use Rattle.xmp_names.specs.Rules.{unless}
+use Rattle.xmp_names.specs.Walk as walk
+use Rattle.xmp_names.specs.Walk.{Step, Gave, Run, and_then}
 use Rattle.xmp_elab.proofs.Unbroken.{right_none, holds}
 use Rattle.xmp_fits.proofs.Laters.{unbroken_before}
 use Rattle.xmp_fits.proofs.GoodWorlds.{Own, Good}

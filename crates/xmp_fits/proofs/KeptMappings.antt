@@ -2,34 +2,34 @@
 use Rattle.std.proofs.Common.{◌++◌, ◌∷◌, [], ℕ, ◌+◌, List, Bool, false, Option, Some, None, length, map}
 use Rattle.std.specs.Prelude.{⊤, ℤ, pos, not, ◌||◌}
 use Rattle.xmp_base.specs.declared.place.Place.{Place}
-use Rattle.xmp_tree.specs.declared.parts.Name as named
-use Rattle.xmp_tree.specs.declared.parts.Inside.{Inside}
-use Rattle.xmp_tree.specs.declared.expression.Expr.{Expr}
-use Rattle.xmp_tree.specs.declared.directive.DistForm.{DistForm}
-use Rattle.xmp_tree.specs.declared.directive.DistForm.TheVariants as dist
-use Rattle.xmp_tree.specs.declared.directive.AlignDimension.{AlignDimension}
-use Rattle.xmp_tree.specs.declared.directive.AlignDimension.TheVariants as dimension
-use Rattle.xmp_tree.specs.declared.directive.Point.{Point}
-use Rattle.xmp_tree.specs.declared.directive.Point.TheVariants as point
-use Rattle.xmp_tree.specs.declared.directive.Mapping.{Mapping}
-use Rattle.xmp_tree.specs.declared.directive.Mapping.TheVariants as mapping
+use Rattle.xmp_syntax.specs.declared.parts.Name as named
+use Rattle.xmp_syntax.specs.declared.parts.Inside.{Inside}
+use Rattle.xmp_syntax.specs.declared.expression.Expr.{Expr}
+use Rattle.xmp_syntax.specs.declared.directive.DistForm.{DistForm}
+use Rattle.xmp_syntax.specs.declared.directive.DistForm.TheVariants as dist
+use Rattle.xmp_syntax.specs.declared.directive.AlignDimension.{AlignDimension}
+use Rattle.xmp_syntax.specs.declared.directive.AlignDimension.TheVariants as dimension
+use Rattle.xmp_syntax.specs.declared.directive.Point.{Point}
+use Rattle.xmp_syntax.specs.declared.directive.Point.TheVariants as point
+use Rattle.xmp_syntax.specs.declared.directive.Mapping.{Mapping}
+use Rattle.xmp_syntax.specs.declared.directive.Mapping.TheVariants as mapping
 use Rattle.xmp_scopes.specs.Names as scope
-use Rattle.xmp_walk.specs.declared.names.Meaning.{Meaning}
-use Rattle.xmp_walk.specs.declared.names.Meaning.TheVariants.{Nodes, Template}
-use Rattle.xmp_walk.specs.declared.mappings.Mappings.{Mappings}
-use Rattle.xmp_walk.specs.declared.mappings.NodesLine.{NodesLine}
-use Rattle.xmp_walk.specs.declared.mappings.TemplateLine.{TemplateLine}
-use Rattle.xmp_walk.specs.declared.mappings.Form.{Form}
-use Rattle.xmp_walk.specs.declared.mappings.Form.TheVariants as form
-use Rattle.xmp_walk.specs.declared.mappings.AlignPoint.{AlignPoint}
-use Rattle.xmp_walk.specs.declared.mappings.AlignPoint.TheVariants as ap_of
-use Rattle.xmp_walk.specs.declared.rules.Rule.TheVariants.{N1, N2, N3}
-use Rattle.xmp_walk.specs.Rules.{unless}
-use Rattle.xmp_walk.specs.Walk.{is_reserved, an_array, a_nodes, a_template}
-use Rattle.xmp_walk.specs.Declarations.{listed, inner}
-use Rattle.xmp_walk.specs.Directives.{dimensions}
-use Rattle.xmp_walk.specs.MappingLines as lines
-use Rattle.xmp_walk.specs.MappingLines.{Dummies, has_dummy, line_of}
+use Rattle.xmp_names.specs.declared.names.Meaning.{Meaning}
+use Rattle.xmp_names.specs.declared.names.Meaning.TheVariants.{Nodes, Template}
+use Rattle.xmp_names.specs.declared.mappings.Mappings.{Mappings}
+use Rattle.xmp_names.specs.declared.mappings.NodesLine.{NodesLine}
+use Rattle.xmp_names.specs.declared.mappings.TemplateLine.{TemplateLine}
+use Rattle.xmp_names.specs.declared.mappings.Form.{Form}
+use Rattle.xmp_names.specs.declared.mappings.Form.TheVariants as form
+use Rattle.xmp_names.specs.declared.mappings.AlignPoint.{AlignPoint}
+use Rattle.xmp_names.specs.declared.mappings.AlignPoint.TheVariants as ap_of
+use Rattle.xmp_names.specs.declared.rules.Rule.TheVariants.{N1, N2, N3}
+use Rattle.xmp_names.specs.Rules.{unless}
+use Rattle.xmp_names.specs.Walk.{is_reserved, an_array, a_nodes, a_template}
+use Rattle.xmp_names.specs.Lists.{listed, inner}
+use Rattle.xmp_directives.specs.Directives.{dimensions}
+use Rattle.xmp_directives.specs.MappingLines as lines
+use Rattle.xmp_directives.specs.MappingLines.{Dummies, has_dummy, line_of}
 use Rattle.xmp_fits.proofs.Laters.{begins_refl, begins_with, LaterMappings}
 use Rattle.xmp_fits.proofs.KeptRuns.{goes_refl, goes_then, Kept, Going, ◌>>=◌, pure, each}
 use Rattle.xmp_fits.proofs.KeptLines.{one_longer, offset_of, match_template, match_array}

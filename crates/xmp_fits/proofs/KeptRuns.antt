@@ -1,9 +1,9 @@
 -- Runs of the walk that go on from each world to a later one, and keep it good; and how such runs are put together.
 use Rattle.std.proofs.Common.{◌++◌, ◌∷◌, [], List, Option, Some, None}
 use Rattle.std.specs.Prelude.{⊤}
-use Rattle.xmp_walk.specs.declared.world.World.{World}
-use Rattle.xmp_walk.specs.Walk as walk
-use Rattle.xmp_walk.specs.Walk.{Step, Gave, Run, and_then}
+use Rattle.xmp_names.specs.declared.world.World.{World}
+use Rattle.xmp_names.specs.Walk as walk
+use Rattle.xmp_names.specs.Walk.{Step, Gave, Run, and_then}
 use Rattle.xmp_fits.proofs.Laters.{Onward, onward_refl, onward_trans}
 use Rattle.xmp_fits.proofs.GoodWorlds.{Own, Good}
 

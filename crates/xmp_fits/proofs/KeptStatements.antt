@@ -7,32 +7,32 @@ use Rattle.xmp_map.specs.declared.grid.NodeSet.{NodeSet}
 use Rattle.xmp_prog.specs.declared.statements.Stmt as made
 use Rattle.xmp_prog.specs.declared.statements.Stmt.TheVariants as s
 use Rattle.xmp_prog.specs.declared.statements.Task.{Task}
-use Rattle.xmp_tree.specs.declared.directive.DirectiveLine.{DirectiveLine}
-use Rattle.xmp_tree.specs.declared.directive.LoopLine.{LoopLine}
-use Rattle.xmp_tree.specs.declared.directive.TaskLine.{TaskLine}
-use Rattle.xmp_tree.specs.declared.expression.Expr.{Expr}
-use Rattle.xmp_tree.specs.declared.statement.ForHead.{ForHead}
-use Rattle.xmp_tree.specs.declared.statement.Plain.TheVariants as plain
-use Rattle.xmp_tree.specs.declared.statement.BlockItem.{BlockItem}
-use Rattle.xmp_tree.specs.declared.statement.BlockItem.TheVariants as b
-use Rattle.xmp_tree.specs.declared.statement.Stmt.{Stmt, out-Stmt}
-use Rattle.xmp_tree.specs.declared.statement.Stmt.TheOpen.{Stmt-F}
+use Rattle.xmp_syntax.specs.declared.directive.DirectiveLine.{DirectiveLine}
+use Rattle.xmp_syntax.specs.declared.directive.LoopLine.{LoopLine}
+use Rattle.xmp_syntax.specs.declared.directive.TaskLine.{TaskLine}
+use Rattle.xmp_syntax.specs.declared.expression.Expr.{Expr}
+use Rattle.xmp_syntax.specs.declared.statement.ForHead.{ForHead}
+use Rattle.xmp_syntax.specs.declared.statement.Plain.TheVariants as plain
+use Rattle.xmp_syntax.specs.declared.statement.BlockItem.{BlockItem}
+use Rattle.xmp_syntax.specs.declared.statement.BlockItem.TheVariants as b
+use Rattle.xmp_syntax.specs.declared.statement.Stmt.{Stmt, out-Stmt}
+use Rattle.xmp_syntax.specs.declared.statement.Stmt.TheOpen.{Stmt-F}
 use Rattle.xmp_walk.specs.declared.loops.ForParts.{ForParts}
-use Rattle.xmp_walk.specs.declared.world.World.{World}
-use Rattle.xmp_walk.specs.Walk as walk
-use Rattle.xmp_walk.specs.Walk.{Step, Gave, Run, and_then}
+use Rattle.xmp_names.specs.declared.world.World.{World}
+use Rattle.xmp_names.specs.Walk as walk
+use Rattle.xmp_names.specs.Walk.{Step, Gave, Run, and_then}
 use Rattle.xmp_walk.specs.Statements.{if_of, while_of, for_of, loop_of}
-use Rattle.xmp_walk.specs.Directives.{loop_line, judged_loop, loop_directive, nest_of, task_line, lone_task, tasks_in, tasks_of, made_task}
-use Rattle.xmp_walk.specs.Program.{item_of, items_of, block_of, stmt_of, inside_item, task_step, last_in, main_items}
+use Rattle.xmp_directives.specs.Directives.{loop_line, judged_loop, nest_of, task_line, lone_task, tasks_in, tasks_of, made_task}
+use Rattle.xmp_walk.specs.Program.{loop_directive, item_of, items_of, block_of, stmt_of, inside_item, task_step, last_in, main_items}
 use Rattle.xmp_fits.proofs.Laters.{begins_refl, mappings_refl, Later, Scopes, Widened, widened_refl}
 use Rattle.xmp_fits.proofs.GoodSteps.{Stays, good_opened, good_closed}
-use Rattle.xmp_walk.specs.MappingLines.{mapping_of}
+use Rattle.xmp_directives.specs.MappingLines.{mapping_of}
 use Rattle.xmp_fits.proofs.KeptRuns.{ends_then, Goes, goes_refl, goes_trans, goes_then, GoesOn, Kept, Going, ◌>>=◌, pure}
 use Rattle.xmp_fits.proofs.KeptSteps.{typed, directive_at}
 use Rattle.xmp_fits.proofs.KeptLines.{declaration_kept}
 use Rattle.xmp_fits.proofs.KeptMappings.{mapping_kept}
 use Rattle.xmp_fits.proofs.KeptDirectives.{head_parts, plain_kept, return_kept, line_kept, loop_kept, task_line_kept}
-use Rattle.xmp_fits.proofs.Seen.{seen_plain, seen_if, seen_while, seen_for, seen_loop, seen_task, seen_tasks, seen_block}
+use Rattle.xmp_walk.proofs.Seen.{seen_plain, seen_if, seen_while, seen_for, seen_loop, seen_task, seen_tasks, seen_block}
 use Rattle.xmp_fits.proofs.TreeInduction.{ItemIs, Cases, each_stmt, each_item}
 
 -- ---- scopes

@@ -3,28 +3,28 @@ use Rattle.std.proofs.Common.{◌≡◌, refl, ◌++◌, ◌∷◌, [], ℕ, Lis
 use Rattle.std.specs.Prelude.{⊤, ℤ, not, ◌||◌, is_some}
 use Rattle.xmp_base.specs.declared.place.Place.{Place}
 use Rattle.xmp_num.specs.declared.types.Ty.{Ty}
-use Rattle.xmp_tree.specs.declared.parts.Name as named
-use Rattle.xmp_tree.specs.declared.parts.Call.{Call}
-use Rattle.xmp_tree.specs.declared.parts.Next.{Next}
-use Rattle.xmp_tree.specs.declared.parts.Reference.{Reference}
-use Rattle.xmp_tree.specs.declared.expression.Expr.{Expr}
+use Rattle.xmp_syntax.specs.declared.parts.Name as named
+use Rattle.xmp_syntax.specs.declared.parts.Call.{Call}
+use Rattle.xmp_syntax.specs.declared.parts.Next.{Next}
+use Rattle.xmp_syntax.specs.declared.parts.Reference.{Reference}
+use Rattle.xmp_syntax.specs.declared.expression.Expr.{Expr}
 use Rattle.xmp_scopes.specs.Names as scope
-use Rattle.xmp_walk.specs.declared.names.Array.{Array}
-use Rattle.xmp_walk.specs.declared.names.Region.{Region}
-use Rattle.xmp_walk.specs.declared.names.Meaning.{Meaning}
-use Rattle.xmp_walk.specs.declared.names.Meaning.TheVariants as meaning
-use Rattle.xmp_walk.specs.declared.mappings.Mappings.{Mappings}
-use Rattle.xmp_walk.specs.declared.rules.Rule.{Rule}
-use Rattle.xmp_walk.specs.declared.rules.Rule.TheVariants.{N1, N2, N3, N4, N5, N8}
-use Rattle.xmp_walk.specs.declared.rules.Broken.{Broken}
-use Rattle.xmp_walk.specs.declared.rules.Notes.{Notes}
-use Rattle.xmp_walk.specs.declared.typed.Operand.{Operand}
-use Rattle.xmp_walk.specs.declared.typed.Parts.{Parts}
-use Rattle.xmp_walk.specs.declared.world.World.{World}
-use Rattle.xmp_walk.specs.Rules.{unless, greater}
-use Rattle.xmp_walk.specs.Expressions.{expr_of, reference_of, call, arguments_of, each_next, next_of, no_parts, is_function, may_name}
-use Rattle.xmp_walk.specs.Walk as walk
-use Rattle.xmp_walk.specs.Walk.{first_of_two, is_outermost, is_reserved}
+use Rattle.xmp_names.specs.declared.names.Array.{Array}
+use Rattle.xmp_names.specs.declared.names.Region.{Region}
+use Rattle.xmp_names.specs.declared.names.Meaning.{Meaning}
+use Rattle.xmp_names.specs.declared.names.Meaning.TheVariants as meaning
+use Rattle.xmp_names.specs.declared.mappings.Mappings.{Mappings}
+use Rattle.xmp_names.specs.declared.rules.Rule.{Rule}
+use Rattle.xmp_names.specs.declared.rules.Rule.TheVariants.{N1, N2, N3, N4, N5, N8}
+use Rattle.xmp_names.specs.declared.rules.Broken.{Broken}
+use Rattle.xmp_names.specs.declared.rules.Notes.{Notes}
+use Rattle.xmp_names.specs.declared.typed.Operand.{Operand}
+use Rattle.xmp_names.specs.declared.typed.Parts.{Parts}
+use Rattle.xmp_names.specs.declared.world.World.{World}
+use Rattle.xmp_names.specs.Rules.{unless, greater}
+use Rattle.xmp_names.specs.Expressions.{expr_of, reference_of, call, arguments_of, each_next, next_of, no_parts, is_function, may_name}
+use Rattle.xmp_names.specs.Walk as walk
+use Rattle.xmp_names.specs.Walk.{first_of_two, is_outermost, is_reserved}
 use Rattle.xmp_fits.proofs.Laters.{Begins, begins_refl, begins_with, LaterMappings, mappings_refl, Scopes, Widened, widened_refl, Onward}
 use Rattle.xmp_fits.proofs.GoodWorlds.{Own, IsTrueIn}
 use Rattle.xmp_fits.proofs.GoodSteps.{onward_stays, good_same, good_declared, get_last}

@@ -1,7 +1,6 @@
 mod AllInside
 mod BoundsPass
 mod ClausesHold
-mod Coarrays
 mod CoarraysDeclared
 mod CoarraysFound
 mod CountedPass
@@ -38,7 +37,6 @@ mod MovesEnd
 mod NameSlots
 mod NamedSlots
 mod NamesFit
-mod Nests
 mod NestsPass
 mod NumbersLie
 mod OneWorld
@@ -59,7 +57,6 @@ mod QuietMappings
 mod QuietRuns
 mod QuietSteps
 mod ReturnsLast
-mod RulesLeft
 mod RunsFit
 mod SameLines
 mod SameMappings
@@ -71,7 +68,6 @@ mod ScopedForms
 mod ScopedFors
 mod ScopedSteps
 mod ScopesFit
-mod Seen
 mod SetsEnd
 mod SetsPass
 mod SlotsSeen

@@ -12,19 +12,19 @@ use Rattle.xmp_prog.specs.declared.statements.Stmt.TheVariants as s
 use Rattle.xmp_prog.specs.Counted.{is_nest}
 use Rattle.xmp_prog.specs.Statements.{statements_of, writes_of}
 use Rattle.xmp_prog.specs.Tests.{counted_fits}
-use Rattle.xmp_tree.specs.declared.directive.LoopLine.{LoopLine}
-use Rattle.xmp_tree.specs.declared.directive.Point.{Point}
-use Rattle.xmp_walk.specs.declared.loop_lines.LoopParts.{LoopParts}
-use Rattle.xmp_walk.specs.declared.mappings.LoopUse.{LoopUse}
-use Rattle.xmp_walk.specs.declared.mappings.TemplateLine.{TemplateLine}
-use Rattle.xmp_walk.specs.declared.rules.Rule.TheVariants.{N3, M7}
-use Rattle.xmp_walk.specs.declared.world.World.{World}
-use Rattle.xmp_walk.specs.Rules.{unless}
-use Rattle.xmp_walk.specs.Declarations.{inner}
-use Rattle.xmp_walk.specs.Directives.{Nest, dimensions, is_indexed, judged_loop, loop_line, loop_right, made_of_point, match_template, name_list, nest_of, point_of, reductions_of, use_template}
-use Rattle.xmp_walk.specs.MappingRules.{forms_of, indexed_right, loop_rule, loop_rules, mapping_rules, cell_rules, nodes_of, shadow_rules, template_sizes, template_sizes_in}
+use Rattle.xmp_syntax.specs.declared.directive.LoopLine.{LoopLine}
+use Rattle.xmp_syntax.specs.declared.directive.Point.{Point}
+use Rattle.xmp_directives.specs.declared.loop_lines.LoopParts.{LoopParts}
+use Rattle.xmp_names.specs.declared.mappings.LoopUse.{LoopUse}
+use Rattle.xmp_names.specs.declared.mappings.TemplateLine.{TemplateLine}
+use Rattle.xmp_names.specs.declared.rules.Rule.TheVariants.{N3, M7}
+use Rattle.xmp_names.specs.declared.world.World.{World}
+use Rattle.xmp_names.specs.Rules.{unless}
+use Rattle.xmp_names.specs.Lists.{inner}
+use Rattle.xmp_directives.specs.Directives.{Nest, dimensions, is_indexed, judged_loop, loop_line, loop_right, made_of_point, match_template, name_list, nest_of, point_of, reductions_of, use_template}
+use Rattle.xmp_mapping_rules.specs.MappingRules.{forms_of, indexed_right, loop_rule, loop_rules, mapping_rules, cell_rules, nodes_of, shadow_rules, template_sizes, template_sizes_in}
 use Rattle.xmp_elab.specs.Parts.{IsOf, IsTemplate}
-use Rattle.xmp_walk.specs.Walk.{Gave, a_template, each, if_there, name_of}
+use Rattle.xmp_names.specs.Walk.{Gave, a_template, each, if_there, name_of}
 use Rattle.xmp_fits.proofs.DirectivesPass.{DirectiveFits, StmtFits, StmtMade, loop_fits, map_all}
 use Rattle.xmp_fits.proofs.Endings.{Ending, Number, before_judged, directed, earlier, found_at, goes_directed, item_there, judged_true, later_at, no_broken, opened, same_world, template_number}
 use Rattle.xmp_fits.proofs.GoodSteps.{begins_get, get_last}
@@ -39,7 +39,7 @@ use Rattle.xmp_elab.proofs.MadeLists.{made_here}
 use Rattle.xmp_fits.proofs.NestsPass.{nest_fits, nest_passes}
 use Rattle.xmp_elab.proofs.Padded.{at_most_three}
 use Rattle.xmp_elab.proofs.Unbroken.{RightTemplate, holds, left_none, left_true, none_here, right_none, template_at}
-use Rattle.xmp_fits.proofs.RulesLeft.{after_aligns}
+use Rattle.xmp_elab.proofs.Unbroken.{after_aligns}
 
 -- ---- the template of a loop directive, at the end
 

@@ -15,22 +15,23 @@ use Rattle.xmp_prog.specs.declared.statements.MoveSide.{MoveSide}
 use Rattle.xmp_prog.specs.declared.statements.Plain.TheVariants as plain
 use Rattle.xmp_prog.specs.Directives.{parts_fit, sections_agree, sections_in, side_fits}
 use Rattle.xmp_prog.specs.Statements.{arrays_of_side, slots_of_names}
-use Rattle.xmp_tree.specs.declared.directive.DirectiveLine.{DirectiveLine}
-use Rattle.xmp_tree.specs.declared.directive.Section.{Section}
-use Rattle.xmp_tree.specs.declared.directive.Sections.{Sections}
-use Rattle.xmp_tree.specs.declared.parts.CommaList.{CommaList}
-use Rattle.xmp_tree.specs.declared.parts.Name as named
+use Rattle.xmp_syntax.specs.declared.directive.DirectiveLine.{DirectiveLine}
+use Rattle.xmp_syntax.specs.declared.directive.Section.{Section}
+use Rattle.xmp_syntax.specs.declared.directive.Sections.{Sections}
+use Rattle.xmp_syntax.specs.declared.parts.CommaList.{CommaList}
+use Rattle.xmp_syntax.specs.declared.parts.Name as named
 use Rattle.xmp_scopes.specs.Names as scope
-use Rattle.xmp_walk.specs.declared.names.Meaning.{Meaning}
-use Rattle.xmp_walk.specs.declared.names.Meaning.TheVariants as meaning
-use Rattle.xmp_walk.specs.declared.rules.Rule.{Rule}
-use Rattle.xmp_walk.specs.declared.rules.Rule.TheVariants.{N1, N3, N5}
-use Rattle.xmp_walk.specs.declared.world.World.{World}
-use Rattle.xmp_walk.specs.Rules.{unless}
-use Rattle.xmp_walk.specs.Declarations.{inner, listed}
-use Rattle.xmp_walk.specs.Directives.{array_name, barrier_of, extents_in, first_extent, gmove_of, part_of, parts_in, reflect_of, sections_match, side_as, side_of}
-use Rattle.xmp_walk.specs.Expressions.{may_name}
-use Rattle.xmp_walk.specs.Walk.{an_array, each, each_after, name_of}
+use Rattle.xmp_names.specs.declared.names.Meaning.{Meaning}
+use Rattle.xmp_names.specs.declared.names.Meaning.TheVariants as meaning
+use Rattle.xmp_names.specs.declared.rules.Rule.{Rule}
+use Rattle.xmp_names.specs.declared.rules.Rule.TheVariants.{N1, N3, N5}
+use Rattle.xmp_names.specs.declared.world.World.{World}
+use Rattle.xmp_names.specs.Rules.{unless}
+use Rattle.xmp_names.specs.Lists.{inner, listed}
+use Rattle.xmp_directives.specs.Directives.{array_name, barrier_of, first_extent, gmove_of, part_of, parts_in, reflect_of, sections_match, side_as, side_of}
+use Rattle.xmp_names.specs.Sizes.{extents_in}
+use Rattle.xmp_names.specs.Expressions.{may_name}
+use Rattle.xmp_names.specs.Walk.{an_array, each, each_after, name_of}
 use Rattle.xmp_fits.proofs.DirectivesPass.{StmtMade, plain_fits}
 use Rattle.xmp_fits.proofs.Endings.{ArrayThere, Ending, Number, array_number, array_there, before_judged, directed, earlier, ends_at, ends_in, found_at, goes_directed, judged_true, later_at, no_broken, opened}
 use Rattle.xmp_fits.proofs.GoodSteps.{true_name}

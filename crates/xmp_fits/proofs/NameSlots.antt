@@ -11,23 +11,24 @@ use Rattle.xmp_num.specs.declared.types.RedOp.{RedOp}
 use Rattle.xmp_scopes.specs.Names.{nearest}
 use Rattle.xmp_prog.specs.declared.statements.Reduction as made_reduction
 use Rattle.xmp_prog.specs.declared.parts.ProgParts.{ProgParts}
-use Rattle.xmp_tree.specs.declared.parts.Name as named
-use Rattle.xmp_tree.specs.declared.directive.Point.{Point}
-use Rattle.xmp_tree.specs.declared.directive.Point.TheVariants as point
-use Rattle.xmp_tree.specs.declared.directive.Reduction.{Reduction}
-use Rattle.xmp_tree.specs.declared.directive.LoopLine.{LoopLine}
-use Rattle.xmp_walk.specs.declared.names.Meaning.{Meaning}
-use Rattle.xmp_walk.specs.declared.names.Meaning.TheVariants.{Scalar, Array, Nodes, Template, Function}
-use Rattle.xmp_walk.specs.declared.loop_lines.LoopParts.{LoopParts}
-use Rattle.xmp_walk.specs.declared.rules.Rule.TheVariants.{N5}
-use Rattle.xmp_walk.specs.declared.world.World.{World}
-use Rattle.xmp_walk.specs.Rules.{unless}
-use Rattle.xmp_walk.specs.Expressions.{is_function, may_name}
-use Rattle.xmp_walk.specs.Walk as walk
-use Rattle.xmp_walk.specs.Walk.{Step, Gave, Run, a_scalar, an_int_scalar, a_template, name_of, of_kind, directive_at}
-use Rattle.xmp_walk.specs.Declarations.{listed, inner}
-use Rattle.xmp_walk.specs.Directives as directives
-use Rattle.xmp_walk.specs.Directives.{slot_or_zero, limited, made_of_point, operation_of}
+use Rattle.xmp_syntax.specs.declared.parts.Name as named
+use Rattle.xmp_syntax.specs.declared.directive.Point.{Point}
+use Rattle.xmp_syntax.specs.declared.directive.Point.TheVariants as point
+use Rattle.xmp_syntax.specs.declared.directive.Reduction.{Reduction}
+use Rattle.xmp_syntax.specs.declared.directive.LoopLine.{LoopLine}
+use Rattle.xmp_names.specs.declared.names.Meaning.{Meaning}
+use Rattle.xmp_names.specs.declared.names.Meaning.TheVariants.{Scalar, Array, Nodes, Template, Function}
+use Rattle.xmp_directives.specs.declared.loop_lines.LoopParts.{LoopParts}
+use Rattle.xmp_names.specs.declared.rules.Rule.TheVariants.{N5}
+use Rattle.xmp_names.specs.declared.world.World.{World}
+use Rattle.xmp_names.specs.Rules.{unless}
+use Rattle.xmp_names.specs.Expressions.{is_function, may_name}
+use Rattle.xmp_names.specs.Walk as walk
+use Rattle.xmp_names.specs.Walk.{Step, Gave, Run, a_scalar, an_int_scalar, a_template, name_of, of_kind, directive_at}
+use Rattle.xmp_names.specs.Lists.{listed, inner}
+use Rattle.xmp_directives.specs.Directives as directives
+use Rattle.xmp_directives.specs.Directives.{slot_or_zero, made_of_point, operation_of}
+use Rattle.xmp_names.specs.Sizes.{limited}
 use Rattle.xmp_elab.proofs.Unbroken.{right_none, holds}
 use Rattle.xmp_fits.proofs.GoodWorlds.{Own, Good}
 use Rattle.xmp_fits.proofs.GoodSteps.{onward_stays, begins_get, true_name}

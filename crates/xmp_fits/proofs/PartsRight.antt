@@ -3,7 +3,7 @@ use Rattle.std.proofs.Common.{◌≡◌, ◌∙◌, ap, [], ℕ, true, Option, N
 use Rattle.xmp_prog.specs.declared.parts.ProgParts.{ProgParts}
 use Rattle.xmp_prog.specs.Fits.{FunctionsFit, PartsFit, ScalarsFit}
 use Rattle.xmp_prog.specs.Tests.{returns_last}
-use Rattle.xmp_tree.specs.declared.program.Tree.{Tree}
+use Rattle.xmp_syntax.specs.declared.program.Tree.{Tree}
 use Rattle.xmp_elab.specs.Narrow.{is_count}
 use Rattle.xmp_elab.specs.Parts.{IsParts}
 use Rattle.xmp_walk.specs.Program.{program_of}

@@ -10,20 +10,20 @@ use Rattle.xmp_prog.specs.declared.statements.Stmt.TheVariants as s
 use Rattle.xmp_prog.specs.declared.parts.ProgParts.{ProgParts}
 use Rattle.xmp_prog.specs.Statements.{slots_of_names}
 use Rattle.xmp_prog.specs.Fits.{has_coarrays}
-use Rattle.xmp_tree.specs.declared.parts.Name as named
-use Rattle.xmp_tree.specs.declared.parts.CommaList.{CommaList}
-use Rattle.xmp_tree.specs.declared.directive.DirectiveLine.{DirectiveLine}
-use Rattle.xmp_tree.specs.declared.directive.Sections.{Sections}
-use Rattle.xmp_tree.specs.declared.statement.Plain.{Plain}
-use Rattle.xmp_tree.specs.declared.statement.Plain.TheVariants as plain
-use Rattle.xmp_tree.specs.declared.expression.Expr.{Expr}
-use Rattle.xmp_walk.specs.declared.world.World.{World}
-use Rattle.xmp_walk.specs.Expressions.{is_function}
-use Rattle.xmp_walk.specs.Walk as walk
-use Rattle.xmp_walk.specs.Walk.{Step, Gave, Run, directive_at}
-use Rattle.xmp_walk.specs.Declarations.{listed}
+use Rattle.xmp_syntax.specs.declared.parts.Name as named
+use Rattle.xmp_syntax.specs.declared.parts.CommaList.{CommaList}
+use Rattle.xmp_syntax.specs.declared.directive.DirectiveLine.{DirectiveLine}
+use Rattle.xmp_syntax.specs.declared.directive.Sections.{Sections}
+use Rattle.xmp_syntax.specs.declared.statement.Plain.{Plain}
+use Rattle.xmp_syntax.specs.declared.statement.Plain.TheVariants as plain
+use Rattle.xmp_syntax.specs.declared.expression.Expr.{Expr}
+use Rattle.xmp_names.specs.declared.world.World.{World}
+use Rattle.xmp_names.specs.Expressions.{is_function}
+use Rattle.xmp_names.specs.Walk as walk
+use Rattle.xmp_names.specs.Walk.{Step, Gave, Run, directive_at}
+use Rattle.xmp_names.specs.Lists.{listed}
 use Rattle.xmp_walk.specs.Statements as statements
-use Rattle.xmp_walk.specs.Directives as directives
+use Rattle.xmp_directives.specs.Directives as directives
 use Rattle.xmp_walk.specs.Program.{plain_of}
 use Rattle.xmp_fits.proofs.GoodWorlds.{Own, Good}
 use Rattle.xmp_fits.proofs.GoodSteps.{onward_stays}
@@ -33,8 +33,7 @@ use Rattle.xmp_fits.proofs.KeptDirectives as kept
 use Rattle.xmp_fits.proofs.Laters.{unbroken_before}
 use Rattle.xmp_fits.proofs.Endings.{opened, later_at, directed, goes_directed}
 use Rattle.xmp_fits.proofs.Holding.{Holds, each_holds}
-use Rattle.xmp_fits.specs.NumbersLie.{plain_lies}
-use Rattle.xmp_fits.specs.NumbersLie.{numbers_lie}
+use Rattle.xmp_fits.specs.NumbersLie.{plain_lies, numbers_lie}
 use Rattle.xmp_fits.proofs.RunsFit.{simple_fits, return_fits, print_fits, scan_fits, sync_fits}
 use Rattle.xmp_fits.proofs.TermsFit.{or_true}
 use Rattle.xmp_fits.proofs.TermTests.{is_slot, all_true}

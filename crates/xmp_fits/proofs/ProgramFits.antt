@@ -9,25 +9,25 @@ use Rattle.xmp_prog.specs.declared.statements.Stmt as made
 use Rattle.xmp_prog.specs.declared.statements.Stmt.TheVariants as s
 use Rattle.xmp_prog.specs.declared.parts.Function as made_function
 use Rattle.xmp_prog.specs.declared.parts.Start.{Start}
-use Rattle.xmp_tree.specs.declared.parts.Name as named
-use Rattle.xmp_tree.specs.declared.parts.TypeWords.{TypeWords}
-use Rattle.xmp_tree.specs.declared.expression.Expr.{Expr}
-use Rattle.xmp_tree.specs.declared.program.Function.{Function}
-use Rattle.xmp_tree.specs.declared.program.TopItem.{TopItem}
-use Rattle.xmp_tree.specs.declared.program.TopItem.TheVariants as top
-use Rattle.xmp_tree.specs.declared.program.Tree.{Tree}
-use Rattle.xmp_walk.specs.declared.names.Region.TheVariants as region
-use Rattle.xmp_walk.specs.declared.names.Meaning.TheVariants as meaning
-use Rattle.xmp_walk.specs.declared.rules.Rule.TheVariants.{N7}
-use Rattle.xmp_walk.specs.declared.world.World.{World}
-use Rattle.xmp_walk.specs.Rules.{unless}
-use Rattle.xmp_walk.specs.Walk as walk
-use Rattle.xmp_walk.specs.Walk.{Step, Gave, Run, and_then, each}
-use Rattle.xmp_walk.specs.Declarations.{type_of, listed}
+use Rattle.xmp_syntax.specs.declared.parts.Name as named
+use Rattle.xmp_syntax.specs.declared.parts.TypeWords.{TypeWords}
+use Rattle.xmp_syntax.specs.declared.expression.Expr.{Expr}
+use Rattle.xmp_syntax.specs.declared.program.Function.{Function}
+use Rattle.xmp_syntax.specs.declared.program.TopItem.{TopItem}
+use Rattle.xmp_syntax.specs.declared.program.TopItem.TheVariants as top
+use Rattle.xmp_syntax.specs.declared.program.Tree.{Tree}
+use Rattle.xmp_names.specs.declared.names.Region.TheVariants as region
+use Rattle.xmp_names.specs.declared.names.Meaning.TheVariants as meaning
+use Rattle.xmp_names.specs.declared.rules.Rule.TheVariants.{N7}
+use Rattle.xmp_names.specs.declared.world.World.{World}
+use Rattle.xmp_names.specs.Rules.{unless}
+use Rattle.xmp_names.specs.Walk as walk
+use Rattle.xmp_names.specs.Walk.{Step, Gave, Run, and_then, each}
+use Rattle.xmp_walk.specs.Declarations.{type_of}
+use Rattle.xmp_names.specs.Lists.{listed}
 use Rattle.xmp_walk.specs.Program.{parameters_in, parameter_of, items_of, inside_item, main_items, function_of, is_main_head, main_of, top_of, last_top, tops_of, start_world, coarray_top, program_of, with_count}
 use Rattle.xmp_elab.proofs.Unbroken.{right_none, holds, right_true, left_true}
-use Rattle.xmp_fits.specs.NumbersLie.{numbers_lie}
-use Rattle.xmp_fits.specs.NumbersLie.{items_lie, top_lies, tree_lies}
+use Rattle.xmp_fits.specs.NumbersLie.{numbers_lie, items_lie, top_lies, tree_lies}
 use Rattle.xmp_fits.proofs.Laters.{begins_refl, names_refl, mappings_refl, Later, later_refl, later_trans, unbroken_before, Scopes, Widened}
 use Rattle.xmp_fits.proofs.GoodWorlds.{Own, Good, being_read}
 use Rattle.xmp_fits.proofs.GoodSteps.{get_last}

@@ -13,15 +13,15 @@ use Rattle.xmp_prog.specs.Terms.{Term}
 use Rattle.xmp_prog.specs.Statements.{Statement, statements_of, terms_in, terms_of_stmt}
 use Rattle.xmp_prog.specs.Tests.{image_fits, is_no_element, asks_no_node, calls_below, is_constant, assignment_fits, is_no_sync, stands_in_function}
 use Rattle.xmp_prog.specs.Fits.{has_coarrays, PrintFits, statements_of_program, slots_of_function, slots_of_main, all_terms, all_statements, ExpressionsFit}
-use Rattle.xmp_tree.specs.declared.parts.Name as named
-use Rattle.xmp_tree.specs.declared.parts.TypeWords.{TypeWords}
-use Rattle.xmp_tree.specs.declared.expression.Expr.{Expr}
-use Rattle.xmp_tree.specs.declared.program.Tree.{Tree}
+use Rattle.xmp_syntax.specs.declared.parts.Name as named
+use Rattle.xmp_syntax.specs.declared.parts.TypeWords.{TypeWords}
+use Rattle.xmp_syntax.specs.declared.expression.Expr.{Expr}
+use Rattle.xmp_syntax.specs.declared.program.Tree.{Tree}
 use Rattle.xmp_base.specs.declared.place.Place.{Place}
-use Rattle.xmp_walk.specs.declared.world.World.{World}
-use Rattle.xmp_walk.specs.Expressions.{is_function}
-use Rattle.xmp_walk.specs.Walk as walk
-use Rattle.xmp_walk.specs.Walk.{Step, Gave, Run, typed_constant}
+use Rattle.xmp_names.specs.declared.world.World.{World}
+use Rattle.xmp_names.specs.Expressions.{is_function}
+use Rattle.xmp_names.specs.Walk as walk
+use Rattle.xmp_names.specs.Walk.{Step, Gave, Run, typed_constant}
 use Rattle.xmp_walk.specs.Declarations.{type_of}
 use Rattle.xmp_walk.specs.Statements.{return_of}
 use Rattle.xmp_elab.specs.Parts.{Made}
@@ -39,8 +39,7 @@ use Rattle.xmp_fits.proofs.OneWorld.{facts_of, forms_of}
 use Rattle.xmp_fits.proofs.PartsExtend.{extends_before, made_extends}
 use Rattle.xmp_fits.proofs.ProgramWalk.{FunctionOf, MainOf, Starts}
 use Rattle.xmp_fits.proofs.ProgramFits.{Ended, program_fits}
-use Rattle.xmp_fits.specs.NumbersLie.{numbers_lie}
-use Rattle.xmp_fits.specs.NumbersLie.{tree_lies}
+use Rattle.xmp_fits.specs.NumbersLie.{numbers_lie, tree_lies}
 use Rattle.xmp_fits.proofs.TermsFit.{all_append}
 use Rattle.xmp_fits.proofs.TellsTrue.{tells}
 use Rattle.xmp_fits.proofs.RunsFit.{constant_start}

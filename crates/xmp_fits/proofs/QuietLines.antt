@@ -3,16 +3,18 @@ use Rattle.std.proofs.Common.{ℕ, Option, Some, None, length}
 use Rattle.std.specs.Prelude.{⊤, ℤ, pos, ◌==◌, slice_get}
 use Rattle.xmp_base.specs.declared.place.Place.{Place}
 use Rattle.xmp_prog.specs.declared.expressions.Expr as prog
-use Rattle.xmp_tree.specs.declared.parts.Placed.{Placed}
-use Rattle.xmp_tree.specs.declared.expression.Expr.{Expr}
+use Rattle.xmp_syntax.specs.declared.parts.Placed.{Placed}
+use Rattle.xmp_syntax.specs.declared.expression.Expr.{Expr}
 use Rattle.xmp_lex.specs.declared.token.Mark.{Mark}
-use Rattle.xmp_walk.specs.declared.rules.Rule.TheVariants.{N3}
+use Rattle.xmp_names.specs.declared.rules.Rule.TheVariants.{N3}
 use Rattle.xmp_walk.specs.Declarations as declarations
-use Rattle.xmp_walk.specs.Declarations.{listed, inner, type_of, extent_of, extent_right}
-use Rattle.xmp_walk.specs.Directives as directives
-use Rattle.xmp_walk.specs.Directives.{signed, limited, dimensions, extents_in}
-use Rattle.xmp_walk.specs.MappingLines as lines
-use Rattle.xmp_walk.specs.MappingLines.{Dummies, has_dummy, line_of}
+use Rattle.xmp_names.specs.Lists.{listed, inner}
+use Rattle.xmp_walk.specs.Declarations.{type_of, extent_of, extent_right}
+use Rattle.xmp_directives.specs.Directives as directives
+use Rattle.xmp_directives.specs.Directives.{signed, dimensions}
+use Rattle.xmp_names.specs.Sizes.{limited, extents_in}
+use Rattle.xmp_directives.specs.MappingLines as lines
+use Rattle.xmp_directives.specs.MappingLines.{Dummies, has_dummy, line_of}
 use Rattle.xmp_fits.proofs.QuietRuns.{Kept, Going, ◌>>=◌, pure}
 use Rattle.xmp_fits.proofs.QuietSteps.{judged, typed, constant}
 

@@ -5,22 +5,24 @@ use Rattle.std.specs.List.{list_all}
 use Rattle.xmp_base.specs.declared.place.Place.{Place}
 use Rattle.xmp_num.specs.declared.types.Ty.{Ty}
 use Rattle.xmp_prog.specs.declared.expressions.Expr as prog
-use Rattle.xmp_tree.specs.declared.parts.Name as named
-use Rattle.xmp_tree.specs.declared.parts.Placed.{Placed}
-use Rattle.xmp_tree.specs.declared.expression.Expr.{Expr}
+use Rattle.xmp_syntax.specs.declared.parts.Name as named
+use Rattle.xmp_syntax.specs.declared.parts.Placed.{Placed}
+use Rattle.xmp_syntax.specs.declared.expression.Expr.{Expr}
 use Rattle.xmp_lex.specs.declared.token.Mark.{Mark}
 use Rattle.xmp_scopes.specs.Names as scope
-use Rattle.xmp_walk.specs.declared.names.Meaning.TheVariants.{Array}
-use Rattle.xmp_walk.specs.declared.rules.Rule.TheVariants.{N2, N3, N8}
-use Rattle.xmp_walk.specs.Rules.{unless}
-use Rattle.xmp_walk.specs.Walk as walk
-use Rattle.xmp_walk.specs.Walk.{is_reserved, an_array, a_nodes, a_template}
+use Rattle.xmp_names.specs.declared.names.Meaning.TheVariants.{Array}
+use Rattle.xmp_names.specs.declared.rules.Rule.TheVariants.{N2, N3, N8}
+use Rattle.xmp_names.specs.Rules.{unless}
+use Rattle.xmp_names.specs.Walk as walk
+use Rattle.xmp_names.specs.Walk.{is_reserved, an_array, a_nodes, a_template}
 use Rattle.xmp_walk.specs.Declarations as declarations
-use Rattle.xmp_walk.specs.Declarations.{listed, inner, type_of, extent_of, extent_right}
-use Rattle.xmp_walk.specs.Directives as directives
-use Rattle.xmp_walk.specs.Directives.{signed, limited, dimensions, extents_in}
-use Rattle.xmp_walk.specs.MappingLines as lines
-use Rattle.xmp_walk.specs.MappingLines.{Dummies, has_dummy, line_of}
+use Rattle.xmp_names.specs.Lists.{listed, inner}
+use Rattle.xmp_walk.specs.Declarations.{type_of, extent_of, extent_right}
+use Rattle.xmp_directives.specs.Directives as directives
+use Rattle.xmp_directives.specs.Directives.{signed, dimensions}
+use Rattle.xmp_names.specs.Sizes.{limited, extents_in}
+use Rattle.xmp_directives.specs.MappingLines as lines
+use Rattle.xmp_directives.specs.MappingLines.{Dummies, has_dummy, line_of}
 use Rattle.xmp_fits.proofs.SameRuns.{Quiet, Still, ◌>>=◌, pure, each}
 use Rattle.xmp_fits.proofs.SameSteps.{same_declared, judge, judged, typed, typed_constant, constant, stands_outermost, not_in_function}
 

@@ -12,9 +12,9 @@ use Rattle.xmp_prog.specs.Numbers.{is_in, apart, distinct, pairwise}
 use Rattle.xmp_prog.specs.Statements.{slots_of_stmt}
 use Rattle.xmp_prog.specs.Scopes.{declared_in, scalars_fit, in_main, in_function}
 use Rattle.xmp_prog.specs.Fits.{slots_of_function, slots_of_starts, declared, parameters}
-use Rattle.xmp_tree.specs.declared.program.Tree.{Tree}
-use Rattle.xmp_walk.specs.declared.world.World.{World}
-use Rattle.xmp_walk.specs.Walk.{Gave}
+use Rattle.xmp_syntax.specs.declared.program.Tree.{Tree}
+use Rattle.xmp_names.specs.declared.world.World.{World}
+use Rattle.xmp_names.specs.Walk.{Gave}
 use Rattle.xmp_elab.specs.Parts.{Made}
 use Rattle.xmp_walk.specs.Program.{program_of}
 use Rattle.xmp_elab.proofs.Unbroken.{left_true, right_true, both_true}

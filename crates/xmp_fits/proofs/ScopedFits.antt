@@ -16,11 +16,11 @@ use Rattle.xmp_prog.specs.declared.statements.Task.{Task}
 use Rattle.xmp_prog.specs.declared.parts.ProgParts.{ProgParts}
 use Rattle.xmp_prog.specs.Terms.{terms_of, terms_of_option, slots_of_terms}
 use Rattle.xmp_prog.specs.Scopes.{declared_in, scoped}
-use Rattle.xmp_walk.specs.declared.names.Meaning.{Meaning}
-use Rattle.xmp_walk.specs.declared.names.Meaning.TheVariants as meaning
-use Rattle.xmp_walk.specs.declared.names.Environment.{Environment}
-use Rattle.xmp_walk.specs.declared.world.World.{World}
-use Rattle.xmp_walk.specs.Directives.{made_task}
+use Rattle.xmp_names.specs.declared.names.Meaning.{Meaning}
+use Rattle.xmp_names.specs.declared.names.Meaning.TheVariants as meaning
+use Rattle.xmp_names.specs.declared.names.Environment.{Environment}
+use Rattle.xmp_names.specs.declared.world.World.{World}
+use Rattle.xmp_directives.specs.Directives.{made_task}
 use Rattle.xmp_elab.proofs.Unbroken.{both_true}
 use Rattle.xmp_fits.proofs.Laters.{Begins, Scopes, Widened}
 use Rattle.xmp_fits.proofs.KeptRuns.{Goes}

@@ -18,38 +18,39 @@ use Rattle.xmp_prog.specs.declared.parts.ProgParts.{ProgParts}
 use Rattle.xmp_prog.specs.Terms.{slots_of_terms}
 use Rattle.xmp_prog.specs.Statements.{terms_of_head, slots_of_point, indices_of}
 use Rattle.xmp_prog.specs.Scopes.{declared_in}
-use Rattle.xmp_tree.specs.declared.parts.Name as named
-use Rattle.xmp_tree.specs.declared.parts.Placed.{Placed}
+use Rattle.xmp_syntax.specs.declared.parts.Name as named
+use Rattle.xmp_syntax.specs.declared.parts.Placed.{Placed}
 use Rattle.xmp_lex.specs.declared.token.Mark.{Mark}
-use Rattle.xmp_tree.specs.declared.declaration.Declarator.{Declarator}
-use Rattle.xmp_tree.specs.declared.declaration.Declarator.TheVariants as declarator
-use Rattle.xmp_tree.specs.declared.directive.LoopLine.{LoopLine}
-use Rattle.xmp_tree.specs.declared.directive.Point.{Point}
-use Rattle.xmp_tree.specs.declared.directive.Point.TheVariants as point
-use Rattle.xmp_tree.specs.declared.directive.Reduction.{Reduction}
-use Rattle.xmp_tree.specs.declared.expression.Expr.{Expr}
-use Rattle.xmp_tree.specs.declared.statement.ForFirst.{ForFirst}
-use Rattle.xmp_tree.specs.declared.statement.ForFirst.TheVariants as for_first
-use Rattle.xmp_tree.specs.declared.statement.Simple.{Simple}
+use Rattle.xmp_syntax.specs.declared.declaration.Declarator.{Declarator}
+use Rattle.xmp_syntax.specs.declared.declaration.Declarator.TheVariants as declarator
+use Rattle.xmp_syntax.specs.declared.directive.LoopLine.{LoopLine}
+use Rattle.xmp_syntax.specs.declared.directive.Point.{Point}
+use Rattle.xmp_syntax.specs.declared.directive.Point.TheVariants as point
+use Rattle.xmp_syntax.specs.declared.directive.Reduction.{Reduction}
+use Rattle.xmp_syntax.specs.declared.expression.Expr.{Expr}
+use Rattle.xmp_syntax.specs.declared.statement.ForFirst.{ForFirst}
+use Rattle.xmp_syntax.specs.declared.statement.ForFirst.TheVariants as for_first
+use Rattle.xmp_syntax.specs.declared.statement.Simple.{Simple}
 use Rattle.xmp_scopes.specs.Names as scope
-use Rattle.xmp_walk.specs.declared.names.Environment.{Environment}
-use Rattle.xmp_walk.specs.declared.names.Meaning.{Meaning}
-use Rattle.xmp_walk.specs.declared.names.Meaning.TheVariants as meaning
+use Rattle.xmp_names.specs.declared.names.Environment.{Environment}
+use Rattle.xmp_names.specs.declared.names.Meaning.{Meaning}
+use Rattle.xmp_names.specs.declared.names.Meaning.TheVariants as meaning
 use Rattle.xmp_walk.specs.declared.loops.First.{First}
 use Rattle.xmp_walk.specs.declared.loops.ForParts.{ForParts}
-use Rattle.xmp_walk.specs.declared.loop_lines.LoopParts.{LoopParts}
-use Rattle.xmp_walk.specs.declared.rules.Rule.TheVariants.{N2, N3, M7}
-use Rattle.xmp_walk.specs.declared.typed.Typed.{Typed}
-use Rattle.xmp_walk.specs.declared.world.World.{World}
-use Rattle.xmp_walk.specs.Rules.{unless, greater}
-use Rattle.xmp_walk.specs.Typing.{operand_of}
-use Rattle.xmp_walk.specs.Expressions.{expr_of, reference_of}
-use Rattle.xmp_walk.specs.Walk as walk
-use Rattle.xmp_walk.specs.Walk.{Step, Gave, Run, and_then, an_int_scalar, a_template}
-use Rattle.xmp_walk.specs.Declarations.{listed, inner, local_declarator, declare_array}
+use Rattle.xmp_directives.specs.declared.loop_lines.LoopParts.{LoopParts}
+use Rattle.xmp_names.specs.declared.rules.Rule.TheVariants.{N2, N3, M7}
+use Rattle.xmp_names.specs.declared.typed.Typed.{Typed}
+use Rattle.xmp_names.specs.declared.world.World.{World}
+use Rattle.xmp_names.specs.Rules.{unless, greater}
+use Rattle.xmp_names.specs.Expressions.{expr_of, reference_of}
+use Rattle.xmp_names.specs.Walk as walk
+use Rattle.xmp_names.specs.Walk.{Step, Gave, Run, and_then, an_int_scalar, a_template}
+use Rattle.xmp_names.specs.Lists.{listed, inner}
+use Rattle.xmp_walk.specs.Declarations.{local_declarator, declare_array}
 use Rattle.xmp_walk.specs.Statements.{simple_of, return_of, first_of, first_part, index_of}
-use Rattle.xmp_walk.specs.Directives.{signed, limited, scalar_name, task_line, offset_of, index_name, point_of, made_of_point, slot_of_point, slots_of_points, names_or, name_list, operation_of, reduction_name, reductions_of, dimensions, match_template, Nest, nest_of, loop_right, is_indexed, use_template, made_loop, loop_line, judged_loop}
-use Rattle.xmp_walk.specs.MappingLines.{mapping_of}
+use Rattle.xmp_directives.specs.Directives.{signed, scalar_name, task_line, offset_of, index_name, point_of, made_of_point, slot_of_point, slots_of_points, names_or, name_list, operation_of, reduction_name, reductions_of, dimensions, match_template, Nest, nest_of, loop_right, is_indexed, use_template, made_loop, loop_line, judged_loop}
+use Rattle.xmp_names.specs.Sizes.{limited}
+use Rattle.xmp_directives.specs.MappingLines.{mapping_of}
 use Rattle.xmp_walk.specs.Program.{plain_of}
 use Rattle.xmp_elab.proofs.Unbroken.{left_none, right_none}
 use Rattle.xmp_fits.proofs.GoodWorlds.{Own}
@@ -112,9 +113,9 @@ module _ (p : ProgParts) where
       })
 
   -- what is known of a first part where its target and its value are read
-  first_fits : (m : World) (t v : Typed) (x : Expr) (declared : List made.Stmt) → Sees p m.names t.made → IsPlace t.made → Sees p m.names v.made →
-      FirstFits p m.names (first_part declared x (operand_of t) (operand_of v))
-  first_fits m t v x declared f i g = record { target = f; value = g; set = set_flat m.names p None (walk.first_place x) (operand_of t) (operand_of v) f i g }
+  first_fits : (m : World) (t v : Typed) (x : Expr) (declared : List made.Stmt) → Sees p m.names t.operand.made → IsPlace t.operand.made → Sees p m.names v.operand.made →
+      FirstFits p m.names (first_part declared x t.operand v.operand)
+  first_fits m t v x declared f i g = record { target = f; value = g; set = set_flat m.names p None (walk.first_place x) t.operand v.operand f i g }
 
   heads_end : (o : Option ForFirst) (test : Option Expr) (next : Option Simple) (w : World) → Unbroken (HeadFits p w) (and_then (walk.if_there first_of o w) (rest test next))
   heads_end None test next w = rest_ends w w test next None (λ n. (none_fit p w, tt))
@@ -122,7 +123,7 @@ module _ (p : ProgParts) where
       let t : Typed = reference_of w.names r in
       let v : Typed = expr_of w.names x in
       let m : World = record w { deepest = greater (greater w.deepest t.notes.deepest) v.notes.deepest; broken = (w.broken ++ t.notes.broken) ++ v.notes.broken } in
-      rest_ends w m test next (Some (first_part [] x (operand_of t) (operand_of v))) (λ n.
+      rest_ends w m test next (Some (first_part [] x t.operand v.operand)) (λ n.
       let before : w.broken ++ t.notes.broken ≡ [] = left_none (w.broken ++ t.notes.broken) v.notes.broken n in
       let h : t.notes.broken ≡ [] = right_none w.broken t.notes.broken before in (
         items_same p w w m [] (same_names w m refl) (omega arith) (none_fit p w),
@@ -138,7 +139,7 @@ module _ (p : ProgParts) where
       let v : Typed = expr_of d.names x in
       let m : World = record d { deepest = greater (greater d.deepest t.notes.deepest) v.notes.deepest; broken = (d.broken ++ t.notes.broken) ++ v.notes.broken } in
       let one : made.Stmt = s.Plain (plain.Declare (length w.scalars) None k.at) in
-      rest_ends w m test next (Some (first_part (one ∷ []) x (operand_of t) (operand_of v))) (λ n.
+      rest_ends w m test next (Some (first_part (one ∷ []) x t.operand v.operand)) (λ n.
       let before : d.broken ++ t.notes.broken ≡ [] = left_none (d.broken ++ t.notes.broken) v.notes.broken n in
       let h : t.notes.broken ≡ [] = right_none d.broken t.notes.broken before in (
         items_declared p w w m [] k.text Int None k.at (none_fit p w) (one_longer w.scalars Int) refl refl tt,
@@ -284,7 +285,7 @@ module _ (p : ProgParts) where
         broken = v.broken ++ unless (not (scope.is_declared_here n.text v.names.scopes || walk.is_reserved n.text)) N2 n.at;
       } in
       let t : Typed = expr_of d.names x.1 in
-      λ e. items_declared p w v (record d { deepest = greater d.deepest t.notes.deepest; broken = d.broken ++ t.notes.broken }) done n.text ty (Some t.made) n.at f (one_longer v.scalars ty) refl refl (expr_sees d.names p x.1 (right_none d.broken t.notes.broken e))
+      λ e. items_declared p w v (record d { deepest = greater d.deepest t.notes.deepest; broken = d.broken ++ t.notes.broken }) done n.text ty (Some t.operand.made) n.at f (one_longer v.scalars ty) refl refl (expr_sees d.names p x.1 (right_none d.broken t.notes.broken e))
   declarator_ends ty (declarator.Array n extents image) w v done f = array_ends ty n (inner extents) (is_some image) w v done f
 
   -- ---- all statements

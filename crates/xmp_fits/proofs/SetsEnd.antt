@@ -12,21 +12,22 @@ use Rattle.xmp_prog.specs.declared.statements.Task.{Task, fold-roll-Task}
 use Rattle.xmp_prog.specs.NodeSets.{is_node_set, is_one_node, sets_apart}
 use Rattle.xmp_prog.specs.Numbers.{pairwise}
 use Rattle.xmp_prog.specs.Statements.{Walked, WalkedTask, statements_of, walk_step, walk_task, writes_of}
-use Rattle.xmp_tree.specs.declared.directive.DirectiveLine.{DirectiveLine}
-use Rattle.xmp_tree.specs.declared.directive.Section.{Section}
-use Rattle.xmp_tree.specs.declared.directive.Sections.{Sections}
-use Rattle.xmp_tree.specs.declared.directive.TaskLine.{TaskLine}
-use Rattle.xmp_tree.specs.declared.parts.CommaList.{CommaList}
-use Rattle.xmp_tree.specs.declared.parts.Name as named
-use Rattle.xmp_walk.specs.declared.rules.Broken.{Broken}
-use Rattle.xmp_walk.specs.declared.rules.Rule.TheVariants.{N3, M8, M9}
-use Rattle.xmp_walk.specs.declared.world.World.{World}
-use Rattle.xmp_walk.specs.Rules.{unless}
-use Rattle.xmp_walk.specs.Declarations.{inner, listed}
-use Rattle.xmp_walk.specs.Directives.{bcast_of, box_of, given_or_one, is_one, lone_task, made_task, nodes_sizes, ranges, ranges_right, scalar_name, set_of, set_part, share, sizes_in, task_line, tasks_in, tasks_of}
-use Rattle.xmp_walk.specs.Expressions.{is_nothing}
-use Rattle.xmp_walk.specs.MappingRules.{nodes_of}
-use Rattle.xmp_walk.specs.Walk.{Gave, Run, a_nodes, each, name_of}
+use Rattle.xmp_syntax.specs.declared.directive.DirectiveLine.{DirectiveLine}
+use Rattle.xmp_syntax.specs.declared.directive.Section.{Section}
+use Rattle.xmp_syntax.specs.declared.directive.Sections.{Sections}
+use Rattle.xmp_syntax.specs.declared.directive.TaskLine.{TaskLine}
+use Rattle.xmp_syntax.specs.declared.parts.CommaList.{CommaList}
+use Rattle.xmp_syntax.specs.declared.parts.Name as named
+use Rattle.xmp_names.specs.declared.rules.Broken.{Broken}
+use Rattle.xmp_names.specs.declared.rules.Rule.TheVariants.{N3, M8, M9}
+use Rattle.xmp_names.specs.declared.world.World.{World}
+use Rattle.xmp_names.specs.Rules.{unless}
+use Rattle.xmp_names.specs.Lists.{inner, listed}
+use Rattle.xmp_directives.specs.Directives.{bcast_of, box_of, is_one, lone_task, made_task, nodes_sizes, ranges, ranges_right, scalar_name, set_of, set_part, share, sizes_in, task_line, tasks_in, tasks_of}
+use Rattle.xmp_names.specs.Sizes.{given_or_one}
+use Rattle.xmp_names.specs.Expressions.{is_nothing}
+use Rattle.xmp_mapping_rules.specs.MappingRules.{nodes_of}
+use Rattle.xmp_names.specs.Walk.{Gave, Run, a_nodes, each, name_of}
 use Rattle.xmp_fits.proofs.DirectivesPass.{DirectiveFits, Makes, StmtFits, StmtMade, TaskFits, plain_fits, sets_of, tasks_fit, walked_task}
 use Rattle.xmp_fits.proofs.Endings.{Ending, Named, Number, before_judged, directed, earlier, ends_at, ends_in, found_at, goes_directed, judged_true, later_at, no_broken, nodes_number, opened, same_value, sizes_at_end}
 use Rattle.xmp_fits.proofs.GoodSteps.{begins_length}

@@ -6,16 +6,16 @@ use Rattle.std.specs.Option.{option_or}
 use Rattle.std.proofs.lemmas.Option.{none-some}
 use Rattle.xmp_scopes.specs.Names as scope
 use Rattle.xmp_scopes.specs.Names.{nearest, depth_of, in_scope}
-use Rattle.xmp_walk.specs.declared.names.Meaning.{Meaning}
-use Rattle.xmp_walk.specs.declared.names.Meaning.TheVariants.{Array}
+use Rattle.xmp_names.specs.declared.names.Meaning.{Meaning}
+use Rattle.xmp_names.specs.declared.names.Meaning.TheVariants.{Array}
 use Rattle.xmp_map.specs.Spread.{sizes_fit}
 use Rattle.xmp_prog.specs.declared.parts.ProgParts.{ProgParts}
 use Rattle.xmp_prog.specs.declared.statements.Stmt as made
-use Rattle.xmp_tree.specs.declared.expression.Expr.{Expr}
-use Rattle.xmp_walk.specs.declared.typed.Operand.{Operand}
-use Rattle.xmp_walk.specs.declared.world.World.{World}
-use Rattle.xmp_walk.specs.Expressions.{is_function, is_first}
-use Rattle.xmp_walk.specs.Walk.{Step, Gave, typed}
+use Rattle.xmp_syntax.specs.declared.expression.Expr.{Expr}
+use Rattle.xmp_names.specs.declared.typed.Operand.{Operand}
+use Rattle.xmp_names.specs.declared.world.World.{World}
+use Rattle.xmp_names.specs.Expressions.{is_function, is_first}
+use Rattle.xmp_names.specs.Walk.{Step, Gave, typed}
 use Rattle.xmp_fits.proofs.Laters.{Scopes, begins_trans, unbroken_before}
 use Rattle.xmp_fits.proofs.GoodWorlds as good_worlds
 use Rattle.xmp_fits.proofs.GoodWorlds.{Own, Good, Extends}

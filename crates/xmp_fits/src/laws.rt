@@ -1,6 +1,6 @@
 // The parts of a program fit.
 ghost use Rattle.std.specs.Prelude.{◌≡◌, ℕ, IsTrue, None, Option, true};
-ghost use Rattle.xmp_tree.specs.declared.program.Tree.{Tree};
+ghost use Rattle.xmp_syntax.specs.declared.program.Tree.{Tree};
 ghost use Rattle.xmp_prog.specs.declared.parts.ProgParts.{ProgParts};
 ghost use Rattle.xmp_prog.specs.Fits.{PartsFit};
 ghost use Rattle.xmp_elab.specs.Narrow.{is_count};

@@ -7,7 +7,7 @@ ghost use Rattle.xmp_lex.specs.Found.{Taken, IsMalformed, IsMeaning, Pushed};
 use crate::bytes::{
     byte_at, escapes, from, front, has_suffix, is_digit, is_letter, number_of, run, text_end,
 };
-use crate::token::{TokenKind, bytes_of};
+use crate::token::TokenKind;
 use crate::words::{mark_at, mark_text, word_of};
 use std::alloc::Global;
 use xmp_base::{Bytes, NoMemory};
@@ -138,7 +138,7 @@ fn word(alloc: Global, text: &[u8]) -> Result<(usize, TokenKind), PieceError>
     match word_of(spelled) {
         Some(word) => Ok((n, TokenKind::Word(word))),
         None => {
-            let bytes = bytes_of(alloc, spelled)?;
+            let bytes = Bytes::copy_of(alloc, spelled)?;
             Ok((n, TokenKind::Name(bytes)))
         }
     }

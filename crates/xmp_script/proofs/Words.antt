@@ -1,5 +1,5 @@
 -- What accesses leave at a word.
-use Rattle.std.proofs.Common.{◌≡◌, ◌≢◌, ℕ, zero, suc, ◌+◌, ◌<◌, ◌≤◌, ◌==◌, if◌then◌else◌, List, [], ◌∷◌, take, slice_get, Option, Some, None, refl, sym, ap, ◌∙◌, subst, arith, ◌⊎◌, inl, inr}
+use Rattle.std.proofs.Common.{◌≡◌, ◌≢◌, ℕ, zero, suc, ◌<◌, List, [], ◌∷◌, take, slice_get, Some, None, refl, sym, ap, ◌∙◌, subst, arith, ◌⊎◌, inl, inr}
 use Rattle.std.proofs.lemmas.Bool.{cases_eq}
 use Rattle.xmp_script.specs.Script.{Access, Get, Put, Script, at, after, after_all, after_images, IsPutTo, IsTo, Puts}
 
@@ -13,7 +13,8 @@ pub some_inj : {A : Type 0} {x y : A} → Some x ≡ Some y → x ≡ y
 some_inj e = cc
 
 -- one access more
-pub next_seen : {V : Type 0} (l : List (Access V)) (i : ℕ) (a : Access V) (m : ℕ → V) → slice_get l i ≡ Some a → after_all m (take (suc i) l) ≡ after (after_all m (take i l)) a
+pub next_seen : {V : Type 0} (l : List (Access V)) (i : ℕ) (a : Access V) (m : ℕ → V) → slice_get l i ≡ Some a →
+    after_all m (take (suc i) l) ≡ after (after_all m (take i l)) a
 next_seen [] i a m e = absurd (let h : None ≡ Some a = e in (cc))
 next_seen (x ∷ l) zero a m e = ap (after m) (some_inj e)
 next_seen (x ∷ l) (suc i) a m e = next_seen l i a (after m x) e
@@ -31,7 +32,8 @@ pub no_put : {V : Type 0} (a : Access V) (m : ℕ → V) (e : ℕ) → (IsPutTo 
 no_put (Get x) m e none = refl
 no_put (Put x v) m e none = at_other m x v e (λ eq. none (sym eq))
 
-pub no_puts : {V : Type 0} (l : List (Access V)) (m : ℕ → V) (e : ℕ) → ((i : ℕ) (a : Access V) → slice_get l i ≡ Some a → IsPutTo e a → ⊥) → after_all m l e ≡ m e
+pub no_puts : {V : Type 0} (l : List (Access V)) (m : ℕ → V) (e : ℕ) →
+    ((i : ℕ) (a : Access V) → slice_get l i ≡ Some a → IsPutTo e a → ⊥) → after_all m l e ≡ m e
 no_puts [] m e none = refl
 no_puts (a ∷ l) m e none = no_puts l (after m a) e (λ i b at-i p. none (suc i) b at-i p) ∙ no_put a m e (none 0 a refl)
 
@@ -39,7 +41,9 @@ is_put : {V : Type 0} (e : ℕ) (a : Access V) → IsPutTo e a ⊎ (IsPutTo e a 
 is_put e (Get x) = inr (λ p. p)
 is_put e (Put x v) = cases_eq x e
 
-pub some_put : {V : Type 0} (l : List (Access V)) (e : ℕ) → ((i : ℕ) × (a : Access V) × (slice_get l i ≡ Some a) × IsPutTo e a) ⊎ ((i : ℕ) (a : Access V) → slice_get l i ≡ Some a → IsPutTo e a → ⊥)
+pub some_put : {V : Type 0} (l : List (Access V)) (e : ℕ) →
+    ((i : ℕ) × (a : Access V) × (slice_get l i ≡ Some a) × IsPutTo e a) ⊎
+    ((i : ℕ) (a : Access V) → slice_get l i ≡ Some a → IsPutTo e a → ⊥)
 some_put [] e = inr (λ i a at-i p. let h : None ≡ Some a = at-i in (cc))
 some_put (a ∷ l) e = elim (is_put e a) [
   | inl p ↦ inl (0, a, refl, p)
@@ -49,7 +53,8 @@ some_put (a ∷ l) e = elim (is_put e a) [
   ]
 ]
   where
-    neither : {V : Type 0} (l : List (Access V)) (e : ℕ) (a : Access V) → (IsPutTo e a → ⊥) → ((i : ℕ) (b : Access V) → slice_get l i ≡ Some b → IsPutTo e b → ⊥) →
+    neither : {V : Type 0} (l : List (Access V)) (e : ℕ) (a : Access V) → (IsPutTo e a → ⊥) →
+        ((i : ℕ) (b : Access V) → slice_get l i ≡ Some b → IsPutTo e b → ⊥) →
         (i : ℕ) (b : Access V) → slice_get (a ∷ l) i ≡ Some b → IsPutTo e b → ⊥
     neither {V} l e a none nowhere zero b at-i p = (let P : Access V → Type 0 = λ x. IsPutTo e x in none (subst P (sym (some_inj at-i)) p))
     neither l e a none nowhere (suc i) b at-i p = nowhere i b at-i p
@@ -59,7 +64,8 @@ put_touches e (Get x) p = absurd p
 put_touches e (Put x v) p = p
 
 -- some image below n puts the word, or none
-pub some_image : {V : Type 0} (s : Script V) (q e n : ℕ) → ((j : ℕ) × (j < n) × Puts s q j e) ⊎ ((j : ℕ) → j < n → Puts s q j e → ⊥)
+pub some_image : {V : Type 0} (s : Script V) (q e n : ℕ) → ((j : ℕ) × (j < n) × Puts s q j e) ⊎
+    ((j : ℕ) → j < n → Puts s q j e → ⊥)
 some_image s q e zero = inr (λ j lt p. omega arith)
 some_image s q e (suc n) = elim (some_image s q e n) [
   | inl found ↦ inl (found.0, (let h = found.1 in omega arith), found.2)
@@ -72,12 +78,14 @@ some_image s q e (suc n) = elim (some_image s q e n) [
   ]
 ]
 
-pub images_none : {V : Type 0} (s : Script V) (q e n : ℕ) (m : ℕ → V) → ((j : ℕ) → j < n → Puts s q j e → ⊥) → after_images s q n m e ≡ m e
+pub images_none : {V : Type 0} (s : Script V) (q e n : ℕ) (m : ℕ → V) → ((j : ℕ) → j < n → Puts s q j e → ⊥) →
+    after_images s q n m e ≡ m e
 images_none s q e zero m none = refl
 images_none s q e (suc n) m none =
     no_puts (s.accesses q n) (after_images s q n m) e (λ i a at-i p. none n (omega arith) (i, a, at-i, p)) ∙ images_none s q e n m (λ j lt p. none j (omega arith) p)
 
-pub images_one : {V : Type 0} (s : Script V) (q e n j : ℕ) (m : ℕ → V) → j < n → ((i : ℕ) → i < n → i ≢ j → Puts s q i e → ⊥) → after_images s q n m e ≡ after_all m (s.accesses q j) e
+pub images_one : {V : Type 0} (s : Script V) (q e n j : ℕ) (m : ℕ → V) → j < n →
+    ((i : ℕ) → i < n → i ≢ j → Puts s q i e → ⊥) → after_images s q n m e ≡ after_all m (s.accesses q j) e
 images_one s q e zero j m lt others = absurd (omega arith)
 images_one s q e (suc n) j m lt others = elim (cases_eq j n) [
   | inl eq ↦ (let P : ℕ → Type 0 = λ x. after_images s q (suc n) m e ≡ after_all m (s.accesses q x) e in

@@ -1,5 +1,5 @@
--- Scripts of one-sided words (this project, after the coarrays of XcalableMP 1.4): what each image reads and writes in each phase, and what it
--- finds there.
+-- Scripts of one-sided words (this project, after the coarrays of XcalableMP 1.4): what each image reads and writes in
+-- each phase, and what it finds there.
 use Rattle.std.specs.Prelude.{◌≡◌, ◌≢◌, ℕ, zero, suc, ◌<◌, ◌≤◌, ◌==◌, if◌then◌else◌, List, [], ◌∷◌, take, slice_get, Some}
 
 -- a read of a word, or a write of a value to it
@@ -7,7 +7,8 @@ pub data Access (V : Type 0) : Type 0 where
   Get : ℕ → Access V
   Put : ℕ → V → Access V
 
--- Words with their values at the start, and for each phase and image its accesses in order. Nothing stands behind the last phase.
+-- Words with their values at the start, and for each phase and image its accesses in order. Nothing stands behind the
+-- last phase.
 pub record Script (V : Type 0) : Type 0 where
   pub start : ℕ → V
   pub images : ℕ
@@ -39,7 +40,8 @@ abbrev pub words_at : {V : Type 0} → Script V → ℕ → ℕ → V
 words_at s zero = s.start
 words_at s (suc q) = after_images s q s.images (words_at s q)
 
--- what image k sees of each word in phase q after i of its accesses: its own puts so far, on top of the words at the phase's start
+-- what image k sees of each word in phase q after i of its accesses: its own puts so far, on top of the words at the
+-- phase's start
 abbrev pub seen : {V : Type 0} → Script V → ℕ → ℕ → ℕ → ℕ → V
 seen s k q i = after_all (words_at s q) (take i (s.accesses q k))
 

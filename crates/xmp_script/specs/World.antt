@@ -1,5 +1,5 @@
--- Images that go through a script (this project): single accesses of one image between those of others, and a barrier at the end of each phase,
--- at which an image arrives, and which it passes once all have arrived.
+-- Images that go through a script (this project): single accesses of one image between those of others, and a barrier
+-- at the end of each phase, at which an image arrives, and which it passes once all have arrived.
 use Rattle.std.specs.Prelude.{◌≡◌, ℕ, suc, ◌<◌, Bool, true, false, if◌then◌else◌, length, slice_get, Some}
 use Rattle.xmp_script.specs.Script.{Access, Script, at, after}
 
@@ -16,7 +16,8 @@ start s = record { words = s.start; phase = λ k. 0; place = λ k. 0; arrived = 
 
 -- the next access of image k is this one
 abbrev pub MayAccess : {V : Type 0} → Script V → World V → ℕ → Access V → Type 0
-MayAccess s w k a = (w.phase k < s.phases) × (w.arrived k ≡ false) × (slice_get (s.accesses (w.phase k) k) (w.place k) ≡ Some a)
+MayAccess s w k a =
+    (w.phase k < s.phases) × (w.arrived k ≡ false) × (slice_get (s.accesses (w.phase k) k) (w.place k) ≡ Some a)
 
 -- image k has made its accesses of one of the script's phases
 abbrev pub MayArrive : {V : Type 0} → Script V → World V → ℕ → Type 0

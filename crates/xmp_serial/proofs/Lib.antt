@@ -1,15 +1,12 @@
-pub mod FirstTrees
-pub mod FirstSteps
 pub mod Binds
+pub mod Elements
+pub mod Laid
 pub mod Ended
-pub mod Formats
 pub mod Images
 pub mod Inputs
 pub mod Knots
-pub mod Moved
 pub mod Ranges
 pub mod CellNumbers
 pub mod Steps
 pub mod Stores
 pub mod Whiles
-mod EmptyProgram

@@ -1,16 +1,16 @@
 // What a run reads and writes.
 ghost use Rattle.std.specs.Prelude.{◌≡◌, [], ◌++◌, ℤ, pos, replicate, unwrap_or, slice_get, slice_set, IfOk};
 ghost use Rattle.xmp_meaning.specs.Formats.{printed};
-ghost use Rattle.xmp_meaning.specs.Cells.{cell_in, with_cell};
+ghost use Rattle.xmp_meaning.specs.Cells.{read_in, write_in};
 ghost use Rattle.xmp_meaning.specs.Runs.{Does, take_step, write};
 
-use crate::print::print;
 use crate::rows::{Rows, put};
 use sqlite_items::Items;
 use std::alloc::Global;
 use std::marker::Model;
 use xmp_base::{Bytes, NoMemory};
 use xmp_meaning::{End, Halt};
+use xmp_print::print;
 
 /// The scalars by slot, the arrays by number, the output so far, how many bytes of the input are read, and how many steps
 /// are left. Contracts see it as a state of the meaning whose further part is empty.
@@ -63,17 +63,22 @@ impl State {
     }
 
     /// A cell of an array, or 0 where there is none.
-    pub fn cell(&self, array: u32, at: usize) -> i64
-        ensures { result ≡ cell_in self.now.arrays array at }
+    pub fn cell(&self, array: u32, at: i64) -> i64
+        ensures { result ≡ read_in self.now.arrays array at }
     {
-        self.arrays.cell(array as usize, at)
+        match usize::try_from(at) {
+            Ok(at) => self.arrays.cell(array as usize, at),
+            Err(_) => 0,
+        }
     }
 
     /// Writes a cell of an array, where there is one.
-    pub fn set_cell(&mut self, array: u32, at: usize, value: i64)
-        ensures { self.new ≡ record self.old { arrays = with_cell self.old.arrays array at value } }
+    pub fn set_cell(&mut self, array: u32, at: i64, value: i64)
+        ensures { self.new ≡ record self.old { arrays = write_in self.old.arrays array at value } }
     {
-        self.arrays.set_cell(array as usize, at, value);
+        if let Ok(at) = usize::try_from(at) {
+            self.arrays.set_cell(array as usize, at, value);
+        }
     }
 
     /// Appends what `printf` writes for a format and values.

@@ -9,11 +9,12 @@ use Rattle.xmp_num.specs.declared.types.Ty.TheVariants as ty
 use Rattle.xmp_lex.specs.declared.token.Token.{Token}
 use Rattle.xmp_lex.specs.declared.token.TokenKind.{TokenKind}
 use Rattle.xmp_lex.specs.declared.token.TokenKind.TheVariants as t
-use Rattle.xmp_lex.specs.declared.mode.Mode.{Mode}
-use Rattle.xmp_lex.specs.declared.mode.Mode.TheVariants as mode
+use Rattle.xmp_lex.specs.LineStates.{LineState}
+use Rattle.xmp_lex.specs.LineStates as state
 use Rattle.xmp_lex.specs.Bytes.{has_suffix}
 use Rattle.xmp_lex.specs.Pieces.{type_of, Spelled, name, word, number, quoted, mark, LineForm, define, include, pragma, other_pragma}
-use Rattle.xmp_lex.specs.Cut.{behind, at_end, Piece, white, comment, token, hash, line_space, skip, close, Front, Cuts, none, piece, placed, ending, Cut}
+use Rattle.xmp_lex.specs.Cut.{behind, Piece, white, comment, token, hash, line_space, skip, close, Front, Cuts, none, piece, placed, ending, Cut}
+use Rattle.xmp_lex.specs.LineStates.{at_end}
 use Rattle.xmp_lex.specs.Expand.{Definition, same, body_of, definition_of, moved, Event, out, used, again, Replaces, done, keep, replace, Expands, Expanded, tokens_of}
 use Rattle.xmp_lex.specs.Expand as e
 use Rattle.xmp_prog.specs.Numbers.{lies_in}
@@ -57,19 +58,19 @@ spelled_lies text n _ (number _ v d r i) = typed_lies v (has_suffix (take n text
 spelled_lies text n _ (quoted k _ q x c b l) = refl
 spelled_lies text n _ (mark _ x b l i q) = refl
 
-form_lies : (text : List ℕ) (n : ℕ) (outs : List (ℕ × TokenKind)) (x : Mode) → LineForm text n outs x → All OutLies outs
+form_lies : (text : List ℕ) (n : ℕ) (outs : List (ℕ × TokenKind)) (x : LineState) → LineForm text n outs x → All OutLies outs
 form_lies text _ _ _ (define n k r h s o) = All-cons OutLies (n, t.Define r) [] refl (All-nil OutLies)
 form_lies text _ _ _ (include _ h s) = All-nil OutLies
-form_lies text _ _ _ (pragma n k h r w) = All-cons OutLies (0, t.Pragma) [] refl (All-nil OutLies)
-form_lies text _ _ _ (other_pragma _ k h r w) = All-nil OutLies
+form_lies text _ _ _ (pragma n x) = All-cons OutLies (0, t.Pragma) [] refl (All-nil OutLies)
+form_lies text _ _ _ (other_pragma _ w o) = All-nil OutLies
 
-close_lies : (x : Mode) → All KindLies (at_end x)
-close_lies mode.Start = All-nil KindLies
-close_lies mode.Middle = All-nil KindLies
-close_lies mode.Directive = All-cons KindLies t.Close [] refl (All-nil KindLies)
-close_lies mode.Ignored = All-nil KindLies
+close_lies : (x : LineState) → All KindLies (at_end x)
+close_lies state.fresh = All-nil KindLies
+close_lies state.begun = All-nil KindLies
+close_lies state.directive = All-cons KindLies t.Close [] refl (All-nil KindLies)
+close_lies state.ignored = All-nil KindLies
 
-piece_lies : (text : List ℕ) (x : Mode) (n : ℕ) (outs : List (ℕ × TokenKind)) (y : Mode) → Piece text x n outs y → All OutLies outs
+piece_lies : (text : List ℕ) (x : LineState) (n : ℕ) (outs : List (ℕ × TokenKind)) (y : LineState) → Piece text x n outs y → All OutLies outs
 piece_lies text _ _ _ _ (white x o w) = All-nil OutLies
 piece_lies text _ _ _ _ (comment x n o c) = All-nil OutLies
 piece_lies text _ _ _ _ (token x n k o s) = All-cons OutLies (0, k) [] (spelled_lies text n k s) (All-nil OutLies)
@@ -81,15 +82,15 @@ piece_lies text _ _ _ _ (close x h s) = All-map OutLies (λ (k : TokenKind). (le
 cuts_lie : (text : List ℕ) (f : Front) → Cuts text f → All Lies f.tokens
 cuts_lie text _ none = All-nil Lies
 cuts_lie text _ (piece f n outs x c some p) = All-append Lies f.tokens (placed f.at f.rest outs) (cuts_lie text f c)
-    (All-map Lies (λ (o : ℕ × TokenKind). (let z : Token = record { kind = o.1; at = behind f.at (take o.0 f.rest) } in z)) outs (piece_lies f.rest f.mode n outs x p))
+    (All-map Lies (λ (o : ℕ × TokenKind). (let z : Token = record { kind = o.1; at = behind f.at (take o.0 f.rest) } in z)) outs (piece_lies f.rest f.state n outs x p))
 
-ending_lies : (x : Mode) (at : Place) → All Lies (ending x at)
+ending_lies : (x : LineState) (at : Place) → All Lies (ending x at)
 ending_lies x at = All-map Lies (λ (k : TokenKind). (let z : Token = record { kind = k; at = at } in z)) (at_end x ++ t.Finish ∷ [])
     (All-append KindLies (at_end x) (t.Finish ∷ []) (close_lies x) (All-cons KindLies t.Finish [] refl (All-nil KindLies)))
 
 pub cut_lies : (text : List ℕ) (ts : List Token) → Cut text ts → All Lies ts
 cut_lies text ts c = subst (All Lies) (sym c.tokens_are)
-    (All-append Lies c.front.tokens (ending c.front.mode c.front.at) (cuts_lie text c.front c.cuts) (ending_lies c.front.mode c.front.at))
+    (All-append Lies c.front.tokens (ending c.front.state c.front.at) (cuts_lie text c.front c.cuts) (ending_lies c.front.state c.front.at))
 
 -- ---- the expansion
 

@@ -1,6 +1,6 @@
 // A law of the trees of texts.
 ghost use Rattle.std.specs.Prelude.{◌≡◌, ℕ, List, true};
-ghost use Rattle.xmp_tree.specs.declared.program.Tree.{Tree};
+ghost use Rattle.xmp_syntax.specs.declared.program.Tree.{Tree};
 ghost use Rattle.xmp_source.specs.Source.{IsTreeOf};
 ghost use Rattle.xmp_fits.specs.NumbersLie.{tree_lies};
 

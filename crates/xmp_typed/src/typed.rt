@@ -10,7 +10,7 @@ use xmp_base::Fault;
 use xmp_elab::elaborate_parts;
 use xmp_fits::parts_fit;
 use xmp_prog::Prog;
-use xmp_tree::Tree;
+use xmp_syntax::Tree;
 
 /// The typed program of a tree, for a number of nodes or none, or the rule that it is refused for: the first rule of names
 /// that it breaks, or, where it breaks none, the first rule of mappings. Want of memory may be answered at any time.

@@ -1,5 +1,5 @@
 use Rattle.std.proofs.Common.{◌≡◌, ◌++◌, map, drop}
-use Rattle.xmp_walk.specs.Directives.{natural}
+use Rattle.xmp_names.specs.Sizes.{natural}
 use Rattle.xmp_elab.proofs.grids.all_narrowed.Given as goal
 
 abbrev pub invariant-list : goal.invariant-list

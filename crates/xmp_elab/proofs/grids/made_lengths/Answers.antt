@@ -1,6 +1,6 @@
 use Rattle.std.proofs.Common.{◌≡◌, ◌∙◌, ap, arith, rules, get_or, pos}
 use Rattle.std.proofs.lemmas.Int.{ints}
-use Rattle.xmp_walk.specs.Directives.{natural}
+use Rattle.xmp_names.specs.Sizes.{natural}
 use Rattle.xmp_elab.proofs.MadeLists.{set_made}
 use Rattle.xmp_elab.proofs.grids.made_lengths.Goals as goal
 use mir.Syntax.{w64}

@@ -1,5 +1,5 @@
 use Rattle.std.proofs.Common.{◌≡◌, map, take}
-use Rattle.xmp_walk.specs.Directives.{natural}
+use Rattle.xmp_names.specs.Sizes.{natural}
 use Rattle.xmp_elab.specs.Parts.{padded}
 use Rattle.xmp_elab.proofs.grids.made_lengths.Given as goal
 

@@ -1,5 +1,5 @@
 use Rattle.std.proofs.Common.{◌≡◌, ◌∙◌, ◌+◌, ◌∷◌, [], ℕ, suc, List, length, ap, refl}
-use Rattle.xmp_walk.specs.declared.mappings.AlignPoint.{AlignPoint}
+use Rattle.xmp_names.specs.declared.mappings.AlignPoint.{AlignPoint}
 use Rattle.xmp_elab.specs.Parts.{targets_from}
 use Rattle.xmp_elab.proofs.homes.made_map.Goals as goal
 

@@ -1,6 +1,6 @@
 use Rattle.std.proofs.Common.{◌≡◌, ◌∙◌, ◌<◌, ◌++◌, ◌∷◌, [], ◌+◌, ℕ, List, length, get_or, drop, ap, sym, add-one, append_assoc, drop-cons}
 use Rattle.xmp_map.specs.declared.aligned.Target.{Target}
-use Rattle.xmp_walk.specs.declared.mappings.AlignPoint.{AlignPoint}
+use Rattle.xmp_names.specs.declared.mappings.AlignPoint.{AlignPoint}
 use Rattle.xmp_elab.specs.Parts.{target_from, targets_from}
 use Rattle.xmp_elab.proofs.homes.made_targets.Goals as goal
 

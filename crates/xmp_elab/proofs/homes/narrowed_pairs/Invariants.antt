@@ -1,5 +1,5 @@
 use Rattle.std.proofs.Common.{◌≡◌, ◌++◌, map, drop}
-use Rattle.xmp_walk.specs.Directives.{natural}
+use Rattle.xmp_names.specs.Sizes.{natural}
 use Rattle.xmp_elab.proofs.homes.narrowed_pairs.Given as goal
 
 abbrev pub invariant-widths : goal.invariant-widths

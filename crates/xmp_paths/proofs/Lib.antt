@@ -1,0 +1,10 @@
+pub mod NodeSetLaws
+pub mod PathLaws
+pub mod StaleLaws
+pub mod BreakLaws
+pub mod SafeLaws
+pub mod VerdictLaws
+pub mod TrailLaws
+pub mod FlowLaws
+pub mod CarryLaws
+pub mod FindLaws

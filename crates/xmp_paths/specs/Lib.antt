@@ -1,0 +1,10 @@
+pub mod NodeSets
+pub mod Plans
+pub mod Flows
+pub mod Stale
+pub mod Rules
+pub mod Walk
+pub mod Safe
+pub mod May
+pub mod Copies
+pub use Rattle.xmp_base.specs.First
