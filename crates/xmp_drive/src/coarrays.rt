@@ -24,6 +24,8 @@ pub fn coarray_of(alloc: Global, t: &Tree, given: Option<u32>) -> Result<Option<
     ensures { IfOk result (λ at. at ≡ first_coarray (arrays_of t.now given)) }
 {
     let (body, world) = walk_program(alloc, t, given)?;
+    let found = first_coarray(world.names.arrays.as_slice());
     std::mem::drop(body);
-    Ok(first_coarray(world.names.arrays.as_slice()))
+    std::mem::drop(world);
+    Ok(found)
 }

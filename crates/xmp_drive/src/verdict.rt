@@ -48,7 +48,10 @@ fn judged_tree(alloc: Global, t: &Tree, given: Option<u32>) -> Result<Accepted, 
     let prog = elaborate(alloc, t, given)?;
     match prog.kind() {
         Kind::Global => Ok(Accepted::new(prog)),
-        Kind::Coarray => Err(coarray_fault(alloc, t, given)),
+        Kind::Coarray => {
+            std::mem::drop(prog);
+            Err(coarray_fault(alloc, t, given))
+        }
     }
 }
 

@@ -137,6 +137,10 @@ pub fn elaborate_parts(alloc: Global, t: &Tree, given: Option<u32>) -> Result<Pr
     };
     match placed_in(alloc, &world) {
         Ok(found) => Ok(assembled(body, world, found)),
-        Err(fault) => Err(fault),
+        Err(fault) => {
+            std::mem::drop(body);
+            std::mem::drop(world);
+            Err(fault)
+        }
     }
 }
