@@ -85,38 +85,42 @@ fn files_in_memory_give_the_first_of_a_name(rt: HostRuntime) -> Result<(), Fail>
 }
 
 #[test]
-fn lists_grow_and_the_earlier_refusal_stands_first(rt: HostRuntime) -> Result<(), Fail> {
+fn numbers_and_rows_grow(rt: HostRuntime) -> Result<(), Fail> {
     let alloc = rt.alloc();
-    let mut words = Words::new(alloc);
-    assert_eq!(rt; words.push(-1), Ok(()));
-    assert_eq!(rt; words.push(7), Ok(()));
+    let mut words = Words::from_vec(vec![in alloc; 5]?);
+    words.push(-1)?;
+    assert_eq!(rt; words.as_slice(), [5, -1].as_slice());
     let mut table = Table::new(alloc);
     assert!(rt; table.push(words).is_ok());
-    assert_eq!(rt; table.row(0), Some([-1, 7].as_slice()));
+    assert_eq!(rt; table.row(0), Some([5, -1].as_slice()));
     assert_eq!(rt; table.row(1), None);
-    let numbers = Words::from_vec(vec![in alloc; 5, -5]?);
-    assert_eq!(rt; numbers.as_slice(), [5, -5].as_slice());
-    let mut bytes = Bytes::copy_of(alloc, b"ca")?;
-    assert_eq!(rt; bytes.push(b't'), Ok(()));
-    assert_eq!(rt; bytes.as_slice(), b"cat".as_slice());
-    let mut bytes = Bytes::from_vec(b"c".to_vec(alloc)?);
-    assert_eq!(rt; bytes.push_all(b"at"), Ok(()));
-    assert_eq!(rt; bytes.as_slice(), b"cat".as_slice());
+    assert!(rt; Words::new(alloc).as_slice().is_empty());
+    Ok(())
+}
+
+#[test]
+fn bytes_grow(rt: HostRuntime) -> Result<(), Fail> {
+    let alloc = rt.alloc();
+    let mut copy = Bytes::copy_of(alloc, b"ca")?;
+    copy.push(b't')?;
+    assert_eq!(rt; copy.as_slice(), b"cat".as_slice());
+    let mut taken = Bytes::from_vec(b"c".to_vec(alloc)?);
+    taken.push_all(b"at")?;
+    assert_eq!(rt; taken.as_slice(), b"cat".as_slice());
+    Ok(())
+}
+
+#[test]
+fn the_earlier_refusal_stands_first(rt: HostRuntime) {
     let at = |line: u32, column: u32, rule: u16| Refusal {
         phase: Phase::Lex,
         rule,
         at: Place { line, column },
     };
-    assert_eq!(rt;
-        earlier(Some(at(2, 1, 1)), Some(at(1, 9, 5))),
-        Some(at(1, 9, 5))
-    );
-    assert_eq!(rt;
-        earlier(Some(at(1, 9, 2)), Some(at(1, 9, 5))),
-        Some(at(1, 9, 2))
-    );
-    assert_eq!(rt; earlier(None, Some(at(1, 9, 5))), Some(at(1, 9, 5)));
-    Ok(())
+    let here = Some(at(1, 9, 5));
+    assert_eq!(rt; earlier(Some(at(2, 1, 1)), here), here);
+    assert_eq!(rt; earlier(Some(at(1, 9, 2)), here), Some(at(1, 9, 2)));
+    assert_eq!(rt; earlier(None, here), here);
 }
 
 // What one call of a writer comes to.

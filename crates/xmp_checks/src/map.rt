@@ -10,7 +10,10 @@ use xmp_map::{ArrayMap, Cell, Grid, MapError, NodeSet, Target, Template};
 fn cell_of(map: &ArrayMap, x: u32, y: u32, z: u32) -> Option<Cell>
     ensures { IfSome result (λ c. IsCell map.now c.at) }
 {
-    let [a, b, c] = &map.aligned;
+    let aligned = map.aligned.as_slice();
+    let [a, b, c] = aligned else {
+        return None;
+    };
     if x < a.extent && y < b.extent && z < c.extent {
         Some(Cell { at: [x, y, z] })
     } else {

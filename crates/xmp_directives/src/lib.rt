@@ -1,7 +1,7 @@
 //! The lines of directives where they stand: mapping directives, loop directives with the nests under them, sets of nodes,
 //! tasks, reflect, barrier, bcast and gmove. Each resolves its names there, keeps what the rules of mappings judge later, and
 //! notes the rules that break in it; what it does to the world is the step of its definition. The rows that show it are texts:
-//! xmp_typed/src/mapping_texts.rt, docs/LANGUAGE.md.
+//! xmp_elab/src/mapping_texts.rt, docs/LANGUAGE.md.
 #![tactic(auto)]
 
 mod align_lines;

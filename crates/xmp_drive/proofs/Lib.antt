@@ -3,6 +3,7 @@ mod OneProgram
 mod OneRefusal
 mod OneTemplate
 mod SameFields
+mod TreeVerdict
 mod Verdicts
 pub mod Faults
 pub mod NoCoarray

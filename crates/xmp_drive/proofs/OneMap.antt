@@ -9,7 +9,7 @@ use Rattle.xmp_names.specs.declared.names.Array.{Array}
 use Rattle.xmp_names.specs.declared.mappings.Align.{Align}
 use Rattle.xmp_names.specs.declared.world.World.{World}
 use Rattle.xmp_mapping_rules.specs.MappingRules.{align_of}
-use Rattle.xmp_elab.specs.Parts.{IsAligned, IsArray, IsHome, IsMapOver}
+use Rattle.xmp_parts.specs.Parts.{IsAligned, IsArray, IsHome, IsMapOver}
 use Rattle.xmp_drive.proofs.SameFields.{same_map}
 
 -- the first align and shadow of an array tell its map

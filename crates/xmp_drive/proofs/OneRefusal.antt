@@ -4,7 +4,8 @@ use Rattle.std.specs.Prelude.{Option, Some}
 use Rattle.xmp_base.specs.declared.refusal.Refusal.{Refusal}
 use Rattle.xmp_base.specs.declared.refusal.Fault.TheVariants as fault
 use Rattle.xmp_source.specs.Source.{Breaks}
-use Rattle.xmp_drive.specs.Verdict.{IsRefused, in_source, in_tree, tree_verdict}
+use Rattle.xmp_drive.specs.Verdict.{IsRefused, in_source, in_tree}
+use Rattle.xmp_drive.proofs.TreeVerdict.{told, tree_verdict}
 use Rattle.xmp_drive.proofs.Verdicts.{OneTree, TreeOrRefused, one_verdict}
 
 abbrev pub OneInSource : Type 0
@@ -19,4 +20,4 @@ one_refusal tree never source text given r s (in_source b) (in_source d) = sourc
 one_refusal tree never source text given r s (in_source b) (in_tree t q v) = absurd (never text t r q b)
 one_refusal tree never source text given r s (in_tree t q v) (in_source d) = absurd (never text t s q d)
 one_refusal tree never source text given r s (in_tree t q v) (in_tree u p w) =
-    one_some (tree_verdict t given) r s v (one_verdict tree text given t u q p ∙ w)
+    one_some (tree_verdict t given) r s (told t given (Some r) v) (one_verdict tree text given t u q p ∙ told u given (Some s) w)

@@ -9,7 +9,7 @@ use Rattle.xmp_map.specs.declared.spread_dim.SpreadDim.{SpreadDim}
 use Rattle.xmp_map.specs.declared.template.Template.{Template}
 use Rattle.xmp_map.specs.Spread.{is_whole, lies_over, spread}
 use Rattle.xmp_names.specs.declared.mappings.Form.{Form}
-use Rattle.xmp_elab.specs.Parts.{IsOf}
+use Rattle.xmp_parts.specs.Parts.{IsOf}
 use Rattle.xmp_drive.proofs.SameFields.{same_dim, same_spread_dim, same_template}
 
 -- a distributed dimension has as many nodes as its axis, and a whole one has one

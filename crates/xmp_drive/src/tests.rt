@@ -1,6 +1,6 @@
 // Texts, and the verdict on each: which phase speaks first, at which place, and by which rule.
 ghost use Rattle.std.specs.Prelude.{◌≡◌};
-ghost use Rattle.xmp_elab.specs.Narrow.{is_count};
+ghost use Rattle.xmp_parts.specs.Narrow.{is_count};
 
 use crate::accepted::Accepted;
 use crate::verdict::compile;

@@ -33,7 +33,7 @@ use Rattle.xmp_fits.proofs.DirectivesPass.{StmtFits, StmtMade, block_fits, count
 use Rattle.xmp_fits.proofs.Endings.{Ending, opened}
 use Rattle.xmp_fits.proofs.ForsPass.{PartsKnown, head_made, shape_fits}
 use Rattle.xmp_fits.proofs.GoodWorlds.{Good, Own}
-use Rattle.xmp_fits.proofs.KeptRuns.{Ends}
+use Rattle.xmp_fits.proofs.Respected.{Ends}
 use Rattle.xmp_fits.proofs.MovesEnd.{barrier_made, gmove_made, reflect_made}
 use Rattle.xmp_fits.proofs.OperandsKnown.{AddsOne, KnownOperand}
 use Rattle.xmp_fits.proofs.SetsEnd.{bcast_made}

@@ -23,7 +23,7 @@ use Rattle.xmp_fits.proofs.GoodSteps.{Stays}
 use Rattle.xmp_fits.proofs.GoodWorlds.{Own}
 use Rattle.xmp_fits.proofs.HeadsKnown.{FirstKnown, OperandMade, first_known, typed_known}
 use Rattle.xmp_fits.proofs.Holding.{Holds, Unbroken}
-use Rattle.xmp_fits.proofs.KeptRuns.{Ends}
+use Rattle.xmp_fits.proofs.Respected.{Ends}
 use Rattle.xmp_fits.proofs.LoopsEnd.{LineMade, line_made, loop_made}
 use Rattle.xmp_fits.specs.NumbersLie.{first_lies}
 use Rattle.xmp_fits.proofs.OneWorld.{Cases, FirstFits, LastMade, Tests}

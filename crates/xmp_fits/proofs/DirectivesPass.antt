@@ -24,7 +24,8 @@ use Rattle.xmp_names.specs.declared.world.World.{World}
 use Rattle.xmp_names.specs.Walk.{Run}
 use Rattle.xmp_fits.proofs.Endings.{Ending}
 use Rattle.xmp_fits.proofs.GoodWorlds.{Good, Own}
-use Rattle.xmp_fits.proofs.KeptRuns.{Ends, Kept}
+use Rattle.xmp_fits.proofs.KeptRuns.{Kept}
+use Rattle.xmp_fits.proofs.Respected.{Ends}
 use Rattle.xmp_fits.proofs.MapsPass.{all_pass_of}
 
 -- ---- one statement

@@ -16,8 +16,8 @@ use Rattle.xmp_syntax.specs.declared.expression.Expr.{Expr}
 use Rattle.xmp_syntax.specs.declared.program.Tree.{Tree}
 use Rattle.xmp_names.specs.declared.world.World.{World}
 use Rattle.xmp_mapping_rules.specs.MappingRules.{mapping_rules}
-use Rattle.xmp_elab.specs.Narrow.{is_count}
-use Rattle.xmp_elab.specs.Parts.{Made}
+use Rattle.xmp_parts.specs.Narrow.{is_count}
+use Rattle.xmp_parts.specs.Parts.{Made}
 use Rattle.xmp_walk.specs.Program.{program_of}
 use Rattle.xmp_walk.specs.Statements.{return_of}
 use Rattle.xmp_names.specs.Walk as walk
@@ -30,8 +30,8 @@ use Rattle.xmp_fits.proofs.Endings.{Ending, earlier, ends_at}
 use Rattle.xmp_fits.proofs.FitPrinciple.{Facts, Forms}
 use Rattle.xmp_fits.proofs.GoodWorlds.{Good, Own}
 use Rattle.xmp_fits.proofs.Holding.{Unbroken}
-use Rattle.xmp_fits.proofs.KeptDirectives.{return_kept}
-use Rattle.xmp_fits.proofs.KeptRuns.{Goes}
+use Rattle.xmp_fits.proofs.KeptRuns.{Goes, going}
+use Rattle.xmp_fits.proofs.RespectedDirectives.{return_kept}
 use Rattle.xmp_fits.proofs.KindsPass.{coarrays_fit, spread_fits}
 use Rattle.xmp_fits.proofs.Laters.{Later, later_refl}
 use Rattle.xmp_fits.proofs.MapsPass.{mappings_fit}
@@ -58,7 +58,7 @@ later_made v u l (x ∷ xs) h = (λ p e. h.0 p (earlier v u p l e), later_made v
 last_made : (own : Own) (at : Place) (x : Expr) → numbers_lie x ≡ true → (w v : World) (done : List made.Stmt) → Goes w v → Good own v → AllByRecursion (λ y. StmtMade y v) done →
     Unbroken (λ u one. AllByRecursion (λ y. StmtMade y u) (done ++ one ∷ [])) (return_of true at x v)
 last_made own at x n w v done o g h = λ e.
-    all_more (λ y. StmtMade y _) done _ (later_made v _ ((return_kept true at x).at v).onward.later done h) (return_made true at x v)
+    all_more (λ y. StmtMade y _) done _ (later_made v _ ((return_kept going true at x).at v).onward.later done h) (return_made true at x v)
 
 -- Of an initialiser at file scope nothing is asked.
 abbrev Anything : World → Start → Type 0

@@ -23,16 +23,17 @@ use Rattle.xmp_names.specs.Expressions.{is_function}
 use Rattle.xmp_names.specs.Sizes.{given_or_one, line_sizes}
 use Rattle.xmp_directives.specs.Directives.{sizes_in}
 use Rattle.xmp_mapping_rules.specs.MappingRules.{mapping_rules, has_nodes, nodes_of, nodes_right, nodes_rule, nodes_rules, sizes_or_row}
-use Rattle.xmp_elab.specs.Narrow.{is_count}
-use Rattle.xmp_elab.specs.Parts.{IsArray, Made}
+use Rattle.xmp_parts.specs.Narrow.{is_count}
+use Rattle.xmp_parts.specs.Parts.{IsArray, Made}
 use Rattle.xmp_names.specs.Walk.{Step, Gave, Run, and_then, first_of_two, a_nodes, a_template, an_array, name_of, of_kind}
 use Rattle.xmp_fits.proofs.GoodSteps.{begins_get, true_name}
 use Rattle.xmp_fits.proofs.GoodWorlds.{Good, Own}
-use Rattle.xmp_fits.proofs.KeptRuns.{Ends, Goes, Kept}
-use Rattle.xmp_fits.proofs.KeptSteps.{directive_at, goes_noted}
+use Rattle.xmp_fits.proofs.KeptRuns.{Goes, Kept, goes_noted, going}
+use Rattle.xmp_fits.proofs.Respected.{Ends}
+use Rattle.xmp_fits.proofs.RespectedSteps.{directive_at}
 use Rattle.xmp_fits.proofs.Laters.{Later, later_trans, unbroken_before}
-use Rattle.xmp_elab.proofs.MadeLists.{made_here}
-use Rattle.xmp_elab.proofs.Unbroken.{holds, left_none, left_true, none_here, right_none}
+use Rattle.xmp_parts.proofs.MadeLists.{made_here}
+use Rattle.xmp_parts.proofs.Unbroken.{holds, left_none, left_true, none_here, right_none}
 
 -- ---- steps, opened
 
@@ -84,7 +85,7 @@ directed at w = record w {
 }
 
 pub goes_directed : (at : Place) (w : World) → Goes w (directed at w)
-goes_directed at w = (directive_at at).kept.at w
+goes_directed at w = (directive_at going at).kept.at w
 
 -- What a step made.
 abbrev value_in : {A : Type 0} → Step A → A

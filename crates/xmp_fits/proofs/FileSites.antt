@@ -26,9 +26,10 @@ use Rattle.xmp_names.specs.Walk as walk
 use Rattle.xmp_walk.specs.Program.{parameter_of}
 use Rattle.xmp_walk.specs.Declarations.{type_of}
 use Rattle.xmp_fits.proofs.Laters.{Scopes}
-use Rattle.xmp_fits.proofs.KeptRuns.{Ends, Goes}
-use Rattle.xmp_fits.proofs.TermsFit.{Seen}
+use Rattle.xmp_fits.proofs.KeptRuns.{Goes}
+use Rattle.xmp_fits.proofs.Respected.{Ends}
 use Rattle.xmp_fits.proofs.SameRuns.{may_see, declared_means, seen_declared, Same, IsNoScalar, no_scalar}
+use Rattle.xmp_fits.proofs.TermsFit.{Seen}
 use Rattle.xmp_fits.proofs.ScopedForms.{Rising, rising_ends, rising_both, declared_block, block_right}
 use Rattle.xmp_fits.proofs.ScopedFits.{Lawful, longer, ItemsFit}
 use Rattle.xmp_fits.proofs.NamedSlots.{named_slots}

@@ -14,24 +14,24 @@ use Rattle.xmp_names.specs.declared.typed.Typed.{Typed}
 use Rattle.xmp_names.specs.declared.world.World.{World}
 use Rattle.xmp_names.specs.Rules.{greater}
 use Rattle.xmp_names.specs.Expressions.{expr_of, reference_of}
-use Rattle.xmp_elab.specs.Parts.{IsArray}
+use Rattle.xmp_parts.specs.Parts.{IsArray}
 use Rattle.xmp_walk.specs.Statements.{first_of, index_of}
 use Rattle.xmp_names.specs.Walk.{typed}
 use Rattle.xmp_fits.proofs.Endings.{Ending, before_noted, no_broken}
 use Rattle.xmp_fits.proofs.GoodSteps.{begins_get}
 use Rattle.xmp_fits.proofs.GoodWorlds.{ArrayOf, Extends, Good, Own}
-use Rattle.xmp_fits.proofs.KeptRuns.{Ends, Goes}
-use Rattle.xmp_fits.proofs.KeptSteps.{goes_noted, scalar_goes}
+use Rattle.xmp_fits.proofs.KeptRuns.{Goes, goes_noted, scalar_goes}
+use Rattle.xmp_fits.proofs.Respected.{Ends}
 use Rattle.xmp_fits.proofs.KindsPass.{made_image, made_kind}
 use Rattle.xmp_fits.proofs.Laters.{Begins}
-use Rattle.xmp_elab.proofs.MadeLists.{made_here}
+use Rattle.xmp_parts.proofs.MadeLists.{made_here}
 use Rattle.xmp_fits.proofs.NamesFit.{Tells}
 use Rattle.xmp_fits.specs.NumbersLie.{first_lies, numbers_lie, reference_lies}
 use Rattle.xmp_fits.proofs.OperandsFit.{Fits}
 use Rattle.xmp_fits.proofs.OperandsKnown.{KnownOperand, operand_known}
 use Rattle.xmp_fits.proofs.StepsFit.{reference_fits, typed_fits}
 use Rattle.xmp_fits.proofs.TellsTrue.{tells}
-use Rattle.xmp_elab.proofs.Unbroken.{left_true, right_true}
+use Rattle.xmp_parts.proofs.Unbroken.{left_true, right_true}
 
 -- ---- the program extends the worlds of its walk
 

@@ -20,12 +20,8 @@ mod GoodWorlds
 mod HeadCases
 mod HeadsKnown
 mod Holding
-mod KeptDirectives
-mod KeptLines
-mod KeptMappings
 mod KeptRuns
 mod KeptStatements
-mod KeptSteps
 mod KindsPass
 mod Laters
 mod Looking
@@ -51,17 +47,15 @@ mod ProgramFits
 mod ProgramSites
 mod ProgramTerms
 mod ProgramWalk
-mod QuietDirectives
-mod QuietLines
-mod QuietMappings
 mod QuietRuns
-mod QuietSteps
+mod Respected
+mod RespectedDirectives
+mod RespectedLines
+mod RespectedMappings
+mod RespectedSteps
 mod ReturnsLast
 mod RunsFit
-mod SameLines
-mod SameMappings
 mod SameRuns
-mod SameSteps
 mod ScalarClauses
 mod ScopedFits
 mod ScopedForms
@@ -71,7 +65,6 @@ mod ScopesFit
 mod SetsEnd
 mod SetsPass
 mod SlotsSeen
-pub mod SpelledNumbers
 mod StepsFit
 mod StmtsPass
 mod TellsTrue
@@ -85,3 +78,4 @@ mod TreeNumbers
 mod ValuesLie
 mod VerdictRight
 mod WritesSeen
+pub mod SpelledNumbers

@@ -19,8 +19,8 @@ use Rattle.xmp_names.specs.Rules.{unless}
 use Rattle.xmp_names.specs.Expressions.{may_name, is_function, expr_of, reference_of, call, arguments_of, each_next, next_of, no_parts}
 use Rattle.xmp_names.specs.Walk as walk
 use Rattle.xmp_names.specs.Walk.{Step, Gave, Run, and_then, a_scalar, an_int_scalar}
-use Rattle.xmp_elab.proofs.Unbroken.{left_none, right_none, holds}
-use Rattle.xmp_fits.proofs.KeptRuns.{Ends, ends_then, ends_map}
+use Rattle.xmp_parts.proofs.Unbroken.{left_none, right_none, holds}
+use Rattle.xmp_fits.proofs.Respected.{Ends, ends_then, ends_map}
 use Rattle.xmp_fits.proofs.Holding.{IfThere}
 use Rattle.xmp_fits.proofs.StepsFit.{IsPlace, reference_place}
 use Rattle.xmp_fits.proofs.ScopedFits.{Sees}

@@ -26,9 +26,9 @@ use Rattle.xmp_names.specs.declared.mappings.Form.TheVariants as form
 use Rattle.xmp_directives.specs.Directives.{is_indexed, is_small_point, loop_right, made_of_point, same_numbers, slot_of_point, slots_of_points}
 use Rattle.xmp_names.specs.Sizes.{is_small, limited}
 use Rattle.xmp_mapping_rules.specs.MappingRules.{distributes, indexed_right, is_distributed}
-use Rattle.xmp_elab.specs.Parts.{IsOf, made_form}
-use Rattle.xmp_elab.proofs.Padded.{filled_get, filled_past, mapped_to}
-use Rattle.xmp_elab.proofs.Unbroken.{all_here, both_true, left_true, right_true}
+use Rattle.xmp_parts.specs.Parts.{IsOf, made_form}
+use Rattle.xmp_parts.proofs.Padded.{filled_get, filled_past, mapped_to}
+use Rattle.xmp_parts.proofs.Unbroken.{all_here, both_true, left_true, right_true}
 
 -- ---- constants
 

@@ -28,7 +28,7 @@ use Rattle.xmp_names.specs.declared.typed.Typed.{Typed}
 use Rattle.xmp_names.specs.declared.typed.Parts.{Parts}
 use Rattle.xmp_names.specs.Rules.{unless, noted}
 use Rattle.xmp_names.specs.Expressions.{add, is_function, is_first, may_name, unknown, of_type, is_nothing, cell_of, read_as, image_notes, read, intrinsic, call_intrinsic, called, call_of, call_as, may_call, judged_call, call}
-use Rattle.xmp_elab.proofs.Unbroken.{left_none, right_none, left_true, right_true, holds}
+use Rattle.xmp_parts.proofs.Unbroken.{left_none, right_none, left_true, right_true, holds}
 use Rattle.xmp_fits.proofs.GoodWorlds.{ArrayOf}
 use Rattle.xmp_fits.proofs.TermsFit.{NoneInside, ExprFits, EachFits, each_append}
 use Rattle.xmp_fits.proofs.TermForms.{fits_scalar, fits_cell, fits_element, fits_image, fits_call, fits_node, fits_nodes}

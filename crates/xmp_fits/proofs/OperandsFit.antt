@@ -28,7 +28,7 @@ use Rattle.xmp_names.specs.declared.typed.Operand.{Operand}
 use Rattle.xmp_names.specs.Rules.{joined}
 use Rattle.xmp_names.specs.Typing.{operator_of, joint, value_type, binary_value, both_value, either_value, converted, chosen_value, convert, as_type, operand, typed, number, arithmetic, compare, shift, operator, binary, unary, cast, chosen, choose}
 use Rattle.xmp_names.specs.Expressions.{chain}
-use Rattle.xmp_elab.proofs.Unbroken.{left_none, right_none}
+use Rattle.xmp_parts.proofs.Unbroken.{left_none, right_none}
 use Rattle.xmp_fits.proofs.ValuesLie.{Lies, wrap_lies, binary_lies, widened, converted_lies, both_lies, either_lies, chosen_lies}
 use Rattle.xmp_fits.proofs.TermsFit.{ExprFits}
 use Rattle.xmp_fits.proofs.TermForms.{same_itself, fits_const, fits_binary, fits_both, fits_either, fits_choose, fits_convert}

@@ -30,11 +30,11 @@ use Rattle.xmp_names.specs.Typing.{is_of}
 use Rattle.xmp_names.specs.Walk.{if_there}
 use Rattle.xmp_fits.proofs.Endings.{ends_in}
 use Rattle.xmp_fits.proofs.ForsPass.{one_step}
-use Rattle.xmp_fits.proofs.KeptRuns.{Ends}
+use Rattle.xmp_fits.proofs.Respected.{Ends}
 use Rattle.xmp_fits.proofs.NamesFit.{Tells}
 use Rattle.xmp_fits.proofs.OperandsFit.{Fits}
 use Rattle.xmp_fits.proofs.TermsFit.{TermFits}
-use Rattle.xmp_elab.proofs.Unbroken.{right_true}
+use Rattle.xmp_parts.proofs.Unbroken.{right_true}
 
 pub record KnownOperand (p : ProgParts) (x : Operand) : Type 0 where
   pub index : (i : ℕ) (at : Place) → out-Expr x.made ≡ Expr-F.Scalar i at → is_of x.ty Int ≡ true → slice_get p.scalars i ≡ Some Int

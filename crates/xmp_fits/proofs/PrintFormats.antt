@@ -13,7 +13,7 @@ use Rattle.xmp_prog.specs.Formats.{Piece, Byte, Percent, Number, width_spelling,
 use Rattle.xmp_names.specs.declared.formats.Mode.{Mode}
 use Rattle.xmp_names.specs.declared.formats.Mode.TheVariants as m
 use Rattle.xmp_names.specs.Formats.{is_digit, letter, wider, after_byte, ended, conversion, conversions, agrees, all_agree, fits_types, fits_format}
-use Rattle.xmp_elab.proofs.Unbroken.{left_true, right_true, both_true}
+use Rattle.xmp_parts.proofs.Unbroken.{left_true, right_true, both_true}
 
 -- ---- one byte
 

@@ -50,13 +50,14 @@ use Rattle.xmp_directives.specs.Directives.{judged_loop, nest_of, task_line, loo
 use Rattle.xmp_prog.specs.Directives.{sections_in}
 use Rattle.xmp_walk.specs.Program.{plain_of, program_of}
 use Rattle.xmp_syntax.specs.declared.program.Tree.{Tree}
-use Rattle.xmp_elab.proofs.Unbroken.{left_none, right_none, holds}
+use Rattle.xmp_parts.proofs.Unbroken.{left_none, right_none, holds}
 use Rattle.xmp_fits.specs.NumbersLie.{numbers_lie, tree_lies}
 use Rattle.xmp_directives.proofs.Nests.{out_block}
 use Rattle.xmp_fits.proofs.NestsPass.{nest_passes}
 use Rattle.xmp_fits.proofs.AllInside.{AllIn, AllInTask, each_stmt, in_plain, in_block, in_if, in_while, in_counted, in_loop, in_task, in_tasks}
 use Rattle.xmp_fits.proofs.GoodWorlds.{Own, Good}
-use Rattle.xmp_fits.proofs.KeptRuns.{Ends, ends_map, Goes}
+use Rattle.xmp_fits.proofs.KeptRuns.{Goes}
+use Rattle.xmp_fits.proofs.Respected.{Ends, ends_map}
 use Rattle.xmp_fits.proofs.Holding.{Unbroken, Holds}
 use Rattle.xmp_fits.proofs.FitPrinciple.{Forms}
 use Rattle.xmp_fits.proofs.ProgramWalk.{MainOf, Starts}

@@ -36,7 +36,7 @@ use Rattle.xmp_names.specs.Walk.{is_known, is_main, first_place, typed_constant}
 use Rattle.xmp_walk.specs.Statements.{target_of, compound_of, one, call_in, call_statement, is_scalar_target, target_name, simple_of, return_of, print_of, scan_of, sync_of}
 use Rattle.xmp_names.specs.Formats.{fits_format, is_scan_format}
 use Rattle.xmp_fits.proofs.PrintFormats.{is_format}
-use Rattle.xmp_elab.proofs.Unbroken.{left_none, right_none, left_true, right_true, holds}
+use Rattle.xmp_parts.proofs.Unbroken.{left_none, right_none, left_true, right_true, holds}
 use Rattle.xmp_fits.proofs.TermsFit.{Seen, TermFits, each_types, each_terms, or_true}
 use Rattle.xmp_fits.proofs.TermForms.{call_terms}
 use Rattle.xmp_fits.proofs.OperandsFit.{Fits, IsConst}

@@ -32,13 +32,13 @@ use Rattle.xmp_walk.specs.declared.loops.Shape.{Shape}
 use Rattle.xmp_names.specs.declared.world.World.{World}
 use Rattle.xmp_walk.specs.Statements.{set, right_side, in_block, counted_with, begun, condition, last_of, uncounted, loop_in, loop_of, shape_of}
 use Rattle.xmp_directives.specs.Directives.{Nest, counted_in, unbraced_in, head_of, nest_in, nest_of}
-use Rattle.xmp_elab.proofs.Unbroken.{left_true, both_true}
+use Rattle.xmp_parts.proofs.Unbroken.{left_true, both_true}
 use Rattle.xmp_fits.proofs.KeptRuns.{Goes}
+use Rattle.xmp_fits.proofs.SameRuns.{same_refl}
 use Rattle.xmp_fits.proofs.KeptStatements.{opened, closed}
 use Rattle.xmp_fits.proofs.Holding.{IfThere}
 use Rattle.xmp_fits.proofs.ForsPass.{head_made, counts}
 use Rattle.xmp_fits.proofs.TermsFit.{Seen}
-use Rattle.xmp_fits.proofs.SameRuns.{same_refl}
 use Rattle.xmp_fits.proofs.ScopedForms.{Rising, rising_ends, rising_from, rising_both, declared_block, declared_counted, May, may_both, Right, InOrder, known_after, order_both, block_right, right_block, counted_right, right_counted}
 use Rattle.xmp_fits.proofs.ScopedFits.{Lawful, lawful_within, Allows, opened_seen, closed_same, Fits, ItemsFit, Sees, FlatFits, allow_all, allows_more, flat_fits, items_more, while_fits}
 

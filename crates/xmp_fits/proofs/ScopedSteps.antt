@@ -52,18 +52,17 @@ use Rattle.xmp_directives.specs.Directives.{signed, scalar_name, task_line, offs
 use Rattle.xmp_names.specs.Sizes.{limited}
 use Rattle.xmp_directives.specs.MappingLines.{mapping_of}
 use Rattle.xmp_walk.specs.Program.{plain_of}
-use Rattle.xmp_elab.proofs.Unbroken.{left_none, right_none}
+use Rattle.xmp_parts.proofs.Unbroken.{left_none, right_none}
 use Rattle.xmp_fits.proofs.GoodWorlds.{Own}
-use Rattle.xmp_fits.proofs.KeptRuns.{ends_then, ends_map, ends_both, Goes, goes_trans}
-use Rattle.xmp_fits.proofs.KeptMappings.{mapping_kept}
-use Rattle.xmp_fits.proofs.KeptLines.{array_kept}
+use Rattle.xmp_fits.proofs.KeptRuns.{Goes, goes_trans, going, going_arrays}
+use Rattle.xmp_fits.proofs.Respected.{ends_then, ends_map, ends_both}
+use Rattle.xmp_fits.proofs.RespectedLines.{array_kept}
+use Rattle.xmp_fits.proofs.RespectedMappings.{mapping_kept}
+use Rattle.xmp_fits.proofs.SameRuns.{Same, same_refl, same, same_arrays}
 use Rattle.xmp_fits.proofs.Holding.{Unbroken, Holds, IfThere}
 use Rattle.xmp_fits.proofs.FitPrinciple.{Facts, Forms}
 use Rattle.xmp_fits.proofs.TermsFit.{Seen}
 use Rattle.xmp_fits.proofs.StepsFit.{IsPlace, reference_place}
-use Rattle.xmp_fits.proofs.SameRuns.{Same, same_refl}
-use Rattle.xmp_fits.proofs.SameLines.{array_quiet}
-use Rattle.xmp_fits.proofs.SameMappings.{mapping_quiet}
 use Rattle.xmp_fits.proofs.ScopedForms as forms_of
 use Rattle.xmp_fits.proofs.ScopedForms.{Rising, rising_from, rising_to, declared_loop, May, may_both}
 use Rattle.xmp_fits.proofs.ScopedFits.{lawful_within, longer, same_names, Fits, ItemsFit, Sees, FlatFits, TasksFit, allow_all, allows_same, flat_fits, nothing_flat, none_fit, items_same, items_more, items_declared, block_fits, if_fits, while_fits, no_task_fits, one_task_fits, tasks_fit}
@@ -273,7 +272,7 @@ module _ (p : ProgParts) where
       Unbroken (λ u more. ItemsFit p w u (done ++ more)) (and_then (declare_array ty n extents coarray v) (λ _. walk.pure []))
   array_ends ty n extents coarray w v done f =
       ends_then (λ _ u. Goes v u × Same v u) (λ more u. u.broken ≡ [] → ItemsFit p w u (done ++ more)) (declare_array ty n extents coarray v) (λ _. walk.pure [])
-      (ends_both (λ _ u. Goes v u) (λ _ u. Same v u) (declare_array ty n extents coarray v) ((array_kept ty n extents coarray).at v) ((array_quiet ty n extents coarray).at v))
+      (ends_both (λ _ u. Goes v u) (λ _ u. Same v u) (declare_array ty n extents coarray v) ((array_kept going going_arrays ty n extents coarray).at v) ((array_kept same same_arrays ty n extents coarray).at v))
       (λ _ u g e. subst (ItemsFit p w u) (sym (append-nil done)) (items_same p w v u done g.1 (longer g.0) f))
 
   declarator_ends : (ty : Ty) (d : Declarator) (w v : World) (done : List made.Stmt) → ItemsFit p w v done → Unbroken (λ u more. ItemsFit p w u (done ++ more)) (local_declarator ty d v)
@@ -320,7 +319,7 @@ module _ (p : ProgParts) where
     loop = λ l w v u parts x g gv gu i f. loop_ends w v u l.line.word parts x (same_names w v i.0) (longer gv) i.1 f;
     none = none_fit p;
     mapping = λ x n w v done gv g f. ends_map (λ (a : ⊤) u. Goes v u × Same v u) (λ (a : ⊤) u. u.broken ≡ [] → ItemsFit p w u done) (mapping_of x v)
-        (ends_both (λ (a : ⊤) u. Goes v u) (λ (a : ⊤) u. Same v u) (mapping_of x v) ((mapping_kept x).at v) ((mapping_quiet x).at v)) (λ a u h e. items_same p w v u done h.1 (longer h.0) f);
+        (ends_both (λ (a : ⊤) u. Goes v u) (λ (a : ⊤) u. Same v u) (mapping_of x v) ((mapping_kept going x).at v) ((mapping_kept same x).at v)) (λ a u h e. items_same p w v u done h.1 (longer h.0) f);
     declarator = λ ty d n w v done gv g f. declarator_ends ty d w v done f;
     statement = λ w v u done x gv gu f h. items_more p w v u done x f h;
     block = λ w v all g gv f. block_fits p w v all gv f;

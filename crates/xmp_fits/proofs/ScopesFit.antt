@@ -6,7 +6,7 @@ use Rattle.xmp_prog.specs.Fits.{ScalarsFit, FunctionsFit}
 use Rattle.xmp_syntax.specs.declared.program.Tree.{Tree}
 use Rattle.xmp_names.specs.declared.world.World.{World}
 use Rattle.xmp_names.specs.Walk.{Gave}
-use Rattle.xmp_elab.specs.Parts.{Made}
+use Rattle.xmp_parts.specs.Parts.{Made}
 use Rattle.xmp_walk.specs.Program.{program_of}
 use Rattle.xmp_fits.specs.NumbersLie.{tree_lies}
 use Rattle.xmp_fits.proofs.ProgramTerms.{TermsRight}

@@ -52,7 +52,7 @@ use Rattle.xmp_names.specs.declared.operators.Operator.TheVariants.{Arithmetic, 
 use Rattle.xmp_names.specs.Rules.{unless, noted, joined}
 use Rattle.xmp_names.specs.Typing.{stands, is_of, convert, operand, number, operator, operator_of, binary, unary, cast, choose}
 use Rattle.xmp_names.specs.Expressions.{no_parts, add, may_name, is_nothing, cell_of, read_as, image_notes, read, intrinsic, call_intrinsic, call_of, call_as, may_call, judged_call, call, chain, each_subscript, each_next, expr_step, expr_of, right_of, inside_of, next_of, reference_of, arguments_of}
-use Rattle.xmp_elab.proofs.Unbroken.{left_none, right_none, holds}
+use Rattle.xmp_parts.proofs.Unbroken.{left_none, right_none, holds}
 use Rattle.xmp_fits.proofs.TermsFit.{Seen}
 use Rattle.xmp_fits.proofs.ScopedFits.{Sees}
 

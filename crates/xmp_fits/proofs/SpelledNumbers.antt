@@ -67,7 +67,7 @@ use Rattle.xmp_syntax.specs.Spell as sp
 use Rattle.xmp_syntax.specs.Spell.{Text, ◌at◌, each, list, next, optional, in_brackets, dims, spell, spell_ref, spell_subscripts, spell_image, spell_arguments, spell_rest, spell_links, expr}
 use Rattle.xmp_syntax.proofs.Backward.{back, back_ref, back_subscripts, back_image, back_arguments, back_rest, back_links, back_view}
 use Rattle.xmp_syntax.proofs.BackStatements as bs
-use Rattle.xmp_elab.proofs.Unbroken.{both_true}
+use Rattle.xmp_parts.proofs.Unbroken.{both_true}
 use Rattle.xmp_fits.proofs.NumbersLie.{plain_is, if_is, else_is, while_is, for_is, loop_is, task_is, block_is, tasks_are}
 use Rattle.xmp_fits.specs.NumbersLie as n
 use Rattle.xmp_fits.specs.NumbersLie.{number_lies, numbers_lie, numbers_step, subscripts_lie, image_lies, reference_lies, rest_lies, arguments_lie, there_lies}

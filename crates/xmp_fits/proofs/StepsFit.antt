@@ -28,8 +28,8 @@ use Rattle.xmp_names.specs.declared.world.World.{World}
 use Rattle.xmp_names.specs.Rules.{unless}
 use Rattle.xmp_names.specs.Expressions.{no_parts, add, each_subscript, each_next, read_as, cell_of, unknown, call, expr_of, inside_of, next_of, reference_of, arguments_of}
 use Rattle.xmp_names.specs.Walk.{Run, typed, typed_reference, typed_call, typed_all, typed_constant, is_known, first_place}
-use Rattle.xmp_elab.proofs.Unbroken.{left_none, right_none, left_true, right_true, holds}
-use Rattle.xmp_fits.proofs.KeptRuns.{Ends}
+use Rattle.xmp_parts.proofs.Unbroken.{left_none, right_none, left_true, right_true, holds}
+use Rattle.xmp_fits.proofs.Respected.{Ends}
 use Rattle.xmp_fits.proofs.TermsFit.{EachFits}
 use Rattle.xmp_fits.proofs.OperandsFit.{Fits, Right}
 use Rattle.xmp_fits.proofs.NamesFit.{Tells, PartsRight, add_right, read_right, call_right, ImageRight, full}

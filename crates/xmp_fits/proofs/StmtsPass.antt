@@ -18,7 +18,7 @@ use Rattle.xmp_prog.specs.Statements.{Statement, Walked, WalkedTask, indices_of,
 use Rattle.xmp_prog.specs.Fits.{has_coarrays}
 use Rattle.xmp_prog.proofs.Rolls.{at_block, at_counted, at_if, at_loop, at_plain, at_tasks, at_while}
 use Rattle.xmp_directives.specs.Directives.{head_of, nest_in, nest_of, made_task}
-use Rattle.xmp_elab.proofs.Unbroken.{both_true, left_true}
+use Rattle.xmp_parts.proofs.Unbroken.{both_true, left_true}
 use Rattle.xmp_fits.proofs.TermsFit.{all_append, or_true}
 use Rattle.xmp_fits.proofs.TermTests.{TermPasses, StatementPasses, is_slot, all_map, all_true}
 use Rattle.xmp_fits.proofs.ClausesHold.{StmtPasses, all_flat}

@@ -15,7 +15,7 @@ use Rattle.xmp_names.specs.declared.names.Signature.{Signature}
 use Rattle.xmp_names.specs.declared.world.World.{World}
 use Rattle.xmp_names.specs.Expressions.{is_function, may_call}
 use Rattle.xmp_names.specs.Walk.{is_main}
-use Rattle.xmp_elab.proofs.Unbroken.{left_true}
+use Rattle.xmp_parts.proofs.Unbroken.{left_true}
 use Rattle.xmp_fits.proofs.GoodWorlds.{Own, Good, Finished, Reading, Extends}
 use Rattle.xmp_fits.proofs.GoodSteps.{begins_get, true_name}
 use Rattle.xmp_fits.proofs.NamesFit.{Tells, FunctionOf}

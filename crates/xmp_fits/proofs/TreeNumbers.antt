@@ -17,7 +17,7 @@ use Rattle.xmp_names.specs.declared.names.Environment.{Environment}
 use Rattle.xmp_names.specs.declared.typed.Typed.{Typed}
 use Rattle.xmp_names.specs.declared.typed.Parts.{Parts}
 use Rattle.xmp_names.specs.Expressions.{no_parts, add, each_subscript, each_next, expr_step, expr_of, inside_of, next_of, right_of}
-use Rattle.xmp_elab.proofs.Unbroken.{left_true, right_true}
+use Rattle.xmp_parts.proofs.Unbroken.{left_true, right_true}
 use Rattle.xmp_fits.proofs.OperandsFit.{Right, number_right, unary_right, cast_right, chain_right, choose_right}
 use Rattle.xmp_fits.proofs.NamesFit.{Tells, PartsRight, add_right, read_right, call_right}
 use Rattle.xmp_fits.specs.NumbersLie.{numbers_lie, numbers_step}

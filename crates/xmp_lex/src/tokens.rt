@@ -14,7 +14,7 @@ use xmp_base::{Bytes, NoMemory};
 use xmp_num::Ty;
 
 /// Want of memory, or a rule that breaks, so many bytes on.
-#[derive(Clone, Copy, Debug, PartialEq, Eq)]
+#[derive(Clone, Copy)]
 pub enum PieceError {
     NoMemory,
     Rule(u16, usize),

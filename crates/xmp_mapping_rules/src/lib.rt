@@ -1,6 +1,6 @@
 //! The rules of mappings that are judged over a whole program: they read what the walk has kept in the world, each line with
 //! the first line on its array or template, and answer the list of the rules that break, as the definition gives it. The rows
-//! that show it are texts: xmp_typed/src/mapping_texts.rt, docs/LANGUAGE.md.
+//! that show it are texts: xmp_elab/src/mapping_texts.rt, docs/LANGUAGE.md.
 #![tactic(auto)]
 
 mod align_rules;

@@ -12,6 +12,8 @@ pub mod Forms
 pub mod TenTurns
 pub mod ReadAndPrint
 pub mod PutAndGet
+pub mod ShiftedReport
+pub mod CornersReport
 pub mod StoresLaid
 pub mod Unrolled
 pub mod FormatLaws

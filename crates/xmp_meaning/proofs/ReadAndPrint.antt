@@ -42,7 +42,7 @@ module _ {X : Type 0} (h : Handlers X) (cx : Context) where
   print_is : (at : Place) → plain_of h cx (print_n at) ≡ print_run
   print_is at = rw (expr_scalar h cx 0 at) refl
 
-  abbrev task_with : Place → ℕ → Run X Flow → TaskRun X
+  abbrev pub task_with : Place → ℕ → Run X Flow → TaskRun X
   task_with at node run = record { nodes = node_set node; run = run; at = at }
 
   task_is : (at : Place) (node : ℕ) (s : Plain)
@@ -51,7 +51,7 @@ module _ {X : Type 0} (h : Handlers X) (cx : Context) where
   task_is at node s = fold-roll-Task (Run X Flow) (TaskRun X) (stmt_step h cx) task_step (record { nodes = node_set node; body = stmt.Plain s; at = at })
       ∙ ap (task_with at node) (stmt_plain h cx s)
 
-  tasks_are : (at : Place) (node : ℕ) (s : Plain) → stmt_of h cx (task_on at node s) ≡ h.tasks (task_with at node (plain_of h cx s) ∷ [])
+  pub tasks_are : (at : Place) (node : ℕ) (s : Plain) → stmt_of h cx (task_on at node s) ≡ h.tasks (task_with at node (plain_of h cx s) ∷ [])
   tasks_are at node s = stmt_tasks h cx _ at ∙ ap (λ t. h.tasks (t ∷ [])) (task_is at node s)
 
   abbrev whole_run : Place → Run X Flow

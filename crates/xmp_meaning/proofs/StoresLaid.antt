@@ -1,7 +1,8 @@
 -- Where the words of a node's store lie.
-use Rattle.std.proofs.Common.{◌≡◌, ◌+◌, ◌*◌, ◌<◌, ◌++◌, ℕ, zero, suc, ℤ, false, if◌then◌else◌, List, [], ◌∷◌, map, length, take, refl, sym, ap, ◌∙◌, arith, length-append}
+use Rattle.std.proofs.Common.{◌≡◌, ◌+◌, ◌*◌, ◌<◌, ◌++◌, ℕ, zero, suc, ℤ, pos, false, if◌then◌else◌, List, [], ◌∷◌, map, length, take, replicate, refl, sym, ap, ◌∙◌, arith, length-append}
 use Rattle.std.specs.Prelude.{slice_get}
 use Rattle.std.specs.List.{AllByRecursion, flat_map, sum_by}
+use Rattle.std.proofs.lemmas.List.{length-replicate}
 use Rattle.std.proofs.lemmas.List.Sums.{sum_by-cons}
 use Rattle.xmp_map.specs.RowMajor.{product}
 use Rattle.xmp_prog.specs.declared.parts.ProgParts.{ProgParts}
@@ -12,7 +13,7 @@ use Rattle.xmp_prog.specs.Tests.{is_image}
 use Rattle.xmp_meaning.specs.Cells.{row_in}
 use Rattle.xmp_meaning.specs.Layouts.{Packed, words_of, row_length}
 use Rattle.xmp_meaning.specs.Stores.{array_words, store_words, store_length, image_words, store_of}
-use Rattle.xmp_meaning.specs.TrafficLaws.{StoresAreLaid}
+use Rattle.xmp_meaning.specs.TrafficLaws.{StoresAreLaid, BeginsLaid}
 
 get_left : (xs ys : List ℤ) (n : ℕ) → n < length xs → slice_get (xs ++ ys) n ≡ slice_get xs n
 get_left [] ys n lt = absurd (omega (arith, lt))
@@ -82,3 +83,15 @@ stores_laid X p node s is = record {
     place : (array n : ℕ) → length p.scalars + sum_by (store_words node) (take array p.arrays) + n
         ≡ length s.scalars + (sum_by (store_words node) (take array p.arrays) + n)
     place array n = let l : _ = is.scalars in omega (arith, l)
+
+zeros_laid : (f : Array → ℕ) (all : List Array) → map length (map (λ a. replicate (f a) (pos 0)) all) ≡ map f all
+zeros_laid f [] = refl
+zeros_laid f (a ∷ all) = ap (λ n. n ∷ map length (map (λ a. replicate (f a) (pos 0)) all)) (length-replicate (f a) (pos 0))
+    ∙ ap (λ ns. f a ∷ ns) (zeros_laid f all)
+
+pub begins_laid : (p : ProgParts) → BeginsLaid p
+begins_laid p node steps none = record {
+  scalars = length-replicate (length p.scalars) (pos 0);
+  rows = zeros_laid (row_length (Packed node) p) p.arrays;
+  no_coarrays = none;
+}

@@ -110,7 +110,8 @@ tasks_length p from to (e ∷ es) =
 
 -- ---- what a noted exchange has
 
--- as many values as there are variables; the cells of a whole row; a value for each source; the end of each node, with its values
+-- as many values as there are variables; the cells of a whole row; a value for each source; the end of each node,
+-- with its values
 abbrev pub IsWhole : ProgParts → (rows : ℕ → ℕ) → Exchange → Type 0
 IsWhole p rows AtBarrier = Unit {0}
 IsWhole p rows (Broadcast variables set values) = length values ≡ length variables

@@ -30,25 +30,28 @@ pub record Accessed : Type 0 where
   pub starts : List Memory
   pub accesses : List Access
 
--- one access more, where the array is a coarray
-abbrev pub note_access : ProgParts → (array : ℕ) → (at : ℤ) → (ℕ → Access) → Run Accessed (Unit {0})
-note_access p array at access = λ s. Gave tt (record s {
-  extra = record s.extra {
-    accesses = if is_coarray p array then s.extra.accesses ++ access (word_at p array (natural at)) ∷ [] else s.extra.accesses;
-  };
-})
+-- the access of a cell by its number, where the array is a coarray
+abbrev pub access_to : ProgParts → (array : ℕ) → (at : ℤ) → (ℕ → Access) → List Access
+access_to p array at access = if is_coarray p array then access (word_at p array (natural at)) ∷ [] else []
+
+-- accesses more
+abbrev pub note_accesses : List Access → Run Accessed (Unit {0})
+note_accesses more = λ s. Gave tt (record s { extra = record s.extra { accesses = s.extra.accesses ++ more } })
 
 -- into the next phase, in which there is no access yet
 abbrev pub next_accesses : ProgParts → List Memory → Run Accessed Flow
 next_accesses p [] = stop PhaseEnd
-next_accesses p (m ∷ ms) = λ s.
-    Gave Next (record s { arrays = with_coarrays p.arrays m s.arrays; out = []; extra = record { starts = ms; accesses = [] } })
+next_accesses p (m ∷ ms) = λ s. Gave Next (record s {
+  arrays = with_coarrays p.arrays m s.arrays;
+  out = [];
+  extra = record { starts = ms; accesses = [] };
+})
 
 -- the handlers of an image that notes its accesses, and then does what an image does
 abbrev pub noting_image : ProgParts → Handlers Accessed
 noting_image p = record erased {
-  get = λ array at. note_access p array at Get >>= (λ u. cell array at);
-  put = λ array at v. note_access p array at (λ word. Put word v) >>= (λ u. set_cell array at v);
+  get = λ array at. note_accesses (access_to p array at Get) >>= (λ u. cell array at);
+  put = λ array at v. note_accesses (access_to p array at (λ word. Put word v)) >>= (λ u. set_cell array at v);
   sync = λ s. next_accesses p s.extra.starts s;
 }
 
@@ -97,7 +100,8 @@ first_failing test (suc n) at = if test at then first_failing test n (suc at) el
 abbrev pub last_phase : ProgParts → ℕ
 last_phase p = first_failing (leads_on p) most_phases 0
 
--- The script: the notices of the phase before, then the accesses of this one. Behind the last phase its notices alone are read.
+-- The script: the notices of the phase before, then the accesses of this one. Behind the last phase its notices alone
+-- are read.
 abbrev pub script : ProgParts → (phase image : ℕ) → List Access
 script p phase image =
     (if nat_lt 0 phase && nat_le phase (last_phase p + 1) then notice_reads p (phase - 1) else [])

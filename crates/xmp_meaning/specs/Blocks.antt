@@ -1,4 +1,5 @@
--- Parts of a run one after the other, statements in their order, and turns of a loop (ISO C11 6.8.2, 6.8.5), over states of any kind.
+-- Parts of a run one after the other, statements in their order, and turns of a loop (ISO C11 6.8.2, 6.8.5), over
+-- states of any kind.
 use Rattle.std.specs.Prelude.{ℕ, zero, suc, Bool, true, false, List, [], ◌∷◌, ◌++◌}
 use Rattle.xmp_meaning.specs.declared.ends.Flow.{Flow}
 use Rattle.xmp_meaning.specs.declared.ends.Flow.TheVariants.{Next, Returned}

@@ -4,8 +4,8 @@ use Rattle.xmp_prog.specs.declared.parts.ProgParts.{ProgParts}
 use Rattle.xmp_meaning.specs.Runs.{Step}
 use Rattle.xmp_meaning.specs.Layouts.{Layout}
 
--- The program, where the store keeps its arrays' cells, the number of the node that runs, the input, and what a call of a function with
--- these arguments comes to where so many steps are left: in a state of its own.
+-- The program, where the store keeps its arrays' cells, the number of the node that runs, the input, and what a call
+-- of a function with these arguments comes to where so many steps are left: in a state of its own.
 pub record Context : Type 0 where
   pub program : ProgParts
   pub layout : Layout

@@ -6,8 +6,7 @@ use Rattle.xmp_num.specs.declared.types.BinOp.TheVariants as op
 use Rattle.xmp_map.specs.declared.grid.Grid.{Grid}
 use Rattle.xmp_map.specs.RowMajor.{product}
 use Rattle.xmp_map.specs.declared.grid.NodeSet.{NodeSet}
-use Rattle.std.proofs.Common.{refl}
-use Rattle.std.proofs.Math.Nat.{le-suc, le_trans}
+use Rattle.std.proofs.Common.{refl, lit≤}
 use Rattle.xmp_prog.specs.declared.statements.Plain.{Plain}
 use Rattle.xmp_prog.specs.declared.statements.Task.{roll-Task}
 use Rattle.xmp_prog.specs.declared.expressions.Expr.{Expr}
@@ -61,7 +60,7 @@ ten_turns grid at = over_scalars grid (stmt.While (below_ten at) (increment at) 
 -- two nodes in a row
 unfoldable pub two_nodes : Grid
 unfolding product
-two_nodes = record { sizes = 2 ∷ 1 ∷ 1 ∷ []; dims = 1; valid = refl; most = le_trans (le-suc 1) (le-suc 2); rest = refl }
+two_nodes = record { sizes = 2 ∷ 1 ∷ 1 ∷ []; dims = 1; valid = refl; most = lit≤ tt; rest = refl }
 
 -- the first node, and the second
 abbrev pub node_set : ℕ → NodeSet

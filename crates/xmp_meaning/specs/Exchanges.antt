@@ -17,8 +17,8 @@ use Rattle.xmp_meaning.specs.Blocks.{each, then_run, block}
 use Rattle.xmp_meaning.specs.Handlers.{Handlers, TaskRun, task_run, Aim, erased}
 use Rattle.xmp_meaning.specs.Parts.{owns_iteration, part_of}
 
--- How a node's part of a loop directive ends: why it ended early, where it did, the indices of the nest at its end, and the values of the
--- reduction variables.
+-- How a node's part of a loop directive ends: why it ended early, where it did, the indices of the nest at its end,
+-- and the values of the reduction variables.
 pub record PartEnd : Type 0 where
   pub ended : Option End
   pub indices : List ℤ
@@ -30,8 +30,9 @@ pub record TaskEnd : Type 0 where
   pub ended : Option End
   pub text : List ℕ
 
--- What is said at an exchange: nothing at a barrier, the values of the variables from a node, the cells of an array, the sides of a gmove
--- with the cells that are meant and a value for each of the target's, the ends of the parts of a loop directive by node, the ends of the tasks in order.
+-- What is said at an exchange: nothing at a barrier, the values of the variables from a node, the cells of an array,
+-- the sides of a gmove with the cells that are meant and a value for each of the target's, the ends of the parts of a
+-- loop directive by node, the ends of the tasks in order.
 pub data Exchange : Type 0 where
   AtBarrier : Exchange
   Broadcast : (variables : List Name) → NodeSet → (values : List ℤ) → Exchange
@@ -64,10 +65,12 @@ task_end s t =
     let step = t.run (unprinted s) in record { nodes = t.nodes; ended = end_of step; text = (state_of step).out }
 
 -- the ends of the parts of all nodes, each from this state
-abbrev pub part_ends : {X : Type 0} → ProgParts → LoopDirective → (Run X Flow → Run X Flow) → Run X Flow → State X → List PartEnd
-part_ends p directive around body s = map (λ node. part_end directive (part_of p directive node around body s)) (range_with_len 0 (node_count p))
+abbrev pub part_ends : {X : Type 0}
+    → ProgParts → LoopDirective → (Run X Flow → Run X Flow) → Run X Flow → State X → List PartEnd
+part_ends p directive around body s =
+    map (λ node. part_end directive (part_of p directive node around body s)) (range_with_len 0 (node_count p))
 
--- ---- the run that notes each exchange: the serial run, with the values that are said, in the order in which it comes to them
+-- ---- the run that notes each exchange: the serial run, with what is said, in the order in which it comes to it
 
 -- the exchanges so far, and for each node how many turns of loop directives it owns
 pub record Notes : Type 0 where
@@ -90,7 +93,8 @@ raised test node (n ∷ ns) = (if test node then suc n else n) ∷ raised test (
 -- one turn more for the nodes that own the point of this iteration
 abbrev pub note_turn : ProgParts → LoopDirective → Run Notes Flow
 note_turn p directive = λ s.
-    Gave Next (record s { extra = record s.extra { turns = raised (λ node. owns_iteration p directive node s) 0 s.extra.turns } })
+    let turns = raised (λ node. owns_iteration p directive node s) 0 s.extra.turns in
+    Gave Next (record s { extra = record s.extra { turns = turns } })
 
 -- one exchange for each array, in order
 abbrev pub note_arrays : List Name → Run Notes Flow
@@ -100,12 +104,14 @@ note_arrays (a ∷ all) = then_run (λ s. note (Reflected a.number (row_in s.arr
 -- the handlers that note what is said, and then do what the serial run does
 abbrev pub traced : ProgParts → Handlers Notes
 traced p = record erased {
-  loop = λ directive around body.
-      then_run (λ s. note (LoopEnd directive (part_ends p directive around body s)) s) (around (then_run (note_turn p directive) body));
+  loop = λ directive around body. then_run
+      (λ s. note (LoopEnd directive (part_ends p directive around body s)) s)
+      (around (then_run (note_turn p directive) body));
   reflect = note_arrays;
   barrier = note AtBarrier;
   bcast = λ variables from s. note (Broadcast variables from (values_of s (map (λ v. v.number) variables))) s;
   gmove = λ target source aim read write.
-      aim >>= (λ a. each (map read a.sources) [] >>= (λ vs. then_run (note (Moved target source a vs)) (write a.targets vs)));
+      aim >>= (λ a. each (map read a.sources) []
+      >>= (λ vs. then_run (note (Moved target source a vs)) (write a.targets vs)));
   tasks = λ all. then_run (λ s. note (TasksEnd (map (task_end s) all)) s) (block (map task_run all));
 }

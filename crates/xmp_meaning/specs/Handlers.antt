@@ -1,4 +1,5 @@
--- What directives do, and what reading and writing an element of an array does: an argument of the meaning of statements.
+-- What directives do, and what reading and writing an element of an array does: an argument of the meaning of
+-- statements.
 use Rattle.std.specs.Prelude.{ℕ, ℤ, List, [], map}
 use Rattle.xmp_base.specs.declared.place.Place.{Place}
 use Rattle.xmp_map.specs.declared.grid.NodeSet.{NodeSet}
@@ -27,9 +28,9 @@ pub record Aim : Type 0 where
   pub targets : List ℕ
   pub sources : List ℕ
 
--- A handler for each directive. That of `loop` has the directive, the nest round a body, and the body. That of `gmove` has its two sides,
--- what is meant, how a cell of the source is read, and how values are written to cells of the target. Those of `get` and `put` have an array
--- and the number of a cell in its row.
+-- A handler for each directive. That of `loop` has the directive, the nest round a body, and the body. That of
+-- `gmove` has its two sides, what is meant, how a cell of the source is read, and how values are written to cells of
+-- the target. Those of `get` and `put` have an array and the number of a cell in its row.
 pub record Handlers (X : Type 0) : Type 0 where
   pub get : ℕ → ℤ → Run X ℤ
   pub put : ℕ → ℤ → ℤ → Run X (Unit {0})
@@ -37,11 +38,13 @@ pub record Handlers (X : Type 0) : Type 0 where
   pub reflect : List Name → Run X Flow
   pub barrier : Run X Flow
   pub bcast : List Name → NodeSet → Run X Flow
-  pub gmove : MoveSide → MoveSide → Run X Aim → (ℕ → Run X ℤ) → (List ℕ → List ℤ → Run X Flow) → Run X Flow
+  pub gmove : MoveSide → MoveSide → Run X Aim → (ℕ → Run X ℤ) → (List ℕ → List ℤ → Run X Flow)
+      → Run X Flow
   pub tasks : List (TaskRun X) → Run X Flow
   pub sync : Run X Flow
 
--- Directives mean nothing: the statement of a loop or a task runs as it stands, and so does the assignment under `gmove`.
+-- Directives mean nothing: the statement of a loop or a task runs as it stands, and so does the assignment under
+-- `gmove`.
 abbrev pub erased : {X : Type 0} → Handlers X
 erased = record {
   get = cell;

@@ -1,4 +1,5 @@
--- Where a store keeps the cells of an array (this project; the cells that a node holds are those of XcalableMP 1.4, distribute and shadow).
+-- Where a store keeps the cells of an array (this project; the cells that a node holds are those of XcalableMP 1.4,
+-- distribute and shadow).
 use Rattle.std.specs.Prelude.{ℕ, ◌*◌, Bool, if◌then◌else◌, List, [], ◌∷◌, ℤ, pos, negsuc, ◌+ℤ◌, ◌*ℤ◌}
 use Rattle.xmp_dist.specs.Count.{count_below}
 use Rattle.xmp_map.specs.RowMajor.{product}
@@ -47,15 +48,18 @@ kept _ _ = []
 abbrev pub axes : Layout → ProgParts → ℕ → List Axis
 axes layout p array = axes_of (kept layout (home_of p array)) (extents p array)
 
--- The number of a cell in its row, of which the subscripts before give `so_far`: the positions, folded over the counts in whole numbers.
+-- The number of a cell in its row, of which the subscripts before give `so_far`: the positions, folded over the
+-- counts in whole numbers.
 abbrev pub number_from : List Axis → (so_far : ℤ) → List ℕ → ℤ
 number_from [] so_far xs = so_far
 number_from (a ∷ all) so_far [] = so_far
 number_from (a ∷ all) so_far (x ∷ xs) = number_from all ((so_far *ℤ pos a.count) +ℤ a.position x) xs
 
--- The number of an image's cell: the cells of a coarray lie image after image, and those of any other array are of image 0.
+-- The number of an image's cell: the cells of a coarray lie image after image, and those of any other array are of
+-- image 0.
 abbrev pub number_of : Layout → ProgParts → ℕ → (image : ℕ) → List ℕ → ℤ
-number_of layout p array image xs = pos (image * product (extents p array)) +ℤ number_from (axes layout p array) (pos 0) xs
+number_of layout p array image xs =
+    pos (image * product (extents p array)) +ℤ number_from (axes layout p array) (pos 0) xs
 
 -- how many cells an array has, those of all images together
 abbrev pub cell_count : ProgParts → Array → ℕ

@@ -28,3 +28,5 @@ pub mod Accesses
 pub mod Laws
 pub mod TrafficLaws
 pub mod Examples
+pub mod Shifted
+pub mod Corners

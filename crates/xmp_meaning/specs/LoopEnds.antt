@@ -1,5 +1,5 @@
--- The end of a loop directive, from the ends of its parts (XcalableMP 1.4, reduction clause; that the iteration which comes first in the
--- program's order gives the trap is this project's).
+-- The end of a loop directive, from the ends of its parts (XcalableMP 1.4, reduction clause; that the iteration which
+-- comes first in the program's order gives the trap is this project's).
 use Rattle.std.specs.Prelude.{if◌then◌else◌, Bool, false, List, [], ◌∷◌, map, ℤ, int_lt, Option, Some, None}
 use Rattle.std.specs.Ordering.{int_eq}
 use Rattle.xmp_num.specs.Reduction.{combine_of, unit_of}
@@ -36,7 +36,8 @@ joined_by None (Some f) p rs a b = b
 joined_by (Some e) None p rs a b = a
 joined_by (Some e) (Some f) p rs a b = if comes_before b.indices a.indices then b else a
 
--- Two ends joined: the values combined where both parts came to their end; else the end of the iteration that comes first.
+-- Two ends joined: the values combined where both parts came to their end; else the end of the iteration that comes
+-- first.
 abbrev pub joined : ProgParts → List Reduction → PartEnd → PartEnd → PartEnd
 joined p rs a b = joined_by a.ended b.ended p rs a b
 

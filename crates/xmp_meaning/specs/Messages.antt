@@ -73,7 +73,8 @@ gives p (side.Array name parts) node n = gives_cell (home_of p name.number) node
 
 -- the values that are sent, in the order of the targets
 abbrev pub moved : (takes gives : ℕ → Bool) → (targets sources : List ℕ) → List ℤ → List ℤ
-moved takes gives (t ∷ ts) (s ∷ ss) (v ∷ vs) = (if takes t && gives s then v ∷ [] else []) ++ moved takes gives ts ss vs
+moved takes gives (t ∷ ts) (s ∷ ss) (v ∷ vs) =
+    (if takes t && gives s then v ∷ [] else []) ++ moved takes gives ts ss vs
 moved takes gives [] ss vs = []
 moved takes gives (t ∷ ts) [] vs = []
 moved takes gives (t ∷ ts) (s ∷ ss) [] = []

@@ -1,4 +1,5 @@
--- Parts of a run (this project): each goes from a state to a value and a state, or to an end. What follows what is said of states of any kind.
+-- Parts of a run (this project): each goes from a state to a value and a state, or to an end. What follows what is
+-- said of states of any kind.
 use Rattle.std.specs.Prelude.{◌≡◌, ◌++◌, Option, Some, None, ℕ, zero, suc, List, ℤ, pos, Result, Ok, Err, unwrap_or, slice_get, slice_set}
 use Rattle.xmp_base.specs.declared.place.Place.{Place}
 use Rattle.xmp_num.specs.declared.types.TrapKind.{TrapKind}
@@ -57,8 +58,9 @@ or_trap (Err kind) at = trap kind at
 
 -- ---- the state of a program
 
--- What a run has: the scalars by slot, the arrays by number, each a row of its cells, the output so far, how many bytes of the input are
--- read, how many steps of uncounted loops are left, and a part that handlers alone read and write.
+-- What a run has: the scalars by slot, the arrays by number, each a row of its cells, the output so far, how many
+-- bytes of the input are read, how many steps of uncounted loops are left, and a part that handlers alone read and
+-- write.
 pub record State (X : Type 0) : Type 0 where
   pub scalars : List ℤ
   pub arrays : List (List ℤ)

@@ -140,6 +140,10 @@ aim h cx target source = do
 abbrev pub read_cell : {X : Type 0} → Handlers X → MoveSide → ℕ → Run X ℤ
 read_cell h source n = value_at h (cell_at source n)
 
+-- those of several, in order
+abbrev pub read_all : {X : Type 0} → Handlers X → MoveSide → List ℕ → Run X (List ℤ)
+read_all h source ns = each (map (read_cell h source) ns) []
+
 -- the values into the cells of a side, in order
 abbrev pub store_all : {X : Type 0} → Handlers X → Context → MoveSide → List ℕ → List ℤ → Run X Flow
 store_all h cx target (n ∷ ns) (v ∷ vs) = do

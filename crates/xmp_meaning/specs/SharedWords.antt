@@ -1,4 +1,5 @@
--- The shared words of a coarray program (this project): the coarray cells image by image, and behind them two notice words for each image.
+-- The shared words of a coarray program (this project): the coarray cells image by image, and behind them two notice
+-- words for each image.
 use Rattle.std.specs.Prelude.{ℕ, ◌+◌, ◌*◌, ◌/◌, ◌%◌, take}
 use Rattle.std.specs.List.{sum_by}
 use Rattle.xmp_map.specs.RowMajor.{product}

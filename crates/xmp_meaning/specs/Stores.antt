@@ -1,5 +1,5 @@
--- A node's store (this project): the scalars by slot, then the cells that it keeps of each array that is no coarray, in the order of their
--- declarations; in a world the own cells of each coarray stand behind them.
+-- A node's store (this project): the scalars by slot, then the cells that it keeps of each array that is no coarray,
+-- in the order of their declarations; in a world the own cells of each coarray stand behind them.
 use Rattle.std.specs.Prelude.{ℕ, ℤ, ◌+◌, ◌++◌, if◌then◌else◌, List, length, take}
 use Rattle.std.specs.List.{flat_map, sum_by}
 use Rattle.xmp_map.specs.RowMajor.{product}
@@ -10,7 +10,8 @@ use Rattle.xmp_meaning.specs.Runs.{State}
 use Rattle.xmp_meaning.specs.Declarations.{is_coarray}
 use Rattle.xmp_meaning.specs.Layouts.{Packed, words_of}
 
--- the words of an array on a node: the cells that it holds of a distributed one, all of a copy, those of one image of a coarray
+-- the words of an array on a node: the cells that it holds of a distributed one, all of a copy, those of one image of
+-- a coarray
 abbrev pub array_words : ℕ → Array → ℕ
 array_words node a = words_of (Packed node) a.home (product a.extents)
 

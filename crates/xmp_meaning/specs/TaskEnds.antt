@@ -1,4 +1,5 @@
--- The end of tasks, from the ends of each (XcalableMP 1.4, task and tasks constructs; who tells it, and what is printed, are this project's).
+-- The end of tasks, from the ends of each (XcalableMP 1.4, task and tasks constructs; who tells it, and what is
+-- printed, are this project's).
 use Rattle.std.specs.Prelude.{ℕ, if◌then◌else◌, List, [], ◌∷◌, ◌++◌, map, Option, Some, None}
 use Rattle.xmp_map.specs.declared.grid.NodeSet.{NodeSet}
 use Rattle.xmp_map.specs.RowMajor.{row_major}

@@ -31,7 +31,8 @@ turns_on p input steps node = unwrap_or (slice_get (notes p input steps).turns n
 
 -- ---- counts
 
--- What is counted of a node: the words that it has, the turns of loop directives that it owns, and the words that it sends.
+-- What is counted of a node: the words that it has, the turns of loop directives that it owns, and the words that it
+-- sends.
 pub record Counts : Type 0 where
   pub words : ℕ
   pub turns : ℕ
@@ -66,8 +67,8 @@ copied xs array n = unwrap_or (slice_get (last_reflected array [] xs) n) (pos 0)
 
 -- ---- a node by itself
 
--- What a node's run is read against: its arrays are packed. In a program without coarrays no number of a node is asked for, and calls are
--- those of the serial run.
+-- What a node's run is read against: its arrays are packed. In a program without coarrays no number of a node is
+-- asked for, and calls are those of the serial run.
 abbrev pub node_context : ProgParts → (node : ℕ) → (input : List ℕ) → Context
 node_context p node input = context_with p (Packed node) 0 input (call_of p 0 (length p.functions))
 

@@ -25,7 +25,7 @@ use Rattle.xmp_meaning.specs.Exchanges.{PartEnd, Exchange, AtBarrier, Broadcast,
 use Rattle.xmp_meaning.specs.TrapWords.{index_at, SaidTrap, trap_said}
 use Rattle.xmp_meaning.specs.Messages.{is_reflected, takes, gives, tells, part_words, words_alone, message}
 use Rattle.xmp_meaning.specs.Stores.{words_on, base_of, store_of}
-use Rattle.xmp_meaning.specs.Traffic.{traffic}
+use Rattle.xmp_meaning.specs.Traffic.{traffic, node_beginning}
 
 -- ---- the words of a trap
 
@@ -44,14 +44,22 @@ EndsAtPlace None = Unit {0}
 -- the trap of an end, with the first three indices
 abbrev pub trap_of : Option End → List ℤ → Option SaidTrap
 trap_of (Some (Trapped kind at)) indices =
-    Some (record { kind = kind; at = at; first = index_at indices 0; second = index_at indices 1; third = index_at indices 2 })
+    Some (record {
+      kind = kind;
+      at = at;
+      first = index_at indices 0;
+      second = index_at indices 1;
+      third = index_at indices 2;
+    })
 trap_of (Some OutOfSteps) indices = None
 trap_of (Some PhaseEnd) indices = None
 trap_of None indices = None
 
--- From the words of a part's end its trap can be read back, and the values of its reduction variables, where its indices are values of int.
+-- From the words of a part's end its trap can be read back, and the values of its reduction variables, where its
+-- indices are values of int.
 pub record EndsAreRead (e : PartEnd) : Type 0 where
-  pub trap : AllByRecursion (FitsType Int) e.indices → EndsAtPlace e.ended → trap_said (part_words (Some e)) ≡ trap_of e.ended e.indices
+  pub trap : AllByRecursion (FitsType Int) e.indices → EndsAtPlace e.ended
+      → trap_said (part_words (Some e)) ≡ trap_of e.ended e.indices
   pub values : drop 3 (part_words (Some e)) ≡ e.values
 
 -- ---- notes are added
@@ -77,19 +85,21 @@ step_behind before (Ended e s) = Ended e (state_behind before s)
 -- A statement adds its notes behind those before, and which they are doesn't depend on those.
 abbrev pub NotesAreAdded : ProgParts → Context → Stmt → Type 0
 NotesAreAdded p cx s = (before : Notes) (t : State Notes) → length before.turns ≡ node_count p
-    → stmt_of (traced p) cx s (record t { extra = before }) ≡ step_behind before (stmt_of (traced p) cx s (record t { extra = no_notes p }))
+    → stmt_of (traced p) cx s (record t { extra = before })
+    ≡ step_behind before (stmt_of (traced p) cx s (record t { extra = no_notes p }))
 
 -- ---- the words of a message
 
--- how many cells a reflect sends: those that the one node owns and of which the other holds a copy; none of an array without align
+-- how many cells a reflect sends: those that the one node owns and of which the other holds a copy; none of an array
+-- without align
 abbrev pub reflect_due : Home → (from to : ℕ) → ℕ
 reflect_due (home.Spread t m) from to = count_cells (held.extents m) (is_reflected m from to)
 reflect_due home.Copy from to = 0
 reflect_due home.Image from to = 0
 
--- How many words one node owes another at an exchange: for a bcast one for each variable, from its source; for a gmove one for each target
--- that the other takes from a source that the node gives; at the end of a loop directive three, and one for each reduction variable; at the
--- end of tasks three for each whose end it tells.
+-- How many words one node owes another at an exchange: for a bcast one for each variable, from its source; for a
+-- gmove one for each target that the other takes from a source that the node gives; at the end of a loop directive
+-- three, and one for each reduction variable; at the end of tasks three for each whose end it tells.
 abbrev pub words_due : ProgParts → Exchange → (from to : ℕ) → ℕ
 words_due p AtBarrier from to = 0
 words_due p (Broadcast variables set values) from to = if has_node p.grid set from then length variables else 0
@@ -101,7 +111,8 @@ words_due p (TasksEnd ends) from to = 3 * count_by (tells p from to) ends
 
 -- An exchange has exactly the words that are due, and text for node 0 alone; a node sends nothing to itself.
 pub record IsAsDue (p : ProgParts) (x : Exchange) : Type 0 where
-  pub words : (from to : ℕ) → from < node_count p → from ≢ to → length (message p x from to).words ≡ words_due p x from to
+  pub words : (from to : ℕ) → from < node_count p → from ≢ to
+      → length (message p x from to).words ≡ words_due p x from to
   pub text : (from to : ℕ) → to ≢ 0 → (message p x from to).text ≡ []
   pub itself : (node : ℕ) → message p x node node ≡ words_alone []
 
@@ -126,3 +137,8 @@ pub record StoreIsLaid {X : Type 0} (p : ProgParts) (node : ℕ) (s : State X) :
 -- the same of every such state
 abbrev pub StoresAreLaid : (X : Type 0) → ProgParts → Type 0
 StoresAreLaid X p = (node : ℕ) (s : State X) → IsNodeState p node s → StoreIsLaid p node s
+
+-- a node begins with one
+abbrev pub BeginsLaid : ProgParts → Type 0
+BeginsLaid p = (node steps : ℕ) → AllByRecursion (λ a. is_image a.home ≡ false) p.arrays
+    → IsNodeState p node (node_beginning p node steps)

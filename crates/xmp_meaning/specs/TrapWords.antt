@@ -47,7 +47,8 @@ index_at indices d = unwrap_or (slice_get indices d) (pos 0)
 
 -- The words of an end: all 0 without a trap.
 abbrev pub end_words : Option End → (indices : List ℤ) → List ℤ
-end_words (Some (Trapped kind at)) indices = trap_words kind at (index_at indices 0) (index_at indices 1) (index_at indices 2)
+end_words (Some (Trapped kind at)) indices =
+    trap_words kind at (index_at indices 0) (index_at indices 1) (index_at indices 2)
 end_words (Some OutOfSteps) indices = pos 0 ∷ pos 0 ∷ pos 0 ∷ []
 end_words (Some PhaseEnd) indices = pos 0 ∷ pos 0 ∷ pos 0 ∷ []
 end_words None indices = pos 0 ∷ pos 0 ∷ pos 0 ∷ []

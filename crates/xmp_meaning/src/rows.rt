@@ -6,6 +6,8 @@ ghost use Rattle.xmp_meaning.specs.declared.outcome.Outcome.TheVariants as outco
 ghost use Rattle.xmp_meaning.specs.Programs.{serial};
 ghost use Rattle.xmp_meaning.specs.Traffic.{report};
 ghost use Rattle.xmp_meaning.specs.Accesses.{Get, Put, phase_accesses};
+ghost use Rattle.xmp_meaning.specs.Shifted.{shifted};
+ghost use Rattle.xmp_meaning.specs.Corners.{corners};
 ghost use Rattle.xmp_meaning.specs.Examples.{after_first, put_and_get, read_and_print, ten_turns};
 
 /// `int i; int main() { while (i < 10) i++; printf("%d\n", i); }` prints `10` with ten steps, and is out of steps with nine.
@@ -28,4 +30,20 @@ pub fn two_images_put_and_get()
         × (phase_accesses (put_and_get at) [] 0 1 ≡ Put 0 (pos 1) ∷ Put 4 (pos 0) ∷ []) }
     ensures second { (at : Place) → (phase_accesses (put_and_get at) after_first 1 0 ≡ Get 0 ∷ Put 3 (pos 0) ∷ [])
         × (phase_accesses (put_and_get at) after_first 1 1 ≡ Get 1 ∷ Put 5 (pos 0) ∷ []) }
+{}
+
+/// An array in blocks over three nodes is filled, shifted by one cell and summed, and node 0 prints the sum. At the shift node 0 sends a word to node
+/// 1, and node 1 one to node 2.
+pub fn an_array_is_shifted_and_summed()
+    ensures { (at : Place) → report (shifted at) [] 0
+        ≡ record { words = 5; turns = 6; sent = 21 } ∷ record { words = 5; turns = 6; sent = 15 }
+        ∷ record { words = 4; turns = 4; sent = 14 } ∷ [] }
+{}
+
+/// An array in blocks over a grid of 2 x 2 nodes is filled, reflected and summed from its second row and column on, and node 0 prints the sum. Each
+/// node sends five cells at the reflect, a corner among them.
+pub fn corners_are_summed()
+    ensures { (at : Place) → report (corners at) [] 0
+        ≡ record { words = 12; turns = 8; sent = 35 } ∷ record { words = 12; turns = 6; sent = 26 }
+        ∷ record { words = 12; turns = 6; sent = 26 } ∷ record { words = 12; turns = 5; sent = 26 } ∷ [] }
 {}

@@ -6,7 +6,7 @@ ghost use Rattle.xmp_prog.specs.Fits.{PartsFit};
 ghost use Rattle.xmp_meaning.specs.Context.{Context};
 ghost use Rattle.xmp_meaning.specs.Exchanges.{PartEnd};
 ghost use Rattle.xmp_meaning.specs.Laws.{WholeNumbers, HeldNumbers};
-ghost use Rattle.xmp_meaning.specs.TrafficLaws.{EndsAreRead, NotesAreAdded, StoresAreLaid, TrafficIsAsDue};
+ghost use Rattle.xmp_meaning.specs.TrafficLaws.{BeginsLaid, EndsAreRead, NotesAreAdded, StoresAreLaid, TrafficIsAsDue};
 
 /// A cell's number is row-major where rows are whole, and on a node that holds the cell its slot.
 pub fn cells_are_numbered()
@@ -29,7 +29,8 @@ pub fn messages_are_as_due()
     ensures { (p : ProgParts) (input : List ℕ) (steps : ℕ) → PartsFit p → TrafficIsAsDue p input steps }
 {}
 
-/// The store of a node has the node's words, and each cell's word stands behind the base of its array.
+/// The store of a node has the node's words, and each cell's word stands behind the base of its array. So it is at first.
 pub fn stores_are_laid<X>()
-    ensures { (p : ProgParts) → StoresAreLaid X p }
+    ensures laid { (p : ProgParts) → StoresAreLaid X p }
+    ensures first { (p : ProgParts) → BeginsLaid p }
 {}

@@ -1,6 +1,6 @@
 //! Names and expressions of a program: what a name means where it stands, the type of an expression and what is known of
 //! its value, and the steps by which a walk over the tree notes which rules of names break. Each call answers what the
-//! definitions in specs/ give. The rows that show it are texts: xmp_typed/src/name_texts.rt, docs/LANGUAGE.md.
+//! definitions in specs/ give. The rows that show it are texts: xmp_elab/src/name_texts.rt, docs/LANGUAGE.md.
 #![tactic(auto)]
 
 mod expressions;

@@ -1,10 +1,9 @@
-use Rattle.std.proofs.Common.{append_assoc, Option, ◌≡◌, ◌==◌, if◌then◌else◌, ◌+◌, ◌*◌, ◌++◌, [], ◌∷◌, ℕ, ℤ, List, Bool, true, false, Some, None, refl, ap, ◌∙◌, sym, nat_eq}
+use Rattle.std.proofs.Common.{append_assoc, Option, ◌≡◌, ◌==◌, if◌then◌else◌, ◌+◌, ◌*◌, ◌++◌, [], ◌∷◌, ℕ, ℤ, List, true, false, Some, None, refl, ap, ◌∙◌, sym}
 use Rattle.std.specs.Char.{is_ascii_digit, digit_value}
 use Rattle.std.proofs.lemmas.Bool.{ne_eqb}
-use Rattle.xmp_num.specs.declared.types.Ty.{Ty}
 use Rattle.xmp_num.specs.declared.types.Ty.TheVariants.{Int, Long}
-use Rattle.xmp_prog.specs.Formats.{Piece, Byte, Percent, Number}
-use Rattle.xmp_meaning.specs.Formats.{behind_percent, pieces_of, text_of, printed}
+use Rattle.xmp_prog.specs.Formats.{Piece, Percent, Number}
+use Rattle.xmp_meaning.specs.Formats.{behind_percent, pieces_of, text_of}
 use Rattle.xmp_print.specs.Printing.{text_from}
 
 -- a conversion writes the same of either type

@@ -1,5 +1,5 @@
 -- Pieces of a stream by recursion on their entries, and what follows from it.
-use Rattle.std.proofs.Common.{◌≡◌, ℕ, zero, suc, List, [], ◌∷◌, ◌++◌, length, map, take, slice_get, Some, inl, inr, ◌⊎◌, refl, sym, ap, ◌∙◌, subst, ⊎_elim}
+use Rattle.std.proofs.Common.{◌≡◌, Bool, true, false, true≢false, ℕ, zero, suc, List, [], ◌∷◌, ◌++◌, length, map, take, slice_get, Some, inl, inr, ◌⊎◌, refl, sym, ap, ◌∙◌, subst, ⊎_elim}
 use Rattle.std.specs.Prelude.{⊤}
 use Rattle.std.proofs.lemmas.Option.{none-some, same_Some}
 use Rattle.xmp_message.specs.declared.Message.{Message}
@@ -151,3 +151,33 @@ received-there streams old now new x same (e, is) =
 pub next-behind : (sent rest : List Message) (m : Message) → IsNext (sent ++ m ∷ rest) (map Data sent) m
 next-behind [] rest m = refl
 next-behind (x ∷ sent) rest m = next-behind sent rest m
+
+abbrev is_stop : Received → Bool
+is_stop (Data m) = false
+is_stop Stop = true
+
+-- whether the last entry is the stop word
+abbrev last_is_stop : List Received → Bool
+last_is_stop [] = false
+last_is_stop (x ∷ []) = is_stop x
+last_is_stop (x ∷ y ∷ ys) = last_is_stop (y ∷ ys)
+
+last_behind : (xs : List Received) (x : Received) → last_is_stop (xs ++ x ∷ []) ≡ is_stop x
+last_behind [] x = refl
+last_behind (y ∷ []) x = refl
+last_behind (y ∷ z ∷ zs) x = last_behind (z ∷ zs) x
+
+stopped_last : (entries : List Received) → IsStopped entries → last_is_stop entries ≡ true
+stopped_last entries (before, e) = ap last_is_stop e ∙ last_behind before Stop
+
+-- where a message stands last, the stop word doesn't
+pub message_not_last : (entries : List Received) (m : Message) → IsStopped (entries ++ Data m ∷ []) → ⊥
+message_not_last entries m stopped = true≢false (sym (stopped_last _ stopped) ∙ last_behind entries (Data m))
+
+-- the stop word last
+pub stop_last : (entries : List Received) → IsStopped (entries ++ Stop ∷ [])
+stop_last entries = (entries, refl)
+
+-- an end that has no entry hasn't stopped
+pub none_not_stopped : IsStopped [] → ⊥
+none_not_stopped stopped = true≢false (sym (stopped_last [] stopped))

@@ -41,7 +41,7 @@ pub struct Receiver<S: Streams> {
 }
 
 impl<S: Streams> Model for Receiver<S> {
-    ghost use Rattle.std.specs.Prelude.{◌≡◌, true, false, IsTrue};
+    ghost use Rattle.std.specs.Prelude.{◌≡◌, ◌↔◌, true, false, IsTrue};
     ghost use Rattle.std.specs.Arc.{arc_value};
     ghost use Rattle.crossbeam_queue.specs.Passes.{view as known, IsPassOf};
     ghost use Rattle.xmp_ring.specs.Pieces.{End, IsStopped};
@@ -52,10 +52,10 @@ impl<S: Streams> Model for Receiver<S> {
 
     ghost invariant = { λ r. IsPassOf (arc_value r.queue) r.pass
         × ((known r.pass).receives ≡ true) × ((known r.pass).sends ≡ false)
-        × (IsTrue r.stopped → IsStopped (known r.pass).entries) };
+        × (IsTrue r.stopped ↔ IsStopped (known r.pass).entries) };
 }
 
-ghost use Rattle.std.specs.Prelude.{◌≡◌, ℕ, ◌∷◌, ◌++◌, [], true, false, IfOk, IsTrue, MatchOption, MatchResult};
+ghost use Rattle.std.specs.Prelude.{◌≡◌, ◌↔◌, ℕ, ◌∷◌, ◌++◌, [], true, false, IfOk, IsTrue, MatchOption, MatchResult};
 ghost use Rattle.crossbeam_queue.specs.Passes.{view as known, IsPassOf};
 ghost use Rattle.xmp_ring.specs.Pieces.{IsNext, IsNextEntry, IsPiece, IsReceived, IsStopped, fresh, more};
 ghost use Rattle.xmp_ring.specs.Rule.{with_entry};
@@ -120,6 +120,7 @@ impl<S: Streams> Sender<S> {
 
 impl<S: Streams> Receiver<S> {
     // Takes the entry at the front, where there is one.
+    #[tactic(auto, using(crate::proofs::Entries::message_not_last, crate::proofs::Entries::stop_last))]
     fn take(&mut self) -> Option<Received>
         ensures { MatchOption result (self.new ≡ self.old)
             (λ x. (self.new ≡ more self.old x) × IsPiece (S.stream self.old.ring) (self.old.entries ++ x ∷ [])) }
@@ -139,7 +140,7 @@ impl<S: Streams> Receiver<S> {
 
     // Whether the last entry that it took is the stop word.
     fn has_stopped(&self) -> bool
-        ensures { IsTrue result → IsStopped self.now.entries }
+        ensures { IsTrue result ↔ IsStopped self.now.entries }
     {
         self.stopped
     }
@@ -164,6 +165,7 @@ impl<S: Streams> Receiver<S> {
 }
 
 // A ring whose number is K's.
+#[tactic(auto, using(crate::proofs::Entries::none_not_stopped))]
 fn pair_at<S: Streams, K: Number>(
     alloc: Global,
     ring: u32,

@@ -8,7 +8,7 @@ use std::marker::Model;
 use xmp_base::NoMemory;
 
 // What a name means, and how many scopes were open where it was declared so.
-#[derive(Clone, Copy, Debug, PartialEq, Eq)]
+#[derive(Clone, Copy)]
 pub(crate) struct Held<M> {
     pub(crate) depth: usize,
     pub(crate) meaning: M,

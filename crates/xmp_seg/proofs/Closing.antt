@@ -102,9 +102,9 @@ range_grows l e lt so_far here =
     let more : take e l ++ slice_index_or l e (pos 0) ∷ [] ≡ take (e + 1) l = sym (take-suc l e (pos 0) lt) ∙ ap (λ (n : ℕ). take n l) next in
     subst (λ (xs : List ℤ). All P xs) more (All-append P (take e l) (slice_index_or l e (pos 0) ∷ []) so_far (one here))
   where
-  one : {z : ℤ} → FitsSigned w64 z → All (λ x. FitsSigned w64 x) (z ∷ [])
-  one h zero d lt = h
-  one h (suc k) d lt = absurd (omega arith)
+    one : {z : ℤ} → FitsSigned w64 z → All (λ x. FitsSigned w64 x) (z ∷ [])
+    one h zero d lt = h
+    one h (suc k) d lt = absurd (omega arith)
 
 -- and one word of the table more
 pub bits_grow : (l : List ℤ) (e : ℕ) → e < length l → (words : List ℕ) (word : ℕ) → words ≡ 0 ∷ map bits (take e l) → word ≡ bits (slice_index_or l e (pos 0)) → words ++ word ∷ [] ≡ 0 ∷ map bits (take (e + 1) l)

@@ -88,8 +88,8 @@ total_small s w q o few short =
 pub arrival_more : (w : World ℤ) (k n : ℕ) → k < n → w.arrived k ≡ false → total (arrivals (has_arrived w k)) n ≡ suc (total (arrivals w) n)
 arrival_more w k n lk here =
     total_more (arrivals w) (arrivals (has_arrived w k)) n k lk
-        (arrived_more (has_arrived w k) k (at_same w.arrived k true k refl) ∙ sym (ap (λ x. suc x) (not_arrived w k here)))
-        (λ j ne. rw (at_other w.arrived k true j ne))
+    (arrived_more (has_arrived w k) k (at_same w.arrived k true k refl) ∙ sym (ap (λ x. suc x) (not_arrived w k here)))
+    (λ j ne. rw (at_other w.arrived k true j ne))
 
 -- a departure changes no count
 pub arrivals_stay : (w : World ℤ) (k j : ℕ) → w.arrived k ≡ true → arrivals (passed w k) j ≡ arrivals w j

@@ -45,8 +45,7 @@ start_single (suc e) lt = absurd (omega arith)
 
 inside_signs : (q k e : ℕ) → k < 1 → Touches signs q k e → e < 2
 inside_signs zero k e lk touches = below 2 e (accesses_signs 0) (omega arith, (omega arith, (omega arith, (omega arith, (omega arith, tt))))) touches
-inside_signs (suc zero) k e lk touches = below 2 e (accesses_signs 1) (omega arith, tt) touches
-inside_signs (suc (suc q)) k e lk touches = below 2 e [] tt touches
+inside_signs (suc q) k e lk touches = below 2 e [] tt touches
 
 pub fit_signs : IsFor 2 signs
 fit_signs = record { free = alone_free signs refl; inside = inside_signs; some_image = omega arith; few_images = omega arith; few_phases = omega arith }

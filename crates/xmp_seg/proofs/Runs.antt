@@ -46,8 +46,8 @@ splits s id v some_there state (fits, more, (w, r, m)) there =
     let apart_vs : Apart vs = apart_set state.views id v left m.apart there in_left in
     -- the new seat's image is in no other
     let alone : AtEach (λ j u. (k : ℕ) → InRun u k → InRun right k → ⊥) vs = each_set (λ j u. (k : ℕ) → InRun u k → InRun right k → ⊥) state.views id left
-        (λ k h h'. let a = h.0 in let b = h'.1 in absurd (omega arith))
-        (λ j u ne at k h h'. ne (m.apart j id u v k at there h (in_right k h'))) in (
+    (λ k h h'. let a = h.0 in let b = h'.1 in absurd (omega arith))
+    (λ j u ne at k h h'. ne (m.apart j id u v k at there h (in_right k h'))) in (
       fits,
       more,
       (
@@ -60,9 +60,9 @@ splits s id v some_there state (fits, more, (w, r, m)) there =
               (λ (e : right ≡ u). subst (λ (y : Look). Knows s w n y) e knows_right) (at_snoc vs right u j at);
           apart = λ j l u t k at at' h h'. ⊎_elim
               (λ (x : get_elem? vs j ≡ some u). ⊎_elim (λ (y : get_elem? vs l ≡ some t). apart_vs j l u t k x y h h')
-                  (λ (e : right ≡ t). absurd (alone j u x k h (subst (λ (y : Look). InRun y k) (sym e) h'))) (at_snoc vs right t l at'))
+              (λ (e : right ≡ t). absurd (alone j u x k h (subst (λ (y : Look). InRun y k) (sym e) h'))) (at_snoc vs right t l at'))
               (λ (e : right ≡ u). ⊎_elim (λ (y : get_elem? vs l ≡ some t). absurd (alone l t y k h' (subst (λ (z : Look). InRun z k) (sym e) h)))
-                  (λ (e' : right ≡ t).
+              (λ (e' : right ≡ t).
               at_end vs right u j (λ x. alone j u x k h (subst (λ (z : Look). InRun z k) (sym e) h)) at
               ∙ sym (at_end vs right t l (λ x. alone l t x k h' (subst (λ (z : Look). InRun z k) (sym e') h')) at')) (at_snoc vs right t l at'))
               (at_snoc vs right u j at);
@@ -91,12 +91,12 @@ joins s id other v u next phase place arrived state (fits, more, (w, r, m)) ther
     ) in
     let Which : ℕ → Look → Type 0 = λ j x. (spent ≡ x) ⊎ (((j ≡ id) × (both ≡ x)) ⊎ ((j ≢ id) × (j ≢ other) × (get_elem? views j ≡ some x))) in
     let which : AtEach Which (set (set views id both) other spent) = λ j x at. ⊎_elim
-        (λ (y : (j ≡ other) × (spent ≡ x)). inl y.1)
-        (λ (y : (j ≢ other) × (get_elem? (set views id both) j ≡ some x)). inr (⊎_elim
-            (λ (z : (j ≡ id) × (both ≡ x)). inl z)
-            (λ (z : (j ≢ id) × (get_elem? views j ≡ some x)). inr (z.0, y.0, z.1))
-            (at_set views id j both x y.1)))
-        (at_set (set views id both) other j spent x at) in
+    (λ (y : (j ≡ other) × (spent ≡ x)). inl y.1)
+    (λ (y : (j ≢ other) × (get_elem? (set views id both) j ≡ some x)). inr (⊎_elim
+    (λ (z : (j ≡ id) × (both ≡ x)). inl z)
+    (λ (z : (j ≢ id) × (get_elem? views j ≡ some x)). inr (z.0, y.0, z.1))
+    (at_set views id j both x y.1)))
+    (at_set (set views id both) other j spent x at) in
     let none : (x : Look) (k : ℕ) → spent ≡ x → InRun x k → ⊥ = λ x k e h. let b = (subst (λ (y : Look). InRun y k) (sym e) h).1 in absurd (omega arith) in
     -- an old seat shares no image with the joined run
     let not_both : (j : ℕ) (x : Look) (k : ℕ) → j ≢ id → j ≢ other → get_elem? views j ≡ some x → InRun x k → InRun both k → ⊥ =
@@ -112,23 +112,23 @@ joins s id other v u next phase place arrived state (fits, more, (w, r, m)) ther
           views = λ j x at. ⊎_elim
               (λ (e : spent ≡ x). subst (λ (y : Look). Knows s w n y) e (omega arith, omega arith, λ k h. absurd (none spent k refl h)))
               (λ y. ⊎_elim (λ (z : (j ≡ id) × (both ≡ x)). subst (λ (y' : Look). Knows s w n y') z.1 knows_both)
-                  (λ (z : (j ≢ id) × (j ≢ other) × (get_elem? views j ≡ some x)). m.views j x z.2) y)
+              (λ (z : (j ≢ id) × (j ≢ other) × (get_elem? views j ≡ some x)). m.views j x z.2) y)
               (which j x at);
           apart = λ j l x t k at at' h h'. ⊎_elim
               (λ (e : spent ≡ x). absurd (none x k e h))
               (λ y. ⊎_elim
-                  (λ (e' : spent ≡ t). absurd (none t k e' h'))
-                  (λ y'. ⊎_elim
-                      (λ (z : (j ≡ id) × (both ≡ x)). ⊎_elim
-                          (λ (z' : (l ≡ id) × (both ≡ t)). z.0 ∙ sym z'.0)
-                          (λ (z' : (l ≢ id) × (l ≢ other) × (get_elem? views l ≡ some t)). absurd (not_both l t k z'.0 z'.1 z'.2 h' (subst (λ (a : Look). InRun a k) (sym z.1) h)))
-                          y')
-                      (λ (z : (j ≢ id) × (j ≢ other) × (get_elem? views j ≡ some x)). ⊎_elim
-                          (λ (z' : (l ≡ id) × (both ≡ t)). absurd (not_both j x k z.0 z.1 z.2 h (subst (λ (a : Look). InRun a k) (sym z'.1) h')))
-                          (λ (z' : (l ≢ id) × (l ≢ other) × (get_elem? views l ≡ some t)). m.apart j l x t k z.2 z'.2 h h')
-                          y')
-                      y)
-                  (which l t at'))
+              (λ (e' : spent ≡ t). absurd (none t k e' h'))
+              (λ y'. ⊎_elim
+              (λ (z : (j ≡ id) × (both ≡ x)). ⊎_elim
+              (λ (z' : (l ≡ id) × (both ≡ t)). z.0 ∙ sym z'.0)
+              (λ (z' : (l ≢ id) × (l ≢ other) × (get_elem? views l ≡ some t)). absurd (not_both l t k z'.0 z'.1 z'.2 h' (subst (λ (a : Look). InRun a k) (sym z.1) h)))
+              y')
+              (λ (z : (j ≢ id) × (j ≢ other) × (get_elem? views j ≡ some x)). ⊎_elim
+              (λ (z' : (l ≡ id) × (both ≡ t)). absurd (not_both j x k z.0 z.1 z.2 h (subst (λ (a : Look). InRun a k) (sym z'.1) h')))
+              (λ (z' : (l ≢ id) × (l ≢ other) × (get_elem? views l ≡ some t)). m.apart j l x t k z.2 z'.2 h h')
+              y')
+              y)
+              (which l t at'))
               (which j x at);
         },
       ),
@@ -168,6 +168,7 @@ begins s words fits are fit = (
   only_one : (j : ℕ) (v : Look) → get_elem? (all_at_start s ∷ []) j ≡ some v → Knows s (start s) 0 v
   only_one zero v at = subst (λ (x : Look). Knows s (start s) 0 x) (some-injective (all_at_start s) v at) (le_refl s.images, omega arith, λ k h. (refl, refl, refl))
   only_one (suc j) v at = absurd (some-ne-none v (sym at))
+
   zero_only : (j : ℕ) (v : Look) → get_elem? (all_at_start s ∷ []) j ≡ some v → j ≡ 0
   zero_only zero v at = refl
   zero_only (suc j) v at = absurd (some-ne-none v (sym at))
@@ -179,5 +180,5 @@ ends s state id e v (fits, more, (w, r, m)) there whole lt =
     let knows = m.views id v there in
     let value = m.words e lt in
     let last : w.words e ≡ words_at s s.phases e = last_words s w e fits.free r fits.some_image (λ k lk.
-        sym (knows.2 k (omega (arith, whole.0), omega (arith, whole.1, lk))).0 ∙ whole.2) in
+    sym (knows.2 k (omega (arith, whole.0), omega (arith, whole.1, lk))).0 ∙ whole.2) in
     ap (λ n. to_z w64 n) value.0 ∙ to_z-of_z w64 (w.words e) value.1 ∙ last

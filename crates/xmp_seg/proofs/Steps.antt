@@ -110,8 +110,8 @@ sees s w n v e free r knows one go =
 -- A load of the word of the script's next get finds what the image sees.
 pub gets : (s : Script ℤ) (slots id i e : ℕ) (me : Me (Unit {0}) Look) → i ≡ e + 1 → IsOne me.0 → slice_get (s.accesses me.0.phase me.0.first) me.0.place ≡ Some (Get e) →
     Allows (Ruled s) slots id me i (λ n. n) (λ n after.
-        (n ≡ bits (seen s me.0.first me.0.phase me.0.place (i - 1))) × FitsSigned w64 (seen s me.0.first me.0.phase me.0.place (i - 1))
-        × (after ≡ (gone me.0, me.1)))
+    (n ≡ bits (seen s me.0.first me.0.phase me.0.place (i - 1))) × FitsSigned w64 (seen s me.0.first me.0.phase me.0.place (i - 1))
+    × (after ≡ (gone me.0, me.1)))
 gets s slots id i e me is one next state (fits, more, (w, r, m)) homes there small =
     let v : Look = me.0 in
     let knows = m.views id v there in
@@ -130,12 +130,12 @@ gets s slots id i e me is one next state (fits, more, (w, r, m)) homes there sma
     let words' : List ℕ = slice_set state.words i (slice_index state.words i) in
     let zero_same : slice_index words' 0 ≡ slice_index state.words 0 = ap (λ l. slice_index l 0) same in
     let shows = shows_after s w w' state id v (gone v) words' m there refl refl
-        (zero_same ∙ m.count)
-        (λ x lt. subst (λ (l : List ℕ). (slice_index l (suc x) ≡ bits (w.words x)) × FitsSigned w64 (w.words x)) (sym same)
-            (m.words x (subst (λ (l : List ℕ). suc x < length l) same lt)))
-        (omega (arith, zero_same))
-        (knows_more s w (slice_index state.words 0) (slice_index words' 0) v (Get e) one knows (omega (arith, zero_same)))
-        (λ j out. others_stay w v (Get e) j one out) in
+    (zero_same ∙ m.count)
+    (λ x lt. subst (λ (l : List ℕ). (slice_index l (suc x) ≡ bits (w.words x)) × FitsSigned w64 (w.words x)) (sym same)
+    (m.words x (subst (λ (l : List ℕ). suc x < length l) same lt)))
+    (omega (arith, zero_same))
+    (knows_more s w (slice_index state.words 0) (slice_index words' 0) v (Get e) one knows (omega (arith, zero_same)))
+    (λ j out. others_stay w v (Get e) j one out) in
     let still = still_for s state.words words' (ap (λ l. length l) same) fits more in
     (gone v, keeps, tt, (still.0, still.1, (w', Then r (Accesses v.first (Get e) (omega (arith, one, knows.0)) go), shows)), (found.0, found.1, refl))
 
@@ -165,11 +165,11 @@ puts s slots id i e new z me is is_new small_z one next state (fits, more, (w, r
           subst (λ (y : ℤ). (slice_index words' (suc x) ≡ bits y) × FitsSigned w64 y) val (stay ∙ old.0, old.1)
     ] in
     let shows = shows_after s w w' state id v (gone v) words' m there refl refl
-        (zero_same ∙ m.count)
-        values
-        (omega (arith, zero_same))
-        (knows_more s w (slice_index state.words 0) (slice_index words' 0) v (Put e z) one knows (omega (arith, zero_same)))
-        (λ j out. others_stay w v (Put e z) j one out) in
+    (zero_same ∙ m.count)
+    values
+    (omega (arith, zero_same))
+    (knows_more s w (slice_index state.words 0) (slice_index words' 0) v (Put e z) one knows (omega (arith, zero_same)))
+    (λ j out. others_stay w v (Put e z) j one out) in
     let still = still_for s state.words words' long fits more in
     (gone v, keeps, tt, (still.0, still.1, (w', Then r (Accesses v.first (Put e z) (omega (arith, one, knows.0)) go), shows)), refl)
 
@@ -196,18 +196,17 @@ arrives s slots id me one here in_script done state (fits, more, (w, r, m)) home
     let long : length words' ≡ length state.words = length_set state.words 0 n' in
     let first : slice_index words' 0 ≡ suc n = index_set state.words 0 n' more ∙ is_more in
     let shows = shows_after s w w' state id v v' words' m there refl refl
-        (first ∙ ap (λ x. suc x) m.count ∙ sym (arrival_more w k s.images lk go.1))
-        (λ x lt. let old = m.words x (omega (arith, lt, long)) in (index_other state.words 0 (suc x) n' (λ e. absurd (omega (arith, e))) ∙ old.0, old.1))
-        (omega (arith, first))
-        (
-          knows.0,
-          omega (arith, knows.1, first),
-          λ j h.
-              let e : j ≡ k = omega (arith, h.0, h.1, one) in
-              let R : ℕ → Type 0 = λ x. (v.phase ≡ w.phase x) × (v.place ≡ w.place x) × (true ≡ at w.arrived k true x) in
-              subst R (sym e) (mine.0, mine.1, sym (at_same w.arrived k true k refl)),
-        )
-        (λ j out. (refl, refl, at_other w.arrived k true j (not_mine v j one out))) in
+    (first ∙ ap (λ x. suc x) m.count ∙ sym (arrival_more w k s.images lk go.1))
+    (λ x lt. let old = m.words x (omega (arith, lt, long)) in (index_other state.words 0 (suc x) n' (λ e. absurd (omega (arith, e))) ∙ old.0, old.1))
+    (omega (arith, first)) (
+      knows.0,
+      omega (arith, knows.1, first),
+      λ j h.
+          let e : j ≡ k = omega (arith, h.0, h.1, one) in
+          let R : ℕ → Type 0 = λ x. (v.phase ≡ w.phase x) × (v.place ≡ w.place x) × (true ≡ at w.arrived k true x) in
+          subst R (sym e) (mine.0, mine.1, sym (at_same w.arrived k true k refl)),
+    )
+    (λ j out. (refl, refl, at_other w.arrived k true j (not_mine v j one out))) in
     let still = still_for s state.words words' long fits more in
     (v', keeps, tt, (still.0, still.1, (w', Then r (Arrives k lk go), shows)), refl)
 
@@ -224,19 +223,19 @@ after_a_look s w w' state id v v' fits more m there first past found r counts va
     let zero_same : slice_index words' 0 ≡ slice_index state.words 0 = ap (λ l. slice_index l 0) same in
     let still = still_for s state.words words' (ap (λ l. length l) same) fits more in
     let shows = shows_after s w w' state id v v' words' m there first past
-        (zero_same ∙ m.count ∙ sym (total_same (arrivals w) (arrivals w') s.images (λ j lj. counts j)))
-        (λ x lt. subst (λ (z : ℤ). (slice_index words' (suc x) ≡ bits z) × FitsSigned w64 z) (sym (values x))
-            (subst (λ (l : List ℕ). (slice_index l (suc x) ≡ bits (w.words x)) × FitsSigned w64 (w.words x)) (sym same)
-            (m.words x (subst (λ (l : List ℕ). suc x < length l) same lt))))
-        (omega (arith, zero_same))
-        (omega (arith, past, (m.views id v there).0), omega (arith, found, zero_same), knows)
-        others in
+    (zero_same ∙ m.count ∙ sym (total_same (arrivals w) (arrivals w') s.images (λ j lj. counts j)))
+    (λ x lt. subst (λ (z : ℤ). (slice_index words' (suc x) ≡ bits z) × FitsSigned w64 z) (sym (values x))
+    (subst (λ (l : List ℕ). (slice_index l (suc x) ≡ bits (w.words x)) × FitsSigned w64 (w.words x)) (sym same)
+    (m.words x (subst (λ (l : List ℕ). suc x < length l) same lt))))
+    (omega (arith, zero_same))
+    (omega (arith, past, (m.views id v there).0), omega (arith, found, zero_same), knows)
+    others in
     (still.0, still.1, (w', r, shows))
 
 -- A look at the arrivals: the next phase begins exactly where enough were found.
 pub looks : (s : Script ℤ) (slots id : ℕ) (me : Me (Unit {0}) Look) → IsOne me.0 → me.0.arrived ≡ true →
     Allows (Ruled s) slots id me 0 (λ n. n) (λ n after.
-        (s.images * suc me.0.phase ≤ n → after ≡ (gone_on (looked me.0 n), me.1)) × (n < s.images * suc me.0.phase → after ≡ (looked me.0 n, me.1)))
+    (s.images * suc me.0.phase ≤ n → after ≡ (gone_on (looked me.0 n), me.1)) × (n < s.images * suc me.0.phase → after ≡ (looked me.0 n, me.1)))
 looks s slots id me one here state (fits, more, (w, r, m)) homes there small =
     let v : Look = me.0 in
     let k : ℕ = v.first in

@@ -28,11 +28,11 @@ Apart views = (port other : ℕ) (v u : Look) (k : ℕ) → get_elem? views port
 pub apart_set : (views : List Look) (id : ℕ) (v w : Look) → Apart views → get_elem? views id ≡ some v → ((k : ℕ) → InRun w k → InRun v k) → Apart (set views id w)
 apart_set views id v w apart there within port other u t k e e' mine his =
     each_set
-        (λ j x. InRun x k → j ≡ other)
-        views id w
-        (λ h. each_set (λ l y. InRun y k → id ≡ l) views id w (λ _. refl) (λ l y ne at h'. apart id l v y k there at (within k h) h') other t e' his)
-        (λ j x ne at h. each_set (λ l y. InRun y k → j ≡ l) views id w (λ h'. apart j id x v k at there h (within k h')) (λ l y ne' at' h'. apart j l x y k at at' h h') other t e' his)
-        port u e mine
+    (λ j x. InRun x k → j ≡ other)
+    views id w
+    (λ h. each_set (λ l y. InRun y k → id ≡ l) views id w (λ _. refl) (λ l y ne at h'. apart id l v y k there at (within k h) h') other t e' his)
+    (λ j x ne at h. each_set (λ l y. InRun y k → j ≡ l) views id w (λ h'. apart j id x v k at there h (within k h')) (λ l y ne' at' h'. apart j l x y k at at' h h') other t e' his)
+    port u e mine
 
 -- What holds after a step of one seat, which keeps its images: the others' images stand as they stood.
 pub shows_after : (s : Script ℤ) (w w' : World ℤ) (state : State (Unit {0}) Look) (id : ℕ) (v v' : Look) (words : List ℕ) → Shows s w state → get_elem? state.views id ≡ some v →

@@ -22,24 +22,22 @@ ends_single (suc q) past = refl
 abbrev pub single : Script ℤ
 single = record { start = λ e. pos 5; images = 1; phases = 1; accesses = λ q k. accesses_single q; ends = λ q k past. ends_single q past }
 
--- one image reads and writes two words, and after a sync reads one of them
+-- one image reads and writes two words
 abbrev pub accesses_signs : ℕ → List (Access ℤ)
 accesses_signs zero = Get 0 ∷ Get 1 ∷ Put 0 least ∷ Put 1 (negsuc 6) ∷ Get 0 ∷ []
-accesses_signs (suc zero) = Get 1 ∷ []
-accesses_signs (suc (suc q)) = []
+accesses_signs (suc q) = []
 
 -- no access stands behind the last phase
-pub ends_signs : (q : ℕ) → 2 ≤ q → accesses_signs q ≡ []
+pub ends_signs : (q : ℕ) → 1 ≤ q → accesses_signs q ≡ []
 ends_signs zero past = absurd (not-suc-le-zero past)
-ends_signs (suc zero) past = absurd (not-suc-le-zero (le_of_suc-le-suc past))
-ends_signs (suc (suc q)) past = refl
+ends_signs (suc q) past = refl
 
 abbrev pub start_signs : ℕ → ℤ
 start_signs zero = negsuc 0
 start_signs (suc e) = least
 
 abbrev pub signs : Script ℤ
-signs = record { start = start_signs; images = 1; phases = 2; accesses = λ q k. accesses_signs q; ends = λ q k past. ends_signs q past }
+signs = record { start = start_signs; images = 1; phases = 1; accesses = λ q k. accesses_signs q; ends = λ q k past. ends_signs q past }
 
 -- each of three images writes its number to the word of the next, and after a sync reads its own
 abbrev pub accesses_ring : ℕ → ℕ → List (Access ℤ)

@@ -7,7 +7,6 @@
 
 mod look;
 mod making;
-
 mod rule;
 mod seat;
 mod segment;

@@ -64,11 +64,7 @@ fn table_of<S: Script>(alloc: Global, start: &[i64]) -> Result<(Table<S>, Seat<(
 }
 
 // Cuts the seat of the first image off a run of images.
-fn next_seat<S: Script>(
-    table: &Table<S>,
-    rest: &mut Seat<(), Look>,
-    images: u32,
-) -> ImageSeat<S>
+fn next_seat<S: Script>(table: &Table<S>, rest: &mut Seat<(), Look>, images: u32) -> ImageSeat<S>
     requires table { rest.old.table_id ≡ table.now.shared.table_id }
     requires some { 0 < rest.old.table_id.words }
     requires images { S.script.images ≡ images }
@@ -168,11 +164,7 @@ fn gathered<S: Script>(segment: &Segment<S>, seats: Vec<ImageSeat<S>>) -> Seat<(
 }
 
 // The values of the first `count` words behind the arrivals.
-fn data_words(
-    alloc: Global,
-    closed: &Closed<(), Global>,
-    count: usize,
-) -> Result<Words, NoMemory>
+fn data_words(alloc: Global, closed: &Closed<(), Global>, count: usize) -> Result<Words, NoMemory>
     requires count { suc count ≡ slots_len closed.now.words }
     requires full { IsFull closed.now.words }
     ensures count { IfOk result (λ w. length w ≡ count) }

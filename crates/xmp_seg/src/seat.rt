@@ -53,7 +53,11 @@ impl<S: Script> ImageSeat<S> {
         ensures value { result ≡ seen S.script self.old.image self.old.phase self.old.place e }
         ensures seat { self.new ≡ after_access self.old }
     {
-        segment.table.shared.load::<Got<S>>(&mut self.seat, e as usize + 1).cast_signed()
+        segment
+            .table
+            .shared
+            .load::<Got<S>>(&mut self.seat, e as usize + 1)
+            .cast_signed()
     }
 
     /// Writes `v` to word `e`.
@@ -62,7 +66,10 @@ impl<S: Script> ImageSeat<S> {
         requires next { IsNext S.script self.old (Put e v) }
         ensures seat { self.new ≡ after_access self.old }
     {
-        segment.table.shared.swap::<Wrote>(&mut self.seat, e as usize + 1, v.cast_unsigned());
+        segment
+            .table
+            .shared
+            .swap::<Wrote>(&mut self.seat, e as usize + 1, v.cast_unsigned());
     }
 
     /// Arrives at the end of the phase.
@@ -71,7 +78,10 @@ impl<S: Script> ImageSeat<S> {
         requires done { IsDone S.script self.old }
         ensures seat { self.new ≡ after_arrival self.old }
     {
-        segment.table.shared.fetch_add::<Arrived>(&mut self.seat, 0, 1);
+        segment
+            .table
+            .shared
+            .fetch_add::<Arrived>(&mut self.seat, 0, 1);
     }
 
     /// Looks whether all images have arrived at the end of the phase. Where they have, the next phase begins.

@@ -66,7 +66,7 @@ none_from (m ∷ ms) z s = refl
 
 module _ (es : List (Run (Unit {0}) ℤ)) (bs : List Axis) (ns : List ℕ) (ms : List layouts.Axis) (at : Place) (z : ℤ) (b : Axis) (n : ℕ) (m : layouts.Axis) (h : IsAxis b n m)
     (same : (y : ℤ) (t : State (Unit {0})) → and_then (checked es (map (λ a. a.extent) bs) at t) (λ xs. pure (number_along bs y xs))
-        ≡ and_then (checked es ns at t) (λ xs. pure (number_from ms y xs))) where
+    ≡ and_then (checked es ns at t) (λ xs. pure (number_from ms y xs))) where
   along_inside : (x : ℕ) (t : State (Unit {0})) → x < n
       → and_then (and_then (checked es (map (λ a. a.extent) bs) at t) (λ xs. pure (x ∷ xs))) (λ xs. pure (number_along (b ∷ bs) z xs))
       ≡ and_then (and_then (checked es ns at t) (λ xs. pure (x ∷ xs))) (λ xs. pure (number_from (m ∷ ms) z xs))

@@ -1,12 +1,14 @@
 pub mod Binds
 pub mod Elements
 pub mod Laid
+pub mod Packed
 pub mod Ended
 pub mod Images
 pub mod Inputs
 pub mod Knots
 pub mod Ranges
 pub mod CellNumbers
+pub mod Chunks
 pub mod Steps
 pub mod Stores
 pub mod Whiles

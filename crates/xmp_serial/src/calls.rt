@@ -29,7 +29,7 @@ pub struct ByFunction<'a, 'p, F> {
 impl<F: Fn(Global, usize, &Layout, u32, u32, &[i64], &mut u64) -> Result<i64, Halt>> Callee
     for ByFunction<'_, '_, F> {
     ghost use Rattle.xmp_meaning.specs.Calls.{call_of};
-ghost use Rattle.xmp_serial.specs.Lines.{context_at};
+    ghost use Rattle.xmp_serial.specs.Lines.{context_at};
     ghost use Rattle.xmp_serial.specs.Nests.{Nests};
 
     ghost calls = { λ c. call_of c.layout.now.program.now c.node c.depth };

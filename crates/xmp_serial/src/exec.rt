@@ -218,7 +218,7 @@ fn is_inside(inclusive: bool, i: i64, to: i64) -> bool
 }
 
 /// The index goes up.
-fn step_up(head: &LoopHead, state: &mut State)
+pub fn step_up(head: &LoopHead, state: &mut State)
     ensures { step_up head.now state.old ≡ Gave Flow.Next state.new }
 {
     let i = state.scalar(head.index.number);

@@ -46,12 +46,7 @@ impl<C: Callee> Frame<'_, C> {
     }
 
     /// What is meant: all numbers, all checks, and a source for each target.
-    fn aim(
-        &self,
-        target: &MoveSide,
-        source: &MoveSide,
-        state: &mut State,
-    ) -> Result<Aim, Halt>
+    fn aim(&self, target: &MoveSide, source: &MoveSide, state: &mut State) -> Result<Aim, Halt>
         requires { C.ready self.now.callee.now }
         ensures { DoesAs aim_of (aim erased (context_at self.now.program.now self.now.packed self.now.node self.now.input.now (C.calls self.now.callee.now)) target.now source.now state.old) result state.new }
     {

@@ -51,7 +51,7 @@ fn whole_axes(alloc: Global, extents: &[u32]) -> Result<Items<Axis>, NoMemory>
 }
 
 /// A row of all cells.
-fn whole_line(alloc: Global, p: &ProgParts, a: &Array) -> Result<Line, NoMemory>
+pub fn whole_line(alloc: Global, p: &ProgParts, a: &Array) -> Result<Line, NoMemory>
     ensures { IfOk result (λ line. IsLine Whole p.now line a.now) }
 {
     let Some(length) = cells_of(p, a) else {
@@ -70,7 +70,7 @@ fn whole_line(alloc: Global, p: &ProgParts, a: &Array) -> Result<Line, NoMemory>
 }
 
 /// The rows of all arrays, each with all cells.
-fn whole_lines(alloc: Global, p: &ProgParts) -> Result<Vec<Line>, NoMemory>
+pub fn whole_lines(alloc: Global, p: &ProgParts) -> Result<Vec<Line>, NoMemory>
     ensures { IfOk result (λ lines. AreLines Whole p.now lines.items p.now.arrays) }
 {
     let mut lines = Vec::new(alloc);
@@ -82,7 +82,7 @@ fn whole_lines(alloc: Global, p: &ProgParts) -> Result<Vec<Line>, NoMemory>
     Ok(lines)
 }
 
-fn push_line(lines: &mut Vec<Line>, line: Line) -> Result<(), NoMemory>
+pub fn push_line(lines: &mut Vec<Line>, line: Line) -> Result<(), NoMemory>
     ensures { OnOk result (lines.new.items ≡ lines.old.items ++ line ∷ []) }
 {
     lines.push(line).map_err(|_| NoMemory)

@@ -2,6 +2,7 @@
 ghost use Rattle.std.specs.Prelude.{◌≡◌, ◌+ℤ◌, ◌*ℤ◌, pos, IfSome};
 ghost use Rattle.xmp_serial.specs.Lines.{position_of};
 
+use crate::located::Located;
 use sqlite_items::Items;
 
 /// How a subscript becomes a position among those that are kept.
@@ -11,6 +12,8 @@ pub enum Reach {
     All,
     /// how far it is from the first subscript of an interval, which ends before the second
     Chunk(u32, u32),
+    /// as the array's map says
+    Asked(Located),
 }
 
 /// A dimension: how many subscripts it has, how many of them are kept, and how they become positions.
@@ -35,15 +38,16 @@ impl Axis {
     pub fn position(&self, x: u32) -> i64
         ensures { result ≡ position_of self.now.reach x }
     {
-        match self.reach {
+        match &self.reach {
             Reach::All => i64::from(x),
             Reach::Chunk(first, end) => {
-                if first <= x && x < end {
-                    i64::from(x - first)
+                if *first <= x && x < *end {
+                    i64::from(x - *first)
                 } else {
                     -1
                 }
             }
+            Reach::Asked(at) => asked(at, x),
         }
     }
 
@@ -54,5 +58,18 @@ impl Axis {
         so_far
             .checked_mul(i64::from(self.held))?
             .checked_add(self.position(x))
+    }
+}
+
+/// The position that a map gives, or -1.
+fn asked(at: &Located, x: u32) -> i64
+    ensures { result ≡ position_of (Reach.Asked at.now) x }
+{
+    if x >= at.map.extent(at.dimension) {
+        return -1;
+    }
+    match at.map.local(at.node, at.dimension, x) {
+        Some(position) => i64::from(position),
+        None => -1,
     }
 }

@@ -2,9 +2,9 @@
 ghost use Rattle.std.specs.Prelude.{◌≡◌, IfOk, length};
 ghost use Rattle.xmp_meaning.specs.Calls.{call_of};
 ghost use Rattle.xmp_meaning.specs.Runs.{Does};
-ghost use Rattle.xmp_serial.specs.Lines.{context_at, layout_of};
+ghost use Rattle.xmp_serial.specs.Lines.{context_at};
 ghost use Rattle.xmp_meaning.specs.Handlers.{erased};
-ghost use Rattle.xmp_meaning.specs.Programs.{beginning, no_writes, program, serial, starts};
+ghost use Rattle.xmp_meaning.specs.Programs.{program, serial, starts};
 ghost use Rattle.xmp_serial.specs.Outcomes.{IsOutcome};
 
 use crate::callee::Callee;
@@ -12,16 +12,15 @@ use crate::calls::{ByFunction, call_to};
 use crate::frame::Frame;
 use crate::layout::Layout;
 use crate::outcome::outcome_of;
-use crate::rows::{Rows, zeros};
 use crate::state::State;
 use std::alloc::Global;
-use xmp_base::{Bytes, NoMemory};
+use xmp_base::NoMemory;
 use xmp_meaning::{Flow, Halt, Location, Outcome};
 use xmp_prog::{Prog, ProgParts, Start};
 
 impl<C: Callee> Frame<'_, C> {
     /// The initialisers at file scope, in order.
-    fn starts(&self, all: &[Start], state: &mut State) -> Result<Flow, Halt>
+    pub fn starts(&self, all: &[Start], state: &mut State) -> Result<Flow, Halt>
         requires { C.ready self.now.callee.now }
         ensures { Does (starts erased (context_at self.now.program.now self.now.packed self.now.node self.now.input.now (C.calls self.now.callee.now)) all.now state.old) result state.new }
     {
@@ -44,29 +43,6 @@ impl<C: Callee> Frame<'_, C> {
     }
 }
 
-/// Every cell is 0 at first.
-fn no_writes(alloc: Global, layout: &Layout) -> Result<Rows, NoMemory>
-    ensures { IfOk result (λ rows. rows ≡ no_writes (layout_of layout.now.packed) layout.now.program.now) }
-{
-    let mut rows = Rows::new(alloc);
-    let lines = layout.lines.as_slice();
-    'lines: for line in lines {
-        if rows.push_zeros(alloc, line.length).is_err() {
-            return Err(NoMemory);
-        }
-    }
-    Ok(rows)
-}
-
-/// What a program begins with.
-fn beginning(alloc: Global, layout: &Layout, steps: u64) -> Result<State, NoMemory>
-    ensures { IfOk result (λ state. state ≡ beginning (layout_of layout.now.packed) layout.now.program.now steps tt) }
-{
-    let scalars = zeros(alloc, layout.program.scalars.len())?;
-    let arrays = no_writes(alloc, layout)?;
-    Ok(State::new(scalars, arrays, Bytes::new(alloc), steps))
-}
-
 /// What the program comes to with its directives erased, on this input, with so many steps for the turns of uncounted loops.
 /// Want of memory is answered also where an array's cells can't be counted in 64 bits or a width of a format is above 255, which
 /// no program has that fits.
@@ -85,7 +61,7 @@ fn serial_of_parts(
     ensures { IfOk result (λ outcome. outcome ≡ serial program.now input.now steps) }
 {
     let layout = Layout::whole(alloc, program)?;
-    let mut state = beginning(alloc, &layout, steps)?;
+    let mut state = State::beginning(alloc, &layout, steps)?;
     let ended = run(alloc, &layout, input, &mut state);
     outcome_of(alloc, program, ended, state)
 }

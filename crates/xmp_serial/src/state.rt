@@ -1,13 +1,14 @@
 // What a run reads and writes.
 ghost use Rattle.std.specs.Prelude.{◌≡◌, [], ◌++◌, ℤ, pos, replicate, unwrap_or, slice_get, slice_set, IfOk};
 ghost use Rattle.xmp_meaning.specs.Formats.{printed};
-ghost use Rattle.xmp_meaning.specs.Cells.{read_in, write_in};
+ghost use Rattle.xmp_meaning.specs.Cells.{read_in, row_in, write_in};
 ghost use Rattle.xmp_meaning.specs.Runs.{Does, take_step, write};
 
 use crate::rows::{Rows, put};
 use sqlite_items::Items;
 use std::alloc::Global;
 use std::marker::Model;
+use std::mem::{replace, swap};
 use xmp_base::{Bytes, NoMemory};
 use xmp_meaning::{End, Halt};
 use xmp_print::print;
@@ -33,7 +34,7 @@ impl Model for State {
 
 impl State {
     /// A state with nothing printed or read.
-    pub fn new(scalars: Items<i64>, arrays: Rows, out: Bytes, steps: u64) -> State
+    pub(crate) fn new(scalars: Items<i64>, arrays: Rows, out: Bytes, steps: u64) -> State
         ensures { result ≡ record { scalars = scalars; arrays = arrays; out = out; taken = 0; steps = steps; extra = tt } }
     {
         State {
@@ -82,7 +83,7 @@ impl State {
     }
 
     /// Appends what `printf` writes for a format and values.
-    pub fn print(&mut self, alloc: Global, format: &[u8], values: &[i64]) -> Result<(), Halt>
+    pub(crate) fn print(&mut self, alloc: Global, format: &[u8], values: &[i64]) -> Result<(), Halt>
         ensures { Does (write (printed format.now values.now) self.old) result self.new }
     {
         match print(alloc, &mut self.out, format, values) {
@@ -130,8 +131,56 @@ impl State {
         Ok(())
     }
 
+    /// The scalars by slot.
+    pub fn scalars(&self) -> &[i64]
+        ensures { result.now ≡ self.now.scalars }
+    {
+        self.scalars.as_slice()
+    }
+
+    /// An array's row; there is none outside.
+    pub fn row(&self, array: u32) -> &[i64]
+        ensures { result.now ≡ row_in self.now.arrays array }
+    {
+        self.arrays.row(array as usize)
+    }
+
+    /// Exchanges the scalars for others.
+    pub fn swap_scalars(&mut self, others: &mut Items<i64>)
+        ensures state { self.new ≡ record self.old { scalars = others.old } }
+        ensures others { others.new ≡ self.old.scalars }
+    {
+        swap(&mut self.scalars, others);
+    }
+
+    /// Exchanges an array's row for another; where there is no such array, nothing changes.
+    pub fn swap_row(&mut self, array: u32, other: &mut Items<i64>)
+        ensures state { self.new ≡ record self.old { arrays = slice_set self.old.arrays array other.old } }
+        ensures other { other.new ≡ unwrap_or (slice_get self.old.arrays array) other.old }
+    {
+        self.arrays.swap_row(array as usize, other);
+    }
+
+    /// Takes the output, and leaves none.
+    pub fn take_output(&mut self, alloc: Global) -> Bytes
+        ensures state { self.new ≡ record self.old { out = [] } }
+        ensures output { result ≡ self.old.out }
+    {
+        replace(&mut self.out, Bytes::new(alloc))
+    }
+
+    /// Puts text behind the output.
+    pub fn write(&mut self, text: &[u8]) -> Result<(), Halt>
+        ensures { Does (write text.now self.old) result self.new }
+    {
+        match self.out.push_all(text) {
+            Ok(()) => Ok(()),
+            Err(NoMemory) => Err(Halt::NoMemory),
+        }
+    }
+
     /// The output and the arrays.
-    pub fn into_parts(self) -> (Bytes, Rows)
+    pub(crate) fn into_parts(self) -> (Bytes, Rows)
         ensures { (result.0 ≡ self.out) × (result.1 ≡ self.arrays) }
     {
         (self.out, self.arrays)

@@ -1,5 +1,5 @@
 // The tokens that the tree of a text is spelled with are the text's.
-use crate::texts::{LINES, MORE_STATEMENTS, SHADOWED, STATEMENTS, TEXTS};
+use crate::texts::SHADOWED;
 use std::alloc::Global;
 use std::fmt::Write;
 use std::test::Fail;
@@ -70,6 +70,50 @@ fn spelled(alloc: Global, text: &[u8]) -> Result<String, Fail> {
     Ok(row)
 }
 
+// Each form of declaration, function, expression and statement.
+const STATEMENTS: &[u8] = b"int c[4]:[*], a[8], x = 1, y; long z; long int w;
+int f(void) { return -1 + 2 * (3 - x) % 4; }
+long g(int p, long int q) { ; return (long)p ? q : ~q; }
+int main() {
+  int v = 2, b[2][3];
+  x = y; a[1] += f() + g(1, 2) << 3; c[0]:[2] = c[1]; x++; --y; ++a[0];
+  if (x) ; else if (!y && x || y) { x -= 1; }
+  while (x < 3) x *= 2;
+  for (int i = 0; i < 3; i++) ;
+  for (x = 0; ; ) return 1;
+  for (;;) ;
+  x = y ? c[0]:[1] : 3;
+  printf(\"a\"); printf(\"%d %d\\n\", x, y); scanf(\"%d\", &a[1]); xmp_sync_all(&x);
+  f();
+  return 0;
+}";
+
+// Each form of directive that SHADOWED has not.
+const DIRECTIVES: &[u8] = b"#pragma xmp nodes p[*]
+#pragma xmp nodes q[2][2]
+#pragma xmp distribute u[gblock({1, 2})][cyclic(2)][*] onto q
+#pragma xmp align a[i][*] with t[i + 1][*]
+#pragma xmp shadow a[1][1:2]
+int main() {
+#pragma xmp nodes r[4]
+#pragma xmp loop (i, j) on t[i - 1][j] reduction(+:x, y) reduction(max:z) reduction(min:w)
+for (;;) ;
+#pragma xmp loop on t[*]
+for (;;) ;
+#pragma xmp barrier
+#pragma xmp bcast (x, y) from p[0:2][:]
+#pragma xmp bcast (x) from p
+#pragma xmp gmove
+a[0:4][:] = b[1:4:2][x];
+#pragma xmp tasks
+{
+#pragma xmp task on p[0]
+;
+#pragma xmp task on p[1:2]
+{ x = 1; }
+}
+}";
+
 /// Notes a text whose tree has other tokens.
 fn note(wrong: &mut String, alloc: Global, text: &[u8]) -> Result<(), Fail> {
     let made = spelled(alloc, text)?;
@@ -84,57 +128,9 @@ fn note(wrong: &mut String, alloc: Global, text: &[u8]) -> Result<(), Fail> {
 fn the_tokens_of_a_tree_are_those_of_its_text(rt: HostRuntime) -> Result<(), Fail> {
     let alloc = rt.alloc();
     let mut wrong = String::new(alloc);
-    for (text, expected) in TEXTS {
-        if expected.is_none() {
-            note(&mut wrong, alloc, text)?;
-        }
-    }
     note(&mut wrong, alloc, SHADOWED)?;
-    assert_eq!(rt; wrong.as_str(), "");
-    Ok(())
-}
-
-/// Notes a statement of `main` whose tree has other tokens.
-fn note_in_main(
-    wrong: &mut String,
-    alloc: Global,
-    line: &str,
-    statement: &str,
-) -> Result<(), Fail> {
-    let mut text = String::new(alloc);
-    write!(text, "int main(){{{line}{statement}\n}}")?;
-    note(wrong, alloc, text.as_bytes())
-}
-
-#[test]
-fn the_tokens_of_a_statement_are_those_of_its_text(rt: HostRuntime) -> Result<(), Fail> {
-    let alloc = rt.alloc();
-    let mut wrong = String::new(alloc);
-    for (statement, expected) in STATEMENTS {
-        if expected.is_none() {
-            note_in_main(&mut wrong, alloc, "", statement)?;
-        }
-    }
-    for (statement, expected) in MORE_STATEMENTS {
-        if expected.is_none() {
-            note_in_main(&mut wrong, alloc, "", statement)?;
-        }
-    }
-    assert_eq!(rt; wrong.as_str(), "");
-    Ok(())
-}
-
-#[test]
-fn the_tokens_of_a_directive_are_those_of_its_text(rt: HostRuntime) -> Result<(), Fail> {
-    let alloc = rt.alloc();
-    let mut wrong = String::new(alloc);
-    for (line, statement, expected) in LINES {
-        if expected.is_none() {
-            let mut whole = String::new(alloc);
-            write!(whole, "\n#pragma xmp {line}\n")?;
-            note_in_main(&mut wrong, alloc, whole.as_str(), statement)?;
-        }
-    }
+    note(&mut wrong, alloc, STATEMENTS)?;
+    note(&mut wrong, alloc, DIRECTIVES)?;
     assert_eq!(rt; wrong.as_str(), "");
     Ok(())
 }

@@ -24,7 +24,7 @@ pub fn broken(alloc: Global, text: &[u8]) -> Option<(u16, u32, u32)> {
 }
 
 // Whole texts, and the rule that each breaks with its line and column, or nothing where it is a program.
-pub const TEXTS: [(&[u8], Option<(u16, u32, u32)>); 24] = [
+const TEXTS: [(&[u8], Option<(u16, u32, u32)>); 24] = [
     (b"", Some((1, 1, 1))),
     (b"int main(){}", None),
     (b"#pragma xmp nodes p[", Some((1, 1, 21))),
@@ -55,7 +55,7 @@ pub const TEXTS: [(&[u8], Option<(u16, u32, u32)>); 24] = [
 ];
 
 // Statements of `main`, which begin at 1:12.
-pub const STATEMENTS: [(&str, Option<(u16, u32, u32)>); 47] = [
+const STATEMENTS: [(&str, Option<(u16, u32, u32)>); 47] = [
     ("", None),
     (";", None),
     ("int x; x = 1;", None),
@@ -111,7 +111,7 @@ pub const STATEMENTS: [(&str, Option<(u16, u32, u32)>); 47] = [
     ("++x++;", Some((1, 1, 15))),
 ];
 
-pub const MORE_STATEMENTS: [(&str, Option<(u16, u32, u32)>); 56] = [
+const MORE_STATEMENTS: [(&str, Option<(u16, u32, u32)>); 56] = [
     ("++1;", Some((1, 1, 14))),
     ("-x;", Some((1, 1, 12))),
     ("f(); f(1);", None),
@@ -171,7 +171,7 @@ pub const MORE_STATEMENTS: [(&str, Option<(u16, u32, u32)>); 56] = [
 ];
 
 // Lines behind `#pragma xmp ` in `main`, which begin at 2:13, and what follows from 3:1 on.
-pub const LINES: [(&str, &str, Option<(u16, u32, u32)>); 75] = [
+const LINES: [(&str, &str, Option<(u16, u32, u32)>); 75] = [
     ("nodes p[4]", "", None),
     ("nodes p[2][2]", "", None),
     ("nodes p[*]", "", None),

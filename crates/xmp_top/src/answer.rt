@@ -1,6 +1,6 @@
 // Prepares what is due.
 ghost use Rattle.std.specs.Prelude.{◌≡◌, ◌≤◌, List, ℕ, Option, map, string_bytes, option_map, IfOk, IsTrue, length, MatchOption};
-ghost use Rattle.xmp_elab.specs.Narrow.{is_count};
+ghost use Rattle.xmp_parts.specs.Narrow.{is_count};
 ghost use Rattle.xmp_prog.specs.declared.parts.ProgParts.{ProgParts};
 ghost use Rattle.xmp_meaning.specs.Programs.{serial};
 ghost use Rattle.xmp_first.specs.Accepts.{Accepts};

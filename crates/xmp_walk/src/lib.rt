@@ -1,7 +1,7 @@
 //! The walk over a program: from the tree to the parts of the typed program, with the list of the rules of names that break,
 //! each at its place. The definition is one recursion on the tree, and the code makes the same list. Here are declarations,
 //! statements, loops, functions and the whole program; names and expressions, and the lines of directives, stand below.
-//! The rows that show it are texts: xmp_typed/src, docs/LANGUAGE.md.
+//! The rows that show it are texts: xmp_elab/src, docs/LANGUAGE.md.
 #![tactic(auto)]
 
 mod blocks;

@@ -1,4 +1,4 @@
-use Rattle.std.proofs.Common.{◌≡◌, ◌++◌, ◌∷◌, ℕ, List, None, ap, ◌∙◌}
+use Rattle.std.proofs.Common.{◌++◌, ◌∷◌, ℕ, List, None, ap, ◌∙◌}
 use Rattle.xmp_print.specs.Printing.{text_from}
 use Rattle.xmp_print.proofs.Formats.{percent, plain_byte, pushed}
 use Rattle.xmp_print.proofs.printf.print_outside.Goals as goal
