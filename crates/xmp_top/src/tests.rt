@@ -68,25 +68,25 @@ fn options_come_in_any_order_and_once(rt: HostRuntime) -> Result<(), Fail> {
     Ok(())
 }
 
-// A command line by its command, its numbers of nodes and of steps, and the lengths of the names of its input and its file.
-type Line = (Command, Option<u64>, Option<u64>, Option<usize>, usize);
+// A command line by its command's word, its numbers of nodes and of steps, and the lengths of the names of its input and its file.
+type Line = (&'static str, Option<u64>, Option<u64>, Option<usize>, usize);
 
 // Words, and the command line that they are, or none where they are of no form.
 const LINES: [(&[&str], Option<Line>); 14] = [
-    (&["check", "f"], Some((Command::Check, None, None, None, 1))),
+    (&["check", "f"], Some(("check", None, None, None, 1))),
     (
         &["check", "--nodes=4", "f.c"],
-        Some((Command::Check, Some(4), None, None, 3)),
+        Some(("check", Some(4), None, None, 3)),
     ),
     (
         &["serial", "--steps=0", "--input=in", "--nodes=16", "f"],
-        Some((Command::Serial, Some(16), Some(0), Some(2), 1)),
+        Some(("serial", Some(16), Some(0), Some(2), 1)),
     ),
     (
         &["serial", "--input=", "-"],
-        Some((Command::Serial, None, None, Some(0), 1)),
+        Some(("serial", None, None, Some(0), 1)),
     ),
-    (&["run", ""], Some((Command::Run, None, None, None, 0))),
+    (&["run", ""], Some(("run", None, None, None, 0))),
     (&[], None),
     (&["check"], None),
     (&["serial", "--nodes=4"], None),
@@ -98,6 +98,14 @@ const LINES: [(&[&str], Option<Line>); 14] = [
     (&["run", "--nodes=1", "f"], None),
 ];
 
+fn word_of(command: Command) -> &'static str {
+    match command {
+        Command::Check => "check",
+        Command::Serial => "serial",
+        Command::Run => "run",
+    }
+}
+
 #[test]
 fn words_are_forms(rt: HostRuntime) -> Result<(), Fail> {
     for (words, expected) in LINES {
@@ -106,7 +114,7 @@ fn words_are_forms(rt: HostRuntime) -> Result<(), Fail> {
             Some(l) => {
                 let input = l.options.input.map(|name| name.len());
                 Some((
-                    l.command,
+                    word_of(l.command),
                     l.options.nodes,
                     l.options.steps,
                     input,
