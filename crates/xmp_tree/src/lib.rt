@@ -12,6 +12,6 @@ pub use xmp_syntax::{
     AlignDimension, BlockItem, Call, CommaList, Declaration, Declarator, DirectiveLine, DistForm,
     Expr, ForFirst, ForHead, Format, Function, Image, Inside, Link, LoopLine, Mapping, Name, Next,
     Parameters, Placed, Plain, Point, Reduction, ReductionOperator, Reference, Section, Sections,
-    Simple, Stmt, TaskLine, TopItem, Tree, TypeWords, begins_a_program, one_stuck_token, one_tree,
-    never_program_and_refused, same_tokens, shorter_begins,
+    Simple, Stmt, TaskLine, TopItem, Tree, TypeWords, begins_a_program, never_program_and_refused,
+    one_stuck_token, one_tree, same_tokens, shorter_begins,
 };
