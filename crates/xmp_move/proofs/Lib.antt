@@ -1,0 +1,6 @@
+pub mod Writes
+pub mod Members
+pub mod Unpacked
+pub mod Filled
+pub mod Boxes
+pub mod Arrays

@@ -1,0 +1,5 @@
+pub mod Ways
+pub mod Stores
+pub mod Cells
+pub mod Whole
+pub mod Laws

@@ -1,0 +1,15 @@
+// What all plans of a transfer do together, as laws that callers may take.
+
+ghost use Rattle.xmp_move.specs.Laws.{PlansFit, FillsNeeded, FillsOnce, MovesAll, MovesWhole, Reflects};
+
+/// The plans of all nodes together are the whole transfer: what a node sends is as much as the other fills, each needed cell is
+/// filled exactly once, every other word stays, and the node's store shows the whole assignment, or after a reflect the
+/// owners' values.
+pub fn transfers()
+    ensures fit { PlansFit }
+    ensures needed { FillsNeeded }
+    ensures once { FillsOnce }
+    ensures all { MovesAll }
+    ensures whole { MovesWhole }
+    ensures reflects { Reflects }
+{}

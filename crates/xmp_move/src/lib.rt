@@ -1,0 +1,9 @@
+//! Transfers between the stores of nodes: what each node sends and fills when shadows are reflected, and when a section is
+//! assigned under `gmove`.
+#![tactic(auto)]
+
+mod kind;
+mod laws;
+
+pub use kind::{Fault, MoveKind, Side, SidePart};
+pub use laws::transfers;
