@@ -2,4 +2,9 @@ pub mod Ways
 pub mod Stores
 pub mod Cells
 pub mod Whole
+pub mod Sides
+pub mod Numbers
+pub mod Kinds
+pub mod Faults
+pub mod Laid
 pub mod Laws
