@@ -4,3 +4,5 @@ pub mod Unpacked
 pub mod Filled
 pub mod Boxes
 pub mod Arrays
+pub mod Ranges
+pub mod Checks

@@ -4,7 +4,9 @@ pub mod Cells
 pub mod Whole
 pub mod Sides
 pub mod Numbers
+pub mod Choices
 pub mod Kinds
 pub mod Faults
 pub mod Laid
+pub mod Meant
 pub mod Laws

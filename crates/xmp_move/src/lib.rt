@@ -2,8 +2,11 @@
 //! assigned under `gmove`.
 #![tactic(auto)]
 
+mod faults;
 mod kind;
 mod laws;
+mod numbers;
 
+pub use faults::move_fault;
 pub use kind::{Fault, MoveKind, Side, SidePart};
 pub use laws::transfers;
