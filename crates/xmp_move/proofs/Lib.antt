@@ -6,3 +6,4 @@ pub mod Boxes
 pub mod Arrays
 pub mod Ranges
 pub mod Checks
+pub mod PairsMeant

@@ -1,5 +1,6 @@
 // What all plans of a transfer do together, as laws that callers may take.
 
+ghost use Rattle.xmp_move.specs.Meant.{MovesAsMeant, TrapsAsMeant};
 ghost use Rattle.xmp_move.specs.Laws.{PlansFit, FillsNeeded, FillsOnce, MovesAll, MovesWhole, Reflects};
 
 /// The plans of all nodes together are the whole transfer: what a node sends is as much as the other fills, each needed cell is
@@ -12,4 +13,10 @@ pub fn transfers()
     ensures all { MovesAll }
     ensures whole { MovesWhole }
     ensures reflects { Reflects }
+{}
+
+/// A gmove of the meaning traps exactly where `move_fault` says, and by that fault; else it moves the pairs of the transfer.
+pub fn gmoves_are_meant<X>()
+    ensures traps { TrapsAsMeant X }
+    ensures moves { MovesAsMeant X }
 {}

@@ -9,4 +9,4 @@ mod numbers;
 
 pub use faults::move_fault;
 pub use kind::{Fault, MoveKind, Side, SidePart};
-pub use laws::transfers;
+pub use laws::{gmoves_are_meant, transfers};
