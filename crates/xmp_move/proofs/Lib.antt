@@ -7,3 +7,4 @@ pub mod Arrays
 pub mod Ranges
 pub mod Checks
 pub mod PairsMeant
+pub mod WordLaws

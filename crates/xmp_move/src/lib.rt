@@ -6,7 +6,9 @@ mod faults;
 mod kind;
 mod laws;
 mod numbers;
+mod words;
 
 pub use faults::move_fault;
 pub use kind::{Fault, MoveKind, Side, SidePart};
 pub use laws::{gmoves_are_meant, transfers};
+pub use words::{pack_slots, unpack_slots};
