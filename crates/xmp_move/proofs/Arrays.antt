@@ -55,7 +55,7 @@ module _ (conv : ℤ → ℤ) (ways : Ways) (pairs : List Pair) (sources : ℕ �
       → IsAssignment te pairs
       → AreGiven ways pairs node peers
       → ((p : Pair) → IsNeeded ways pairs node p → (k : ℕ) → IsIn k peers → ways.gives k node p.1 ≡ true
-          → word_at (sources k) (ways.out_of k p.1) ≡ word_at source (row_major se p.1))
+      → word_at (sources k) (ways.out_of k p.1) ≡ word_at source (row_major se p.1))
       → Shows te (ways.needs node) (ways.into node) own target
       → Shows te (ways.needs node) (ways.into node) (unpacked_of conv ways pairs sources own node peers) (assigned conv te se pairs source target)
   moves_whole long slots good given words shows cell inside has =
@@ -75,7 +75,7 @@ module _ (conv : ℤ → ℤ) (ways : Ways) (pairs : List Pair) (sources : ℕ �
             ∙ moved.filled p i g.giver g.among g.gives
             ∙ ap conv (words p i g.giver g.among g.gives)
             ∙ sym (write_all-hit at_target value_of pairs target p (pos 0) below
-              (λ q j e. good.one q p j w.1 (one_cell te q.0 p.0 (good.inside q j) (good.inside p w.1) e)) w.1)
+            (λ q j e. good.one q p j w.1 (one_cell te q.0 p.0 (good.inside q j) (good.inside p w.1) e)) w.1)
             ∙ ap (λ array. word_at array (at_target p)) (sym assigned_is)
             ∙ ap (word_at (assigned conv te se pairs source target)) w.2
         | inr none ↦
@@ -83,7 +83,7 @@ module _ (conv : ℤ → ℤ) (ways : Ways) (pairs : List Pair) (sources : ℕ �
             (λ p i e. none p i.among (ap (row_major te) (slots.apart p.0 cell (good.inside p i.among) inside i.needed has e)))
             ∙ shows cell inside has
             ∙ sym (ap (λ array. word_at array (row_major te cell)) assigned_is
-              ∙ write_all-other at_target value_of pairs target (row_major te cell) (pos 0) none)
+            ∙ write_all-other at_target value_of pairs target (row_major te cell) (pos 0) none)
       ]
 
 -- ---- reflect
@@ -149,9 +149,9 @@ reflects conv holds owns slot es sources own node peers array slots owners fits 
     at_test true h =
         moved.stays (slot node cell)
         (λ p i e.
-          let s = is_self es p i.among in
-          let same : p.0 ≡ cell = slots.apart p.0 cell s.inside inside (held p i) has e in
-          no_both (owns node p.0) (ap (owns node) same ∙ h) (and_right (holds node p.0) (not (owns node p.0)) i.needed))
+        let s = is_self es p i.among in
+        let same : p.0 ≡ cell = slots.apart p.0 cell s.inside inside (held p i) has e in
+        no_both (owns node p.0) (ap (owns node) same ∙ h) (and_right (holds node p.0) (not (owns node p.0)) i.needed))
         ∙ mine cell inside (both_true (holds node cell) (owns node cell) has h)
     at_test false h =
         let o = owners cell inside in

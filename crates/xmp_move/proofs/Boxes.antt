@@ -11,9 +11,9 @@ in_range : (from n x : ℕ) → from < x + 1 → x < from + n → IsIn x (range_
 unfolding IsIn
 in_range from zero x l h = absurd (omega arith)
 in_range from (suc n) x l h = elim (same_or_not x from) as (λ _. (x ≡ from) ⊎ IsIn x (range_with_len (from + 1) n)) [
-    | inl e ↦ inl e
-    | inr ne ↦ inr (in_range (from + 1) n x (later from x l ne) (omega arith))
-  ]
+  | inl e ↦ inl e
+  | inr ne ↦ inr (in_range (from + 1) n x (later from x l ne) (omega arith))
+]
   where
     later : (a b : ℕ) → a < b + 1 → b ≢ a → a + 1 < b + 1
     later a b h ne = omega arith

@@ -68,7 +68,7 @@ module _ {S : Type 0} (source : Bool) (at : Place) (s : S) where
 
   pub cells_are : (cx : Context) (side : MoveSide) (cs : List Chosen) → at ≡ (name_of side).at
       → cells cx side cs s ≡ unless (side_fault source (extents_in cx.program side) cs) (λ _. at)
-        (cells_from 0 (extents_in cx.program side) (all_picked (extents_in cx.program side) cs)) s
+      (cells_from 0 (extents_in cx.program side) (all_picked (extents_in cx.program side) cs)) s
   cells_are cx (side.Scalar name) cs e = refl
   cells_are cx (side.Array name parts) cs e =
       ap (λ p. and_then (all_subscripts p (extents cx.program name.number) cs s) (λ xs. pure (cells_from 0 (extents cx.program name.number) xs))) (sym e)
@@ -100,9 +100,9 @@ module _ {X : Type 0} (h : Handlers X) (cx : Context) (target source : MoveSide)
   aim_is : numbers h cx target s ≡ Gave to t → numbers h cx source t ≡ Gave from u → aim h cx target source s ≡ and_then (cells cx target to u) checks_source
   aim_is a b =
       ap (λ r. and_then r (λ to. numbers h cx source >>= (λ from. cells cx target to >>= (λ targets. cells cx source from >>= (λ sources.
-        lengths_fit (fit (lengths to) (lengths from)) (name_of target).at >>= (λ _. pure (record { targets = targets; sources = spread (lengths from) (length targets) sources }))))))) a
+      lengths_fit (fit (lengths to) (lengths from)) (name_of target).at >>= (λ _. pure (record { targets = targets; sources = spread (lengths from) (length targets) sources }))))))) a
       ∙ ap (λ r. and_then r (λ from. cells cx target to >>= (λ targets. cells cx source from >>= (λ sources.
-        lengths_fit (fit (lengths to) (lengths from)) (name_of target).at >>= (λ _. pure (record { targets = targets; sources = spread (lengths from) (length targets) sources })))))) b
+      lengths_fit (fit (lengths to) (lengths from)) (name_of target).at >>= (λ _. pure (record { targets = targets; sources = spread (lengths from) (length targets) sources })))))) b
 
   lengths_are : (ts ss : List ℕ) → checks_lengths ts ss u ≡ unless (lengths_fault to from) (place_of target source) (made ts ss) u
   lengths_are ts ss = at_test (fit (lengths to) (lengths from))
@@ -161,8 +161,8 @@ module _ {X : Type 0} (h : Handlers X) (cx : Context) (target source : MoveSide)
       aim_is a b
       ∙ ap (λ r. and_then r checks_source) (cells_are false (name_of target).at u cx target to refl ∙ placed false (side_fault false te to) (name_of target).at from_target targets)
       ∙ joined (side_fault false te to) (first_of (side_fault true se from) (lengths_fault to from)) targets (made targets sources) checks_source
-        (ap (λ r. and_then r (checks_lengths targets)) (cells_are true (name_of source).at u cx source from refl ∙ placed true (side_fault true se from) (name_of source).at from_source sources)
-          ∙ joined (side_fault true se from) (lengths_fault to from) sources (made targets sources) (checks_lengths targets) (lengths_are targets sources))
+      (ap (λ r. and_then r (checks_lengths targets)) (cells_are true (name_of source).at u cx source from refl ∙ placed true (side_fault true se from) (name_of source).at from_source sources)
+      ∙ joined (side_fault true se from) (lengths_fault to from) sources (made targets sources) (checks_lengths targets) (lengths_are targets sources))
 
 pub traps_as_meant : {X : Type 0} → TrapsAsMeant X
 traps_as_meant h cx target source to from s t u f a b e =

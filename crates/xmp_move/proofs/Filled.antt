@@ -141,6 +141,6 @@ fills_once ways pairs node peers store p dk dp given room i =
     fills_needed (λ slot. slot == ways.into node p.0) ways pairs node peers dk given
     ∙ one_slot ways node (ways.into node p.0) pairs
     ∙ count_one (λ r. ways.needs node r.0 && (ways.into node r.0 == ways.into node p.0)) pairs p dp i.among
-      (and_true i.needed (true_same (ways.into node p.0) (ways.into node p.0) refl))
-      (λ r j h. room.apart r p (record { among = j; needed = left_true (ways.needs node r.0) (ways.into node r.0 == ways.into node p.0) h }) i
-      (same_true (ways.into node r.0) (ways.into node p.0) (right_true (ways.needs node r.0) (ways.into node r.0 == ways.into node p.0) h)))
+    (and_true i.needed (true_same (ways.into node p.0) (ways.into node p.0) refl))
+    (λ r j h. room.apart r p (record { among = j; needed = left_true (ways.needs node r.0) (ways.into node r.0 == ways.into node p.0) h }) i
+    (same_true (ways.into node r.0) (ways.into node p.0) (right_true (ways.needs node r.0) (ways.into node r.0 == ways.into node p.0) h)))

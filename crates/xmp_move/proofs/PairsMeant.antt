@@ -59,7 +59,7 @@ numbers_are (n ∷ ns) (One v ∷ cs) z l =
     no_more (cells_from (z * n + natural v) ns (all_picked ns cs))
     ∙ numbers_are ns cs (z * n + natural v) (let e : length cs ≡ length ns = omega (arith, l) in e)
     ∙ map_alike (λ places. number (z * n + natural v) ns (cell_at cs places)) (λ places. number z (n ∷ ns) (natural v ∷ cell_at cs places)) (indices (counts cs))
-      (λ places. fold_one z n (natural v) (product ns) (row_major ns (cell_at cs places)))
+    (λ places. fold_one z n (natural v) (product ns) (row_major ns (cell_at cs places)))
 numbers_are (n ∷ ns) (Many base count step ∷ cs) z l =
     row_by_row (λ x. cells_from (z * n + x) ns (all_picked ns cs)) (λ k. natural base + k * natural step)
     (λ places. number z (n ∷ ns) (cell_at (Many base count step ∷ cs) places)) (indices (counts cs)) (range_with_len 0 (natural count))
@@ -71,8 +71,8 @@ numbers_are (n ∷ ns) (Many base count step ∷ cs) z l =
     rows rest i =
         rest (natural base + i * natural step)
         ∙ map_alike (λ places. number (z * n + (natural base + i * natural step)) ns (cell_at cs places))
-          (λ places. number z (n ∷ ns) ((natural base + i * natural step) ∷ cell_at cs places)) (indices (counts cs))
-          (λ places. fold_one z n (natural base + i * natural step) (product ns) (row_major ns (cell_at cs places)))
+        (λ places. number z (n ∷ ns) ((natural base + i * natural step) ∷ cell_at cs places)) (indices (counts cs))
+        (λ places. fold_one z n (natural base + i * natural step) (product ns) (row_major ns (cell_at cs places)))
         ∙ sym (map_twice (λ rest. i ∷ rest) (λ places. number z (n ∷ ns) (cell_at (Many base count step ∷ cs) places)) (indices (counts cs)))
 
 -- ---- one item for each target
@@ -155,7 +155,7 @@ from_zero : (ns : List ℕ) (cs : List Chosen) → length cs ≡ length ns
 from_zero ns cs l =
     numbers_are ns cs 0 l
     ∙ map_alike (λ places. number 0 ns (cell_at cs places)) (λ places. row_major ns (cell_at cs places)) (indices (counts cs))
-      (λ places. none_before (product ns) (row_major ns (cell_at cs places)))
+    (λ places. none_before (product ns) (row_major ns (cell_at cs places)))
   where
     none_before : (p r : ℕ) → 0 * p + r ≡ r
     none_before p r = omega arith

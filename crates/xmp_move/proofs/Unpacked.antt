@@ -79,9 +79,9 @@ module _ (conv : ℤ → ℤ) (ways : Ways) (pairs : List Pair) (sources : ℕ �
       at_test rest false h =
           write_all-other into (word_of k) (due ways pairs k node) (after ks) (into p) (pos 0)
           (λ q m w.
-            let same = room.apart q p (due_needed k q m) i w in
-            let t : ways.gives k node p.1 ≡ true = ap (λ q. ways.gives k node q.1) (sym same) ∙ due_given k q m in
-            cc)
+          let same = room.apart q p (due_needed k q m) i w in
+          let t : ways.gives k node p.1 ≡ true = ap (λ q. ways.gives k node q.1) (sym same) ∙ due_given k q m in
+          cc)
           ∙ rest (elim j [ inl e ↦ absurd (let t : ways.gives k node p.1 ≡ true = ap (λ k. ways.gives k node p.1) (sym e) ∙ gives in cc) | inr m ↦ m ])
 
   pub moves_all : (peers : List ℕ) → HasRoom ways pairs node own → AreGiven ways pairs node peers → IsMoved conv ways pairs sources own node peers (after peers)

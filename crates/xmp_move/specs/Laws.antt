@@ -41,11 +41,11 @@ MovesWhole = (conv : ℤ → ℤ) (ways : Ways) (pairs : List Pair) (sources : �
     → IsAssignment target_extents pairs
     → AreGiven ways pairs node peers
     → ((p : Pair) → IsNeeded ways pairs node p → (k : ℕ) → IsIn k peers → ways.gives k node p.1 ≡ true
-        → word_at (sources k) (ways.out_of k p.1) ≡ word_at source (row_major source_extents p.1))
+    → word_at (sources k) (ways.out_of k p.1) ≡ word_at source (row_major source_extents p.1))
     → Shows target_extents (ways.needs node) (ways.into node) own target
     → Shows target_extents (ways.needs node) (ways.into node)
-        (unpacked_of conv ways pairs sources own node peers)
-        (assigned conv target_extents source_extents pairs source target)
+    (unpacked_of conv ways pairs sources own node peers)
+    (assigned conv target_extents source_extents pairs source target)
 
 -- After a reflect a node's store shows the owners' values in all that it holds, where they lie in the type of the unpacking.
 abbrev pub Reflects : Type 0
@@ -57,4 +57,4 @@ Reflects = (conv : ℤ → ℤ) (holds owns : ℕ → List ℕ → Bool) (slot :
     → ((k : ℕ) → IsIn k peers → Shows extents (owns k) (slot k) (sources k) array)
     → Shows extents (λ cell. holds node cell && owns node cell) (slot node) own array
     → Shows extents (holds node) (slot node)
-        (unpacked_of conv (reflecting holds owns slot) (selves (indices extents)) sources own node peers) array
+    (unpacked_of conv (reflecting holds owns slot) (selves (indices extents)) sources own node peers) array

@@ -67,7 +67,11 @@ fn is_inside(value: i64, extent: u32) -> bool
 fn unless(holds: bool, kind: TrapKind, source: bool) -> Option<Fault>
     ensures { result ≡ (if holds then None else Some (record { kind = kind; source = source })) }
 {
-    if holds { None } else { Some(Fault { kind, source }) }
+    if holds {
+        None
+    } else {
+        Some(Fault { kind, source })
+    }
 }
 
 fn part_fault(source: bool, extent: u32, chosen: Chosen) -> Option<Fault>
@@ -76,7 +80,11 @@ fn part_fault(source: bool, extent: u32, chosen: Chosen) -> Option<Fault>
     match chosen {
         Chosen::One(v) => unless(is_inside(v, extent), TrapKind::Subscript, source),
         Chosen::Many { base, length, step } => {
-            unless(in_range(extent, base, length, step), TrapKind::Section, source)
+            unless(
+                in_range(extent, base, length, step),
+                TrapKind::Section,
+                source,
+            )
         }
     }
 }
@@ -93,6 +101,17 @@ fn side_fault(source: bool, extents: &[u32], parts: &[SidePart], numbers: &[i64]
         Some(fault) => Some(fault),
         None => side_fault(source, extents, parts, numbers),
     }
+}
+
+fn fault_on(source: bool, side: &Side, numbers: &[i64]) -> Option<Fault>
+    ensures { result ≡ side_fault source side.now.extents (chosen_by side.now.parts numbers.now) }
+{
+    side_fault(
+        source,
+        side.extents.as_slice(),
+        side.parts.as_slice(),
+        numbers,
+    )
 }
 
 /// Whether the lengths of the sections are pairwise equal. A source without a section fits any target.
@@ -123,12 +142,21 @@ fn gmove_fault(target: &Side, source: &Side, args: &[i64]) -> Option<Fault>
     ensures { result ≡ first_fault target.now.extents (target_chosen target.now args.now)
         source.now.extents (source_chosen target.now source.now args.now) }
 {
-    if let Some(fault) = side_fault(false, target.extents.as_slice(), target.parts.as_slice(), args) {
-        return Some(fault);
-    }
     let taken = behind(target.parts.as_slice(), args);
-    if let Some(fault) = side_fault(true, source.extents.as_slice(), source.parts.as_slice(), taken) {
+    if let Some(fault) = fault_on(false, target, args) {
         return Some(fault);
     }
-    unless(fits(target.parts.as_slice(), source.parts.as_slice(), args, taken), TrapKind::Section, false)
+    if let Some(fault) = fault_on(true, source, taken) {
+        return Some(fault);
+    }
+    unless(
+        fits(
+            target.parts.as_slice(),
+            source.parts.as_slice(),
+            args,
+            taken,
+        ),
+        TrapKind::Section,
+        false,
+    )
 }

@@ -26,14 +26,8 @@ pub struct Side {
 /// What is moved: the shadows of an array, or a section under `gmove`, whose target's cells have type `ty`.
 #[derive(Drop)]
 pub enum MoveKind {
-    Reflect {
-        array: Side,
-    },
-    Gmove {
-        target: Side,
-        source: Side,
-        ty: Ty,
-    },
+    Reflect { array: Side },
+    Gmove { target: Side, source: Side, ty: Ty },
 }
 
 /// Why a gmove traps, and whether on the source's side.

@@ -12,3 +12,6 @@ pub use faults::move_fault;
 pub use kind::{Fault, MoveKind, Side, SidePart};
 pub use laws::{gmoves_are_meant, transfers};
 pub use words::{pack_slots, unpack_slots};
+
+#[cfg(test)]
+mod tests;

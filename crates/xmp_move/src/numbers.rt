@@ -39,7 +39,10 @@ fn first_number(numbers: &[i64]) -> Option<(i64, &[i64])>
 }
 
 /// What the numbers of a side choose for its first part, and the parts and the numbers behind it.
-pub fn first<'a>(parts: &'a [SidePart], numbers: &'a [i64]) -> Option<(Chosen, &'a [SidePart], &'a [i64])>
+pub fn first<'a>(
+    parts: &'a [SidePart],
+    numbers: &'a [i64],
+) -> Option<(Chosen, &'a [SidePart], &'a [i64])>
     ensures choice { MatchOption result (chosen_by parts.now numbers.now ≡ [])
         (λ p. chosen_by parts.now numbers.now ≡ chosen_of p.0 ∷ chosen_by p.1.now p.2.now) }
     ensures fewer { IfSome result (λ p. length p.1.now + 1 ≡ length parts.now) }
@@ -91,7 +94,10 @@ pub fn behind<'a>(parts: &[SidePart], numbers: &'a [i64]) -> &'a [i64]
 }
 
 /// The first length of a side's sections, and the parts and the numbers behind that section.
-pub fn first_length<'a>(parts: &'a [SidePart], numbers: &'a [i64]) -> Option<(i64, &'a [SidePart], &'a [i64])>
+pub fn first_length<'a>(
+    parts: &'a [SidePart],
+    numbers: &'a [i64],
+) -> Option<(i64, &'a [SidePart], &'a [i64])>
     ensures length { MatchOption result (lengths (chosen_by parts.now numbers.now) ≡ [])
         (λ p. lengths (chosen_by parts.now numbers.now) ≡ p.0 ∷ lengths (chosen_by p.1.now p.2.now)) }
     ensures fewer { IfSome result (λ p. length p.1.now < length parts.now) }
