@@ -8,3 +8,4 @@ pub mod Ranges
 pub mod Checks
 pub mod PairsMeant
 pub mod WordLaws
+pub mod PairsInside
