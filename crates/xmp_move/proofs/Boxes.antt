@@ -7,7 +7,7 @@ use Rattle.xmp_move.specs.Cells.{indices}
 use Rattle.xmp_move.proofs.Writes.{same_or_not}
 use Rattle.xmp_move.proofs.Members.{in_map, map_in, in_append, append_left, append_right}
 
-in_range : (from n x : ℕ) → from < x + 1 → x < from + n → IsIn x (range_with_len from n)
+pub in_range : (from n x : ℕ) → from < x + 1 → x < from + n → IsIn x (range_with_len from n)
 unfolding IsIn
 in_range from zero x l h = absurd (omega arith)
 in_range from (suc n) x l h = elim (same_or_not x from) as (λ _. (x ≡ from) ⊎ IsIn x (range_with_len (from + 1) n)) [
@@ -18,7 +18,7 @@ in_range from (suc n) x l h = elim (same_or_not x from) as (λ _. (x ≡ from) �
     later : (a b : ℕ) → a < b + 1 → b ≢ a → a + 1 < b + 1
     later a b h ne = omega arith
 
-range_in : (from n x : ℕ) → IsIn x (range_with_len from n) → x < from + n
+pub range_in : (from n x : ℕ) → IsIn x (range_with_len from n) → x < from + n
 unfolding IsIn
 range_in from zero x i = absurd i
 range_in from (suc n) x (inl e) = omega (arith, e)

@@ -9,3 +9,4 @@ pub mod Checks
 pub mod PairsMeant
 pub mod WordLaws
 pub mod PairsInside
+pub mod SidesKept

@@ -16,7 +16,7 @@ use Rattle.xmp_move.specs.Whole.{IsAssignment}
 use Rattle.xmp_move.proofs.Members.{and_left, and_right, in_map}
 use Rattle.xmp_move.proofs.Boxes.{in_inside}
 
-first_none : (g h : Option Fault) → first_of g h ≡ None → g ≡ None
+pub first_none : (g h : Option Fault) → first_of g h ≡ None → g ≡ None
 first_none None h e = refl
 first_none (Some f) h e = cc
 
@@ -79,14 +79,16 @@ unfolding IsInside counts cell_at
 cell_inside source [] [] places l e i = tt
 cell_inside source [] (c ∷ cs) places l e i = absurd (omega (arith, l))
 cell_inside source (n ∷ ns) [] places l e i = absurd (omega (arith, l))
-cell_inside source (n ∷ ns) (One v ∷ cs) places l e i =
-    (one_inside source n v (first_none (part_fault source n (One v)) (side_fault source ns cs) e),
-      cell_inside source ns cs places (let m : length cs ≡ length ns = omega (arith, l) in m) (rest_none (part_fault source n (One v)) (side_fault source ns cs) e) i)
+cell_inside source (n ∷ ns) (One v ∷ cs) places l e i = (
+  one_inside source n v (first_none (part_fault source n (One v)) (side_fault source ns cs) e),
+  cell_inside source ns cs places (let m : length cs ≡ length ns = omega (arith, l) in m) (rest_none (part_fault source n (One v)) (side_fault source ns cs) e) i,
+)
 cell_inside source (n ∷ ns) (Many base count step ∷ cs) [] l e i = absurd i
 cell_inside source (n ∷ ns) (Many base count step ∷ cs) (k ∷ places) l e i =
-    let r = many_reaches source n base count step k (first_none (part_fault source n (Many base count step)) (side_fault source ns cs) e) i.0 in
-    (r.below,
-      cell_inside source ns cs places (let m : length cs ≡ length ns = omega (arith, l) in m) (rest_none (part_fault source n (Many base count step)) (side_fault source ns cs) e) i.1)
+    let r = many_reaches source n base count step k (first_none (part_fault source n (Many base count step)) (side_fault source ns cs) e) i.0 in (
+      r.below,
+      cell_inside source ns cs places (let m : length cs ≡ length ns = omega (arith, l) in m) (rest_none (part_fault source n (Many base count step)) (side_fault source ns cs) e) i.1,
+    )
 
 times_less : (i j s : ℕ) → 1 ≤ s → i < j → i * s < j * s
 times_less i j s h lt = grind arith
@@ -117,10 +119,10 @@ one_place source (n ∷ ns) (Many base count step ∷ cs) (x ∷ xs) [] l e i j 
 one_place source (n ∷ ns) (Many base count step ∷ cs) (x ∷ xs) (y ∷ ys) l e i j same =
     let r = many_reaches source n base count step x (first_none (part_fault source n (Many base count step)) (side_fault source ns cs) e) i.0 in
     let first : x ≡ y = same_place (natural base) x y (natural step) r.forward
-        (head_same (natural base + x * natural step) (natural base + y * natural step) (cell_at cs xs) (cell_at cs ys) same) in
+    (head_same (natural base + x * natural step) (natural base + y * natural step) (cell_at cs xs) (cell_at cs ys) same) in
     let rest : xs ≡ ys = one_place source ns cs xs ys (let m : length cs ≡ length ns = omega (arith, l) in m)
-        (rest_none (part_fault source n (Many base count step)) (side_fault source ns cs) e) i.1 j.1
-        (tail_same (natural base + x * natural step) (natural base + y * natural step) (cell_at cs xs) (cell_at cs ys) same) in
+    (rest_none (part_fault source n (Many base count step)) (side_fault source ns cs) e) i.1 j.1
+    (tail_same (natural base + x * natural step) (natural base + y * natural step) (cell_at cs xs) (cell_at cs ys) same) in
     ap (λ z. z ∷ xs) first ∙ ap (λ zs. y ∷ zs) rest
 
 pub assigns : (ns : List ℕ) (target source : List Chosen) → length target ≡ length ns → side_fault false ns target ≡ None

@@ -9,4 +9,5 @@ pub mod Kinds
 pub mod Faults
 pub mod Laid
 pub mod Meant
+pub mod Kept
 pub mod Laws

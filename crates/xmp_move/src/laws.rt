@@ -1,5 +1,6 @@
 // What all plans of a transfer do together, as laws that callers may take.
 
+ghost use Rattle.xmp_move.specs.Kept.{CellsAreOwned, GmovesAssign, OwnersHold, SidesAreKept};
 ghost use Rattle.xmp_move.specs.Meant.{MovesAsMeant, TrapsAsMeant};
 ghost use Rattle.xmp_move.specs.Laws.{PlansFit, FillsNeeded, FillsOnce, MovesAll, MovesWhole, Reflects};
 
@@ -19,4 +20,17 @@ pub fn transfers()
 pub fn gmoves_are_meant<X>()
     ensures traps { TrapsAsMeant X }
     ensures moves { MovesAsMeant X }
+{}
+
+/// Over arrays the premises of `transfers` hold: each node keeps the cells that it holds of a side in slots of their own, and
+/// exactly one node owns each cell of a distributed array, and holds it.
+pub fn cells_are_kept()
+    ensures kept { SidesAreKept }
+    ensures owned { CellsAreOwned }
+    ensures held { OwnersHold }
+{}
+
+/// A gmove without a fault gives each target's cell one source's cell.
+pub fn gmoves_assign()
+    ensures { GmovesAssign }
 {}
