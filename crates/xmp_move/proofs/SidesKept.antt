@@ -1,5 +1,5 @@
 -- The slots of a side's cells, and their owners.
-use Rattle.std.proofs.Common.{◌≡◌, ◌+◌, ◌-◌, ◌*◌, ◌<◌, ◌≤◌, ◌++◌, ℕ, ℤ, zero, suc, Bool, true, false, List, [], ◌∷◌, refl, sym, ◌∙◌, ap, arith, length, map, take, drop}
+use Rattle.std.proofs.Common.{◌≡◌, subst, ◌+◌, ◌-◌, ◌*◌, ◌<◌, ◌≤◌, ◌++◌, ℕ, ℤ, zero, suc, Bool, true, false, List, [], ◌∷◌, refl, sym, ◌∙◌, ap, arith, length, map, take, drop}
 use Rattle.std.specs.Prelude.{◌&&◌, ◌==◌, is_none, replicate}
 use Rattle.std.specs.List.{list_all, range_with_len}
 use Rattle.std.proofs.lemmas.Bool.{eqb-true}
@@ -23,9 +23,10 @@ use Rattle.xmp_move.specs.Stores.{IsIn}
 use Rattle.xmp_move.specs.Sides.{padded, position, owns_cell, holds_cell, slot_in, words_in}
 use Rattle.xmp_move.specs.Whole.{HasSlots, HasOwner}
 use Rattle.xmp_move.specs.Laid.{MapFits}
-use Rattle.xmp_move.specs.Kept.{HasThree, IsOfCode, SidesAreKept, CellsAreOwned, OwnersHold}
+use Rattle.xmp_move.specs.Kept.{HasThree, IsOfCode, SidesAreKept, CellsAreOwned, OwnersHold, ReflectsArrays}
 use Rattle.xmp_move.proofs.Members.{and_left, and_right}
 use Rattle.xmp_move.proofs.Boxes.{in_range, range_in}
+use Rattle.xmp_move.proofs.Arrays.{reflects}
 
 -- ---- cells in three dimensions
 
@@ -150,3 +151,21 @@ pub owners_hold : OwnersHold
 owners_hold t m es cell node three fits i lt h =
     let o = owner_at m three es fits cell i in
     o.holder node (o.only node lt h)
+
+both_of : (t : ℕ) (m : ArrayMap) (h : Home) (es : List ℕ) → h ≡ home.Spread t m → HasThree m → MapFits h es → IsOfCode h × MapFits (home.Spread t m) es
+both_of t m h es e three fits = (rw e three, subst (λ h. MapFits h es) e fits)
+
+owned_by : (t : ℕ) (m : ArrayMap) (h : Home) (es cell : List ℕ) → h ≡ home.Spread t m → HasThree m → MapFits (home.Spread t m) es → IsInside cell es
+    → HasOwner (owns_cell h) (range_with_len 0 (held.node_count m)) cell
+owned_by t m h es cell e three fits i = let o = cells_are_owned t m es cell three fits i in rw e o
+
+pub reflects_arrays : ReflectsArrays
+reflects_arrays conv array t m args sources node values e three fits long lt keeps shows =
+    let b = both_of t m array.home array.extents e three fits in
+    reflects conv (holds_cell array.home) (owns_cell array.home) (slot_in array) array.extents sources (sources node) node
+    (range_with_len 0 (held.node_count m)) values
+    (sides_are_kept array node (sources node) b.0 fits long)
+    (λ cell i. owned_by t m array.home array.extents cell e three b.1 i)
+    keeps
+    (λ k j. let r = range_in 0 (held.node_count m) k j in shows k (let l : k < held.node_count m = omega (arith, r) in l))
+    (λ cell i h. shows node lt cell i (and_right (holds_cell array.home node cell) (owns_cell array.home node cell) h))

@@ -1,6 +1,6 @@
 // What all plans of a transfer do together, as laws that callers may take.
 
-ghost use Rattle.xmp_move.specs.Kept.{CellsAreOwned, GmovesAssign, OwnersHold, SidesAreKept};
+ghost use Rattle.xmp_move.specs.Kept.{CellsAreOwned, GmovesAssign, OwnersHold, ReflectsArrays, SidesAreKept};
 ghost use Rattle.xmp_move.specs.Meant.{MovesAsMeant, TrapsAsMeant};
 ghost use Rattle.xmp_move.specs.Laws.{PlansFit, FillsNeeded, FillsOnce, MovesAll, MovesWhole, Reflects};
 
@@ -33,4 +33,9 @@ pub fn cells_are_kept()
 /// A gmove without a fault gives each target's cell one source's cell.
 pub fn gmoves_assign()
     ensures { GmovesAssign }
+{}
+
+/// After all nodes packed, a node that unpacks a reflect shows the owners' values in all cells that it holds.
+pub fn reflects_are_whole()
+    ensures { ReflectsArrays }
 {}
