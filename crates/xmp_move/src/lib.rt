@@ -12,6 +12,3 @@ pub use faults::move_fault;
 pub use kind::{Fault, MoveKind, Side, SidePart};
 pub use laws::{cells_are_kept, gmoves_are_meant, gmoves_assign, reflects_are_whole, transfers};
 pub use words::{pack_slots, unpack_slots};
-
-#[cfg(test)]
-mod tests;
