@@ -1,5 +1,5 @@
 -- What a node's store shows of an array after a gmove and after a reflect.
-use Rattle.std.proofs.Common.{◌≡◌, ◌≢◌, ℕ, zero, suc, ◌<◌, ◌≤◌, ℤ, pos, ◌⊎◌, inl, inr, Bool, true, false, not, List, [], ◌∷◌, refl, sym, ◌∙◌, ap, arith, length, map, get_or}
+use Rattle.std.proofs.Common.{◌≡◌, ◌≢◌, ℕ, ◌<◌, ℤ, pos, ◌⊎◌, inl, inr, Bool, true, false, not, List, [], ◌∷◌, refl, sym, ◌∙◌, ap, arith, length, map}
 use Rattle.std.specs.Prelude.{◌&&◌}
 use Rattle.xmp_map.specs.RowMajor.{product, row_major}
 use Rattle.xmp_map.specs.Boxes.{IsInside}
@@ -7,7 +7,7 @@ use Rattle.xmp_map.proofs.Order.{row_major-lt, row_major-unique, inside_below}
 use Rattle.xmp_move.specs.Ways.{Pair, Ways}
 use Rattle.xmp_move.specs.Stores.{IsIn, word_at, packed, write_all, unpacked_of}
 use Rattle.xmp_move.specs.Cells.{indices}
-use Rattle.xmp_move.specs.Whole.{IsNeeded, IsGiven, AreGiven, HasRoom, IsMoved, Shows, HasSlots, IsAssignment, assigned, reflecting, selves, HasOwner}
+use Rattle.xmp_move.specs.Whole.{IsNeeded, AreGiven, HasRoom, IsMoved, Shows, HasSlots, IsAssignment, assigned, reflecting, selves, HasOwner}
 use Rattle.xmp_move.proofs.Writes.{same_or_not, write_all-other, write_all-hit}
 use Rattle.xmp_move.proofs.Members.{and_left, and_right, both_true, map_in, in_map}
 use Rattle.xmp_move.proofs.Boxes.{inside_in, in_inside}

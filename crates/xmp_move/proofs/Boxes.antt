@@ -1,5 +1,5 @@
 -- The lists of indices of a box are its cells.
-use Rattle.std.proofs.Common.{◌≡◌, ◌≢◌, ℕ, zero, suc, ◌+◌, ◌<◌, ◌⊎◌, inl, inr, List, [], ◌∷◌, ◌++◌, refl, sym, ◌∙◌, ap, arith, map}
+use Rattle.std.proofs.Common.{◌≡◌, ◌≢◌, ℕ, zero, suc, ◌+◌, ◌<◌, ◌⊎◌, inl, inr, List, [], ◌∷◌, refl, arith, map}
 use Rattle.std.specs.List.{flat_map, range_with_len}
 use Rattle.xmp_map.specs.Boxes.{IsInside}
 use Rattle.xmp_move.specs.Stores.{IsIn}

@@ -1,12 +1,12 @@
 -- What the meaning of a gmove checks, once its numbers are known.
-use Rattle.std.proofs.Common.{◌≡◌, ℕ, ℤ, pos, negsuc, Bool, true, false, Option, Some, None, List, [], ◌∷◌, refl, sym, ◌∙◌, ap, length, if◌then◌else◌}
+use Rattle.std.proofs.Common.{◌≡◌, ℕ, pos, negsuc, Bool, true, false, Option, Some, None, List, [], ◌∷◌, refl, sym, ◌∙◌, ap, length, if◌then◌else◌}
 use Rattle.std.specs.Prelude.{nat_lt, is_some}
 use Rattle.xmp_base.specs.declared.place.Place.{Place}
 use Rattle.xmp_num.specs.declared.types.TrapKind.TheVariants.{Subscript, Section}
 use Rattle.xmp_prog.specs.declared.statements.MoveSide.{MoveSide}
 use Rattle.xmp_prog.specs.declared.statements.MoveSide.TheVariants as side
 use Rattle.xmp_meaning.specs.declared.ends.End.TheVariants.{Trapped}
-use Rattle.xmp_meaning.specs.Runs.{State, StepIn, Gave, Ended, RunIn, Run, and_then, ◌>>=◌, pure, trap}
+use Rattle.xmp_meaning.specs.Runs.{State, Gave, Ended, RunIn, Run, and_then, ◌>>=◌, pure, trap}
 use Rattle.xmp_meaning.specs.Context.{Context}
 use Rattle.xmp_meaning.specs.Declarations.{extents}
 use Rattle.xmp_meaning.specs.Handlers.{Handlers, Aim}

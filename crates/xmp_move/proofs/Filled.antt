@@ -1,7 +1,7 @@
 -- Each needed cell is filled exactly once.
-use Rattle.std.proofs.Common.{◌≡◌, ◌≢◌, ℕ, zero, suc, ◌+◌, ◌<◌, ◌≤◌, ◌⊎◌, inl, inr, ℤ, Bool, true, false, List, [], ◌∷◌, refl, sym, ◌∙◌, ap, arith, length, map, cond}
+use Rattle.std.proofs.Common.{◌≡◌, ℕ, ◌+◌, inl, inr, ℤ, Bool, true, false, List, [], ◌∷◌, refl, sym, ◌∙◌, ap, arith, map, cond}
 use Rattle.std.specs.Prelude.{filter, ◌&&◌, ◌==◌}
-use Rattle.std.specs.List.{sum_by, count_by}
+use Rattle.std.specs.List.{count_by}
 use Rattle.std.proofs.lemmas.Bool.Decides.{nat_tests}
 use Rattle.std.proofs.lemmas.List.Sums.{sum_by-cons}
 use Rattle.xmp_move.specs.Ways.{Pair, Ways, due, fills}

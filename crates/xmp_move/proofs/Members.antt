@@ -1,7 +1,6 @@
 -- Elements of filtered and mapped lists.
 use Rattle.std.proofs.Common.{◌≡◌, ◌⊎◌, inl, inr, Bool, true, false, List, [], ◌∷◌, ◌++◌, refl, sym, ◌∙◌, ap, map, cond}
 use Rattle.std.specs.Prelude.{filter, ◌&&◌}
-use Rattle.std.specs.List.{flat_map}
 use Rattle.xmp_move.specs.Stores.{IsIn}
 
 pub and_left : (a b : Bool) → (a && b) ≡ true → a ≡ true

@@ -1,15 +1,13 @@
 -- The cells of a gmove without a fault lie in its target, each once.
-use Rattle.std.proofs.Common.{◌≡◌, ◌≢◌, ◌⊎◌, inl, inr, ◌+◌, ◌*◌, ◌<◌, ◌≤◌, ℕ, ℤ, pos, negsuc, zero, suc, Bool, true, false, Option, Some, None, List, [], ◌∷◌, refl, sym, ◌∙◌, ap, arith, length, map, if◌then◌else◌}
+use Rattle.std.proofs.Common.{◌≡◌, ◌+◌, ◌*◌, ◌<◌, ◌≤◌, ℕ, ℤ, pos, negsuc, zero, suc, Bool, true, false, Option, Some, None, List, [], ◌∷◌, refl, sym, ◌∙◌, ap, arith, length, if◌then◌else◌}
 use Rattle.std.specs.Prelude.{◌&&◌, nat_lt, nat_le, is_some}
 use Rattle.std.proofs.Math.Nat.{mul-le-mul_right}
 use Rattle.std.proofs.lemmas.Bool.Decides.{nat_tests}
 use Rattle.xmp_num.specs.declared.types.TrapKind.TheVariants.{Subscript, Section}
 use Rattle.xmp_map.specs.Boxes.{IsInside}
-use Rattle.xmp_meaning.specs.Expressions.{natural, within}
+use Rattle.xmp_meaning.specs.Expressions.{natural}
 use Rattle.xmp_meaning.specs.Sections.{Chosen, One, Many, in_range}
 use Rattle.xmp_move.specs.declared.kind.Fault.{Fault}
-use Rattle.xmp_move.specs.Ways.{Pair}
-use Rattle.xmp_move.specs.Stores.{IsIn}
 use Rattle.xmp_move.specs.Cells.{indices, counts, cell_at, pairs_between}
 use Rattle.xmp_move.specs.Faults.{part_fault, first_of, side_fault}
 use Rattle.xmp_move.specs.Whole.{IsAssignment}

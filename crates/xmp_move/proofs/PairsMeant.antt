@@ -1,24 +1,21 @@
 -- The cells of a gmove in the meaning are those of its pairs.
-use Rattle.std.proofs.Common.{◌≡◌, ◌⊎◌, inl, inr, ◌+◌, ◌*◌, ◌++◌, ℕ, ℤ, pos, negsuc, zero, suc, Bool, true, false, Option, Some, None, List, [], ◌∷◌, refl, sym, ◌∙◌, ap, arith, length, map, if◌then◌else◌}
+use Rattle.std.proofs.Common.{◌≡◌, ◌⊎◌, inl, inr, ◌+◌, ◌*◌, ◌++◌, ℕ, ℤ, Bool, true, false, Option, Some, None, List, [], ◌∷◌, refl, sym, ◌∙◌, ap, arith, length, map, if◌then◌else◌}
 use Rattle.std.specs.Prelude.{replicate, ◌&&◌}
 use Rattle.std.specs.List.{flat_map, range_with_len}
 use Rattle.std.specs.Ordering.{int_eq}
 use Rattle.std.proofs.lemmas.List.{length-map}
 use Rattle.xmp_num.specs.declared.types.TrapKind.TheVariants.{Section}
 use Rattle.xmp_map.specs.RowMajor.{product, row_major}
-use Rattle.xmp_prog.specs.declared.statements.MoveSide.{MoveSide}
-use Rattle.xmp_meaning.specs.Runs.{State, Gave}
-use Rattle.xmp_meaning.specs.Context.{Context}
-use Rattle.xmp_meaning.specs.Handlers.{Handlers, Aim}
+use Rattle.xmp_meaning.specs.Runs.{Gave}
+use Rattle.xmp_meaning.specs.Handlers.{Aim}
 use Rattle.xmp_meaning.specs.Expressions.{natural}
-use Rattle.xmp_meaning.specs.Sections.{Chosen, One, Many, numbers, progression, cells_from, lengths, fit, spread, aim}
+use Rattle.xmp_meaning.specs.Sections.{Chosen, One, Many, cells_from, lengths, fit, spread}
 use Rattle.xmp_move.specs.declared.kind.Fault.{Fault}
-use Rattle.xmp_move.specs.Ways.{Pair}
 use Rattle.xmp_move.specs.Cells.{indices, counts, cell_at, pairs_between}
-use Rattle.xmp_move.specs.Faults.{first_of, side_fault, lengths_fault, first_fault}
-use Rattle.xmp_move.specs.Meant.{extents_in, place_of, aim_of, MovesAsMeant}
+use Rattle.xmp_move.specs.Faults.{first_of, side_fault, lengths_fault}
+use Rattle.xmp_move.specs.Meant.{extents_in, place_of, MovesAsMeant}
 use Rattle.xmp_move.proofs.Members.{map_twice}
-use Rattle.xmp_move.proofs.Checks.{picked, all_picked, unless, meant}
+use Rattle.xmp_move.proofs.Checks.{all_picked, unless, meant}
 
 map_alike : {A B : Type 0} (f g : A → B) (xs : List A) → ((x : A) → f x ≡ g x) → map f xs ≡ map g xs
 map_alike f g [] h = refl

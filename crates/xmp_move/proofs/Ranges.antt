@@ -1,8 +1,8 @@
 -- The range of a section in numbers that are counted.
-use Rattle.std.proofs.Common.{◌≡◌, ◌+◌, ◌-◌, ◌*◌, ◌&&◌, ◌||◌, ◌==◌, ℕ, ℤ, zero, suc, pos, negsuc, Bool, true, false, Option, Some, None, refl, ap, ◌∙◌, sym, arith, nat_lt, nat_le}
+use Rattle.std.proofs.Common.{◌≡◌, ◌+◌, ◌-◌, ◌*◌, ◌&&◌, ◌||◌, ℕ, ℤ, zero, suc, pos, negsuc, Bool, true, false, refl, ap, ◌∙◌, sym, arith, nat_lt, nat_le}
 use Rattle.std.proofs.Math.Dec.{eqb-suc-zero, leb-zero}
 use Rattle.xmp_meaning.specs.Sections.{in_range}
-use Rattle.xmp_move.specs.Choices.{counted, range_of, is_last_inside}
+use Rattle.xmp_move.specs.Choices.{counted, range_of}
 
 and_false : (b : Bool) → (b && false) ≡ false
 and_false true = refl

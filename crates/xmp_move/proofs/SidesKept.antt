@@ -1,26 +1,25 @@
 -- The slots of a side's cells, and their owners.
-use Rattle.std.proofs.Common.{◌≡◌, subst, ◌+◌, ◌-◌, ◌*◌, ◌<◌, ◌≤◌, ◌++◌, ℕ, ℤ, zero, suc, Bool, true, false, List, [], ◌∷◌, refl, sym, ◌∙◌, ap, arith, length, map, take, drop}
-use Rattle.std.specs.Prelude.{◌&&◌, ◌==◌, is_none, replicate}
+use Rattle.std.proofs.Common.{◌≡◌, subst, ◌+◌, ◌-◌, ◌<◌, ◌≤◌, ◌++◌, ℕ, ℤ, zero, suc, true, List, [], ◌∷◌, refl, sym, ◌∙◌, ap, arith, length, map, take, drop}
+use Rattle.std.specs.Prelude.{◌==◌, is_none, replicate}
 use Rattle.std.specs.List.{list_all, range_with_len}
 use Rattle.std.proofs.lemmas.Bool.{eqb-true}
 use Rattle.std.proofs.lemmas.List.{length-map}
 use Rattle.xmp_map.specs.declared.aligned.AlignedDim.{AlignedDim}
 use Rattle.xmp_map.specs.declared.array_map.ArrayMap.{ArrayMap}
-use Rattle.xmp_map.specs.RowMajor.{product, row_major, unravel}
-use Rattle.xmp_map.specs.Boxes.{IsInside, all_pass}
+use Rattle.xmp_map.specs.RowMajor.{product, row_major}
+use Rattle.xmp_map.specs.Boxes.{IsInside}
 use Rattle.xmp_map.specs.Align.{is_unused}
 use Rattle.xmp_map.specs.Axes.{owner_along}
 use Rattle.xmp_map.specs.Held as held
 use Rattle.xmp_map.proofs.Three.{three_of}
-use Rattle.xmp_map.proofs.Order.{row_major-lt, row_major-unique, inside_below, row_major-unravel}
+use Rattle.xmp_map.proofs.Order.{row_major-lt, row_major-unique, inside_below}
 use Rattle.xmp_map.proofs.Counted.{slot_lt, slot_unique, words_are}
 use Rattle.xmp_map.proofs.MapLaws.{blank}
 use Rattle.xmp_map.proofs.OwnerLaws.{OwnerIs, owner_is, owner_number, owner_place-is}
 use Rattle.xmp_prog.specs.declared.parts.Home.{Home}
 use Rattle.xmp_prog.specs.declared.parts.Home.TheVariants as home
 use Rattle.xmp_meaning.specs.Layouts.{Packed, words_of}
-use Rattle.xmp_move.specs.Stores.{IsIn}
-use Rattle.xmp_move.specs.Sides.{padded, position, owns_cell, holds_cell, slot_in, words_in}
+use Rattle.xmp_move.specs.Sides.{padded, position, owns_cell, holds_cell, slot_in}
 use Rattle.xmp_move.specs.Whole.{HasSlots, HasOwner}
 use Rattle.xmp_move.specs.Laid.{MapFits}
 use Rattle.xmp_move.specs.Kept.{HasThree, IsOfCode, SidesAreKept, CellsAreOwned, OwnersHold, ReflectsArrays}

@@ -1,9 +1,9 @@
 -- In any order of the messages the needed cells have their words, and all others stay.
-use Rattle.std.proofs.Common.{◌≡◌, ◌≢◌, ℕ, ◌<◌, ℤ, pos, ◌⊎◌, inl, inr, Bool, true, false, List, [], ◌∷◌, refl, sym, ◌∙◌, ap, arith, length, map, get_or}
+use Rattle.std.proofs.Common.{◌≡◌, ◌≢◌, ℕ, ℤ, pos, inl, inr, Bool, true, false, List, [], ◌∷◌, refl, sym, ◌∙◌, ap, arith, length, map, get_or}
 use Rattle.std.specs.Prelude.{◌&&◌}
 use Rattle.xmp_move.specs.Ways.{Pair, Ways, due, sends, fills}
 use Rattle.xmp_move.specs.Stores.{IsIn, word_at, packed, write_all, unpacked_of}
-use Rattle.xmp_move.specs.Whole.{IsNeeded, IsGiven, AreGiven, HasRoom, IsMoved}
+use Rattle.xmp_move.specs.Whole.{IsNeeded, AreGiven, HasRoom, IsMoved}
 use Rattle.xmp_move.proofs.Writes.{length-write_all, write_all-other, write_all-hit}
 use Rattle.xmp_move.proofs.Members.{and_left, and_right, both_true, in_filter, filter_in}
 

@@ -1,5 +1,5 @@
 -- One more word written.
-use Rattle.std.proofs.Common.{◌≡◌, ℕ, zero, suc, ◌+◌, ◌<◌, ℤ, pos, List, [], ◌∷◌, refl, sym, ◌∙◌, ap, arith, length, map, take, get_or, set}
+use Rattle.std.proofs.Common.{◌≡◌, ℕ, zero, suc, ◌+◌, ◌<◌, ℤ, pos, List, [], ◌∷◌, refl, arith, length, map, take, get_or, set}
 use Rattle.xmp_move.specs.Stores.{write_all}
 
 write_next : (f : ℤ → ℤ) (store : List ℤ) (ss : List ℕ) (ws : List ℤ) (k : ℕ) → length ws ≡ length ss → k < length ss

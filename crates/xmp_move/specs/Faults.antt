@@ -4,7 +4,6 @@ use Rattle.xmp_num.specs.declared.types.TrapKind.TheVariants.{Subscript, Section
 use Rattle.xmp_meaning.specs.Expressions.{within}
 use Rattle.xmp_meaning.specs.Sections.{Chosen, One, Many, in_range, lengths, fit}
 use Rattle.xmp_move.specs.declared.kind.Fault.{Fault}
-use Rattle.xmp_move.specs.declared.kind.Side.{Side}
 use Rattle.xmp_move.specs.declared.kind.MoveKind.{MoveKind}
 use Rattle.xmp_move.specs.declared.kind.MoveKind.TheVariants.{Reflect, Gmove}
 use Rattle.xmp_move.specs.Numbers.{target_chosen, source_chosen}

@@ -1,6 +1,5 @@
 -- The ways and the pairs of a transfer (XcalableMP 1.4, reflect and gmove constructs).
-use Rattle.std.specs.Prelude.{ℕ, ◌+◌, ◌&&◌, not, ℤ, List, []}
-use Rattle.xmp_move.specs.declared.kind.Side.{Side}
+use Rattle.std.specs.Prelude.{ℕ, ◌+◌, ℤ, List}
 use Rattle.xmp_move.specs.declared.kind.MoveKind.{MoveKind}
 use Rattle.xmp_move.specs.declared.kind.MoveKind.TheVariants.{Reflect, Gmove}
 use Rattle.xmp_move.specs.Ways.{Pair, Ways}

@@ -1,5 +1,5 @@
 -- A gmove in the meaning, and its faults and pairs here (this project).
-use Rattle.std.specs.Prelude.{◌≡◌, ◌⊎◌, if◌then◌else◌, ℕ, List, [], map, length, Option, Some, None}
+use Rattle.std.specs.Prelude.{◌≡◌, ◌⊎◌, if◌then◌else◌, ℕ, List, [], map, length, Some, None}
 use Rattle.xmp_base.specs.declared.place.Place.{Place}
 use Rattle.xmp_map.specs.RowMajor.{row_major}
 use Rattle.xmp_prog.specs.declared.parts.ProgParts.{ProgParts}

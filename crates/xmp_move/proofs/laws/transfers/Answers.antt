@@ -1,6 +1,6 @@
-use Rattle.std.proofs.Common.{◌≡◌, ◌∙◌, sym, ℕ, length}
+use Rattle.std.proofs.Common.{◌∙◌, sym}
 use Rattle.std.proofs.lemmas.List.{length-map}
-use Rattle.xmp_move.specs.Ways.{Ways, due}
+use Rattle.xmp_move.specs.Ways.{due}
 use Rattle.xmp_move.proofs.Unpacked.{moves_all}
 use Rattle.xmp_move.proofs.Filled.{fills_needed, fills_once}
 use Rattle.xmp_move.proofs.Arrays.{moves_whole, reflects}

@@ -1,4 +1,4 @@
-use Rattle.std.proofs.Common.{◌≡◌, ◌∙◌, sym, ap, set, get_or, pos, length, rules, w64, ℤ}
+use Rattle.std.proofs.Common.{◌∙◌, sym, ap, set, get_or, pos, rules, w64}
 use Rattle.std.specs.Prelude.{FitsSigned}
 use Rattle.std.proofs.lemmas.Int.{to_z-of_z}
 use Rattle.xmp_num.specs.Arithmetic.{wrap}
