@@ -1,0 +1,12 @@
+pub mod Writes
+pub mod Members
+pub mod Unpacked
+pub mod Filled
+pub mod Boxes
+pub mod Arrays
+pub mod Ranges
+pub mod Checks
+pub mod PairsMeant
+pub mod WordLaws
+pub mod PairsInside
+pub mod SidesKept

@@ -1,0 +1,13 @@
+pub mod Ways
+pub mod Stores
+pub mod Cells
+pub mod Whole
+pub mod Sides
+pub mod Numbers
+pub mod Choices
+pub mod Kinds
+pub mod Faults
+pub mod Laid
+pub mod Meant
+pub mod Kept
+pub mod Laws
