@@ -1,0 +1,5 @@
+pub mod Shapes
+pub mod Conditions
+pub mod WhereExpressions
+pub mod WhereStatements
+pub mod Watched

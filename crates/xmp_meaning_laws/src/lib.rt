@@ -1,0 +1,6 @@
+//! Laws of what typed programs mean, on which the theorems about nodes stand.
+#![tactic(auto)]
+
+mod laws;
+
+pub use laws::shape_stays;
