@@ -92,6 +92,8 @@ pub record StatementMeets (p : ProgParts) (c : Conditions) (s : Statement) : Typ
   pub indexes : AllByRecursion c.indexes (indices_beside s)
   pub gets : AllByRecursion c.gets (arrays_beside s)
   pub puts : AllByRecursion c.puts (puts_beside s)
+  -- a compound assignment reads what it writes
+  pub updates : AllByRecursion c.gets (puts_beside s)
   pub terms : TermsMeet c (terms_in p s)
 
 -- ---- two contexts over one program

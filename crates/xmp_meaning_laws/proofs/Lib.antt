@@ -3,3 +3,4 @@ pub mod Conditions
 pub mod WhereExpressions
 pub mod WhereStatements
 pub mod Watched
+pub mod Simulated

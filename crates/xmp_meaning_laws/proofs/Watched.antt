@@ -8,6 +8,7 @@ use Rattle.xmp_num.specs.declared.types.Ty.TheVariants.{Int}
 use Rattle.xmp_num.specs.declared.types.BinOp.{BinOp}
 use Rattle.xmp_num.specs.Arithmetic.{binary_of, wrap}
 use Rattle.xmp_prog.specs.declared.expressions.Expr.TheOpen.{Expr-F, Access-F}
+use Rattle.xmp_prog.specs.declared.expressions.Expr.{Expr}
 use Rattle.xmp_prog.specs.declared.statements.Target.{Target}
 use Rattle.xmp_prog.specs.declared.statements.Plain.TheVariants as plain
 use Rattle.xmp_prog.specs.declared.statements.Stmt.TheOpen.{Stmt-F}
@@ -48,13 +49,13 @@ pub record IsWatch (X : Type 0) (cx : Context) (c : Conditions) (Lies : Ty → �
   pub cells : (s : State X) (row : ℕ) (at : ℤ) → c.gets row → w.holds s → Lies (array_type cx.program row) (read_in s.arrays row at)
   pub sets_cell : (s : State X) (row : ℕ) (at v : ℤ) → c.puts row → Lies (array_type cx.program row) v → w.holds s
       → w.holds (record s { arrays = write_in s.arrays row at v }) × w.changes s (record s { arrays = write_in s.arrays row at v })
-  pub writes : (format : List ℕ) (arguments : _) (at : Place) → c.statement (Stmt-F.Plain (plain.Print format arguments at))
+  pub writes : (format : List ℕ) (arguments : List Expr) (at : Place) → c.statement (Stmt-F.Plain (plain.Print format arguments at))
       → (s : State X) (text : List ℕ) → w.holds s → w.holds (record s { out = s.out ++ text }) × w.changes s (record s { out = s.out ++ text })
   pub sets_taken : (to : Target) (at : Place) → c.statement (Stmt-F.Plain (plain.Scan to at))
       → (s : State X) (n : ℕ) → w.holds s → w.holds (record s { taken = n }) × w.changes s (record s { taken = n })
   pub calls : (function : ℕ) (types : List Ty) (at : Place) → c.term (Of (Expr-F.Call function types at)) → (vs : List ℤ) (s : State X) → w.holds s
       → Watched w (Lies (call_type (slice_get cx.program.functions function))) s (call cx function vs s)
-  pub steps : (e : _) (writes : List ℕ) (at : Place) → c.statement (Stmt-F.While e writes at)
+  pub steps : (e : Expr) (writes : List ℕ) (at : Place) → c.statement (Stmt-F.While e writes at)
       → w.ends OutOfSteps × ((s : State X) (n : ℕ) → s.steps ≡ suc n → w.holds s → w.holds (record s { steps = n }) × w.changes s (record s { steps = n }))
   pub own_number : c.term (Of Expr-F.Node) → Lies Int (pos cx.node)
   pub node_counts : c.term (Of Expr-F.Nodes) → Lies Int (pos (node_count cx.program))
@@ -72,52 +73,54 @@ module _ {X : Type 0} {cx : Context} {c : Conditions} {Lies : Ty → ℤ → Typ
   abbrev pub Watches : (A : Type 0) → (A → Type 0) → Run X A → Run X A → Type 0
   Watches A V f g = (s : State X) → w.holds s → Watched w V s (f s)
 
-  watched_on : {A B : Type 0} {V : A → Type 0} {W : B → Type 0} (s : State X) (f : A → Run X B) (r : Step X A) → Watched w V s r
+  watched_on : {A B : Type 0} (V : A → Type 0) (W : B → Type 0) (s : State X) (f : A → Run X B) (r : Step X A) → Watched w V s r
       → ((a : A) → V a → (t : State X) → w.holds t → Watched w W t (f a t)) → Watched w W s (and_then r f)
-  watched_on {A} {B} {V} {W} s f (Gave a t) h rest = joined (f a t) (rest a h.2 t h.0)
+  watched_on {A} {B} V W s f (Gave a t) h rest = joined (f a t) (rest a h.2 t h.0)
     where
       joined : (r : Step X B) → Watched w W t r → Watched w W s r
       joined (Gave b u) k = (k.0, i.then s t u h.1 k.1, k.2)
       joined (Ended e u) k = (k.0, i.then s t u h.1 k.1, k.2)
-  watched_on s f (Ended e t) h rest = h
+  watched_on V W s f (Ended e t) h rest = h
 
-  weakened : {A : Type 0} {V W : A → Type 0} (s : State X) (r : Step X A) → ((a : A) → V a → W a) → Watched w V s r → Watched w W s r
-  weakened s (Gave a t) f h = (h.0, h.1, f a h.2)
-  weakened s (Ended e t) f h = h
+  weakened : {A : Type 0} (V W : A → Type 0) (s : State X) (r : Step X A) → ((a : A) → V a → W a) → Watched w V s r → Watched w W s r
+  weakened V W s (Gave a t) f h = (h.0, h.1, f a h.2)
+  weakened V W s (Ended e t) f h = h
 
-  gives_watched : {A : Type 0} {V : A → Type 0} (a : A) → V a → Watches A V (pure a) (pure a)
-  gives_watched a v s h = (h, i.same s, v)
+  abbrev Steps_watched : Run X Flow → Type 0
+  Steps_watched p = (s : State X) → w.holds s → Watched w (Anything Flow) s (p s)
 
-  after_watched : (flow : Flow) (q : Run X Flow) → Watches Flow (Anything Flow) q q → Watches Flow (Anything Flow) (after flow q) (after flow q)
+  gives_next : (flow : Flow) → Steps_watched (pure flow)
+  gives_next flow s h = (h, i.same s, tt)
+
+  after_watched : (flow : Flow) (q : Run X Flow) → Steps_watched q → Steps_watched (after flow q)
   after_watched Next q h = h
-  after_watched (Returned v) q h = gives_watched (Returned v) tt
+  after_watched (Returned v) q h = gives_next (Returned v)
 
-  choose_watched : (b : Bool) (p q : Run X Flow) → Watches Flow (Anything Flow) p p → Watches Flow (Anything Flow) q q
-      → Watches Flow (Anything Flow) (choose b p q) (choose b p q)
+  choose_watched : (b : Bool) (p q : Run X Flow) → Steps_watched p → Steps_watched q → Steps_watched (choose b p q)
   choose_watched true p q h k = h
   choose_watched false p q h k = k
 
-  turns_watched : (n : ℕ) (test : Run X Bool) (body : Run X Flow) → Watches Bool (Anything Bool) test test → Watches Flow (Anything Flow) body body
-      → Watches Flow (Anything Flow) (turns n test body) (turns n test body)
-  turns_watched zero test body h k = gives_watched Next tt
-  turns_watched (suc n) test body h k s holds =
-      watched_on s (λ more. choose more (then_run body (turns n test body)) (pure Next)) (test s) (h s holds)
+  turns_watched : (n : ℕ) (test : Run X Bool) (body : Run X Flow) → ((s : State X) → w.holds s → Watched w (Anything Bool) s (test s))
+      → Steps_watched body → Steps_watched (turns n test body)
+  turns_watched zero test body h k = gives_next Next
+  turns_watched (suc n) test body h k = λ s holds.
+      watched_on (Anything Bool) (Anything Flow) s (λ more. choose more (then_run body (turns n test body)) (pure Next)) (test s) (h s holds)
       (λ more v. choose_watched more (then_run body (turns n test body)) (pure Next)
-      (λ t holds. watched_on t (λ flow. after flow (turns n test body)) (body t) (k t holds)
+      (λ t holds. watched_on (Anything Flow) (Anything Flow) t (λ flow. after flow (turns n test body)) (body t) (k t holds)
       (λ flow v. after_watched flow (turns n test body) (turns_watched n test body h k)))
-      (gives_watched Next tt))
+      (gives_next Next))
 
-  step_watched : (e : _) (writes : List ℕ) (at : Place) → c.statement (Stmt-F.While e writes at) → (s : State X) (n : ℕ) → s.steps ≡ n → w.holds s
+  step_watched : (e : Expr) (writes : List ℕ) (at : Place) → c.statement (Stmt-F.While e writes at) → (s : State X) (n : ℕ) → s.steps ≡ n → w.holds s
       → Watched w (Anything (Unit {0})) s (step_of n s)
   step_watched e writes at is s zero q h = (h, i.same s, (i.steps e writes at is).0)
   step_watched e writes at is s (suc n) q h = let kept : _ = (i.steps e writes at is).1 s n q h in (kept.0, kept.1, tt)
 
   pub watches : KeepsWhere X X (twice cx) c Lies Watches
   watches = record {
-    gives = λ a v. gives_watched a v;
+    gives = λ a v s h. (h, i.same s, v);
     traps = λ kind at s h. (h, i.same s, i.traps kind at);
-    goes_on = λ {A} {B} {V} {W} {p} {q} {f} {g} h rest s holds. watched_on s f (p s) (h s holds) rest;
-    weakens = λ {A} {V} {W} {p} {q} h f s holds. weakened s (p s) f (h s holds);
+    goes_on = λ {A} {B} {V} {W} {p} {q} {f} {g} h rest s holds. watched_on V W s f (p s) (h s holds) rest;
+    weakens = λ {A} {V} {W} {p} {q} h f s holds. weakened V W s (p s) f (h s holds);
     scalars = λ slot may s h. (h, i.same s, i.scalars s slot may h);
     sets_scalar = λ slot may v lies s h. let kept : _ = i.sets_scalar s slot v may lies h in (kept.0, kept.1, tt);
     writes = λ format arguments at is text s h. let kept : _ = i.writes format arguments at is s text h in (kept.0, kept.1, tt);
@@ -128,7 +131,7 @@ module _ {X : Type 0} {cx : Context} {c : Conditions} {Lies : Ty → ℤ → Typ
     own_image = λ array types at is s h. (h, i.same s, tt);
     loops = λ {test} {test'} {body} {body'} e writes at is h k s holds.
         turns_watched (suc s.steps) test (turn body) h
-        (λ t holds. watched_on t (λ u. body) (step_of t.steps t) (step_watched e writes at is t t.steps refl holds) (λ u v. k)) s holds;
+        (λ t holds. watched_on (Anything (Unit {0})) (Anything Flow) t (λ u. body) (step_of t.steps t) (step_watched e writes at is t t.steps refl holds) (λ u v. k)) s holds;
     constants = i.constants;
     operators = i.operators;
     truths = i.truths;

@@ -13,6 +13,7 @@ use Rattle.xmp_prog.specs.declared.parts.Start.{Start}
 use Rattle.xmp_prog.specs.declared.expressions.Expr.{Expr}
 use Rattle.xmp_prog.specs.declared.statements.Compound.{Compound}
 use Rattle.xmp_prog.specs.declared.statements.LoopHead.{LoopHead}
+use Rattle.xmp_prog.specs.declared.statements.LoopDirective.{LoopDirective}
 use Rattle.xmp_prog.specs.declared.statements.Part.{Part}
 use Rattle.xmp_prog.specs.declared.statements.Part.TheVariants as part
 use Rattle.xmp_prog.specs.declared.statements.MoveSide.{MoveSide}
@@ -107,10 +108,10 @@ module _ {X Y : Type 0} {t : Two} {c : Conditions} {Lies : Ty → ℤ → Type 0
   kept_store (location.Cell array at) may v = kh.put array may at (wrap (array_type t.program array) v) (k.converts (array_type t.program array) v)
 
   kept_at_target : {f : Location → Run X Flow} {g : Location → Run Y Flow} (to : Target) → Meets (terms_of_target t.program to)
-      → AllByRecursion c.reads (slots_of_target to) → AllByRecursion c.sets (slots_of_target to) → AllByRecursion c.puts (target_arrays to)
+      → AllByRecursion c.reads (slots_of_target to) → AllByRecursion c.sets (slots_of_target to) → AllByRecursion c.puts (target_arrays to) → AllByRecursion c.gets (target_arrays to)
       → ((l : Location) → MayRead c l → MayWrite c l → Flows (f l) (g l)) → Flows (at_target h (one t) to f) (at_target h' (another t) to g)
-  kept_at_target (target.Scalar slot at) m reads sets rows f = f (location.Scalar slot) reads.0 sets.0
-  kept_at_target (target.Cell a) m reads sets rows f = k.goes_on (kept_cell_of k kh a m) (λ n u. f (location.Cell a.array n) (m.0.gets.0) rows.0)
+  kept_at_target (target.Scalar slot at) m reads sets puts gets f = f (location.Scalar slot) reads.0 sets.0
+  kept_at_target (target.Cell a) m reads sets puts gets f = k.goes_on (kept_cell_of k kh a m) (λ n u. f (location.Cell a.array n) gets.0 puts.0)
 
   kept_new_value : (l : Location) → MayRead c l → (d : Option Compound) (e : Expr) → Meets (terms_of t.program e)
       → R ℤ (Anything ℤ) (new_value h (one t) l d e) (new_value h' (another t) l d e)
@@ -260,13 +261,13 @@ module _ {X Y : Type 0} {t : Two} {c : Conditions} {Lies : Ty → ℤ → Type 0
       (λ u w. kept_initialise slot m.sets.0 value m.terms)
   kept_plain (plain.Set to d value) m =
       let both : _ = all_apart (TermMeets c) (terms_of_target t.program to) (terms_of t.program value) m.terms in
-      kept_at_target to both.0 m.reads m.sets m.puts (kept_assign d value both.1)
+      kept_at_target to both.0 m.reads m.sets m.puts m.updates (kept_assign d value both.1)
   kept_plain (plain.Return value) m = k.goes_on (kept_expr k kh value m.terms) (λ v u. k.gives (Returned v) tt)
   kept_plain (plain.Call function arguments at) m =
       k.goes_on (kept_arguments arguments [] m.terms.1) (λ vs u. k.goes_on (k.calls function _ at m.terms.0.itself vs) (λ v u. k.gives Next tt))
   kept_plain (plain.Print format arguments at) m =
       k.goes_on (kept_arguments arguments [] m.terms) (λ vs u. kept_next (k.writes format arguments at m.itself (printed format vs)))
-  kept_plain (plain.Scan to at) m = kept_at_target to m.terms m.reads m.sets m.puts (λ l reads may. kept_scan to at m.itself l may)
+  kept_plain (plain.Scan to at) m = kept_at_target to m.terms m.reads m.sets m.puts m.updates (λ l reads may. kept_scan to at m.itself l may)
   kept_plain (plain.Sync status at) m = kept_then (kh.sync status at m.itself)
       (kept_next (k.sets_scalar status.number m.sets.0 (pos 0) (k.zeros (scalar_type t.program status.number))))
   kept_plain (plain.Reflect arrays at) m = kh.reflect arrays at m.itself
@@ -329,7 +330,7 @@ module _ {X Y : Type 0} {t : Two} {c : Conditions} {Lies : Ty → ℤ → Type 0
         kh.loop directive _ m.0.itself (nest h (one t) directive.nest) (nest h' (another t) directive.nest)
         (stmt_of h (one t) (p body)) (stmt_of h' (another t) (p body)) (λ b b' r. kept_nest directive.nest (reads_of directive m.0.reads) m.0.sets m.0.indexes m.0.terms r) (j body m.1)
       where
-        reads_of : (d : _) → AllByRecursion c.reads (flat_map slots_of_point d.points ++ (indices_of d.nest ++ map (λ r. r.variable.number) d.reductions))
+        reads_of : (d : LoopDirective) → AllByRecursion c.reads (flat_map slots_of_point d.points ++ (indices_of d.nest ++ map (λ r. r.variable.number) d.reductions))
             → AllByRecursion c.reads (indices_of d.nest)
         reads_of d r = (all_apart c.reads (indices_of d.nest) (map (λ r. r.variable.number) d.reductions)
             (all_apart c.reads (flat_map slots_of_point d.points) (indices_of d.nest ++ map (λ r. r.variable.number) d.reductions) r).1).0
