@@ -4,3 +4,4 @@ pub mod WhereExpressions
 pub mod WhereStatements
 pub mod Watched
 pub mod Simulated
+pub mod WhereErased
