@@ -30,6 +30,7 @@ use Rattle.xmp_meaning.specs.Expressions.{call, image_of}
 use Rattle.xmp_meaning.specs.Loops.{while_loop}
 use Rattle.xmp_meaning.specs.Writes.{plain_arrays}
 use Rattle.xmp_meaning.proofs.Keeps.{AllAlike}
+use Rattle.xmp_meaning_laws.specs.Laws.{arrays_of_term}
 
 -- ---- conditions
 
@@ -43,11 +44,6 @@ pub record Conditions : Type 1 where
   pub puts : ℕ → Type 0
   pub term : Term → Type 0
   pub statement : Statement → Type 0
-
--- the array of which a term is an element
-abbrev pub arrays_of_term : Term → List ℕ
-arrays_of_term (Of e) = []
-arrays_of_term (Element a) = a.array ∷ []
 
 pub record TermMeets (c : Conditions) (t : Term) : Type 0 where
   pub itself : c.term t

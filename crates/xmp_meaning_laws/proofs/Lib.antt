@@ -5,3 +5,8 @@ pub mod WhereStatements
 pub mod Watched
 pub mod Simulated
 pub mod WhereErased
+pub mod Named
+pub mod Idle
+pub mod Local
+pub mod Unseen
+pub mod Stays

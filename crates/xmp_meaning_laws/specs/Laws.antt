@@ -1,13 +1,17 @@
 -- Laws of runs and of statements.
-use Rattle.std.specs.Prelude.{◌≡◌, ◌++◌, ℕ, ℤ, Bool, true, false, List, [], ◌∷◌, length, map, IsTrue, slice_get}
+use Rattle.std.specs.Prelude.{◌≡◌, ◌≢◌, ◌++◌, ◌&&◌, ◌==◌, if◌then◌else◌, ℕ, zero, suc, ℤ, Option, Some, None, Bool, true, false, List, [], ◌∷◌, length, map, IsTrue, slice_get}
 use Rattle.std.specs.List.{AllByRecursion, list_all, flat_map}
 use Rattle.xmp_prog.specs.declared.parts.ProgParts.{ProgParts}
 use Rattle.xmp_prog.specs.declared.statements.Plain.{Plain}
 use Rattle.xmp_prog.specs.declared.statements.Plain.TheVariants as plain
 use Rattle.xmp_prog.specs.declared.statements.Stmt.{Stmt}
 use Rattle.xmp_prog.specs.declared.statements.Stmt.TheOpen.{Stmt-F}
+use Rattle.xmp_prog.specs.declared.expressions.Expr.TheOpen.{Expr-F}
+use Rattle.xmp_prog.specs.declared.parts.Function.{Function}
 use Rattle.xmp_prog.specs.Terms.{Term, Of, Element}
-use Rattle.xmp_prog.specs.Statements.{Statement, statements_of, slots_of_stmt, terms_in, terms_of_plain, arrays_of_plain}
+use Rattle.xmp_prog.specs.Statements.{Statement, statements_of, slots_of_stmt, terms_of_stmt, terms_in, terms_of_plain, arrays_of_plain}
+use Rattle.xmp_meaning.specs.declared.ends.End.TheVariants.{OutOfSteps}
+use Rattle.xmp_meaning.specs.Calls.{context}
 use Rattle.xmp_meaning.specs.Runs.{State, Step, Gave, Ended, Run, state_of, cell, set_cell}
 use Rattle.xmp_meaning.specs.Context.{Context}
 use Rattle.xmp_meaning.specs.Handlers.{Handlers, erased}
@@ -80,16 +84,79 @@ HandlersAreIdle X h cx s = IsTrue (list_all is_no_directive (statements_of s)) �
 
 -- ---- locality
 
--- states that have the same in some scalars and some arrays, and in all that is no variable
-pub record SameIn (X : Type 0) (S T : ℕ → Type 0) (s t : State X) : Type 0 where
-  pub scalars : (slot : ℕ) → S slot → slice_get s.scalars slot ≡ slice_get t.scalars slot
-  pub arrays : (array : ℕ) → T array → slice_get s.arrays array ≡ slice_get t.arrays array
+-- states that have the same in the scalars and the arrays that pass, and in all that is no variable
+pub record SameIn (X : Type 0) (slots arrays : ℕ → Bool) (s t : State X) : Type 0 where
+  pub scalars : (slot : ℕ) → IsTrue (slots slot) → slice_get s.scalars slot ≡ slice_get t.scalars slot
+  pub rows : (array : ℕ) → IsTrue (arrays array) → slice_get s.arrays array ≡ slice_get t.arrays array
   pub out : s.out ≡ t.out
   pub taken : s.taken ≡ t.taken
   pub steps : s.steps ≡ t.steps
   pub extra : s.extra ≡ t.extra
 
 -- from states that have the same in what a statement names, it does the same, and they still have
-abbrev pub IsLocal : (X : Type 0) → Context → Stmt → Type 1
-IsLocal X cx s = (S T : ℕ → Type 0) → AllByRecursion S (slots_of_stmt cx.program s) → AllByRecursion T (arrays_of_stmt cx.program s)
-    → (a b : State X) → SameIn X S T a b → Alike (SameIn X S T) (stmt_of erased cx s a) (stmt_of erased cx s b)
+abbrev pub IsLocal : (X : Type 0) → Context → Stmt → Type 0
+IsLocal X cx s = (slots arrays : ℕ → Bool) → IsTrue (list_all slots (slots_of_stmt cx.program s)) → IsTrue (list_all arrays (arrays_of_stmt cx.program s))
+    → (a b : State X) → SameIn X slots arrays a b → Alike (SameIn X slots arrays) (stmt_of erased cx s a) (stmt_of erased cx s b)
+
+-- ---- the output
+
+-- the state with more text in front of its output
+abbrev pub behind : {X : Type 0} → List ℕ → State X → State X
+behind text s = record s { out = text ++ s.out }
+
+-- a run doesn't look at its output: behind other output it does the same
+abbrev pub OutputUnseen : {X A : Type 0} → Run X A → Type 0
+OutputUnseen p = (text : List ℕ) (s : _) → Alike (λ a b. b ≡ behind text a) (p s) (p (behind text s))
+
+-- ---- steps
+
+-- a step that takes no step of uncounted loops, and isn't out of steps
+abbrev pub TakesNoStep : {X A : Type 0} → ℕ → Step X A → Type 0
+TakesNoStep left (Gave a s) = s.steps ≡ left
+TakesNoStep left (Ended e s) = (s.steps ≡ left) × (e ≢ OutOfSteps)
+
+-- whether a statement isn't an uncounted loop
+abbrev pub is_no_while : Statement → Bool
+is_no_while (Stmt-F.While e writes at) = false
+is_no_while _ = true
+
+-- whether a term calls such functions alone that pass a test
+abbrev pub calls_pass : (ℕ → Bool) → Term → Bool
+calls_pass test (Of (Expr-F.Call function arguments at)) = test function
+calls_pass test _ = true
+
+-- whether a statement has no uncounted loop, and calls functions alone that pass a test
+abbrev pub has_no_while : ProgParts → (ℕ → Bool) → Stmt → Bool
+has_no_while p test s = list_all is_no_while (statements_of s) && list_all (calls_pass test) (terms_of_stmt p s)
+
+abbrev pub function_has_none : ProgParts → (ℕ → Bool) → Option Function → Bool
+function_has_none p test None = true
+function_has_none p test (Some f) = has_no_while p test f.body
+
+-- whether function `k`, one of the first `n`, has no uncounted loop, nor has one that it calls; a function calls those before it alone
+abbrev pub is_without : ProgParts → ℕ → ℕ → Bool
+is_without p zero k = true
+is_without p (suc n) k = if k == n then function_has_none p (is_without p n) (slice_get p.functions n) else is_without p n k
+
+-- without an uncounted loop, calls included, no step is taken, and a run isn't out of steps
+abbrev pub StepsStay : (X : Type 0) → ProgParts → ℕ → List ℕ → ℕ → Stmt → Type 0
+StepsStay X p node input n s = IsTrue (has_no_while p (is_without p n) s)
+    → (t : State X) → TakesNoStep t.steps (stmt_of erased (context p node input n) s t)
+
+-- ---- the input
+
+-- whether a statement isn't `scanf`, and whether it isn't `printf`
+abbrev pub is_no_scan : Statement → Bool
+is_no_scan (Stmt-F.Plain (plain.Scan to at)) = false
+is_no_scan _ = true
+
+abbrev pub is_no_print : Statement → Bool
+is_no_print (Stmt-F.Plain (plain.Print format arguments at)) = false
+is_no_print _ = true
+
+-- without `scanf` nothing of the input is read, and without `printf` nothing is written
+abbrev pub InputStays : (X : Type 0) → Context → Stmt → Type 0
+InputStays X cx s = IsTrue (list_all is_no_scan (statements_of s)) → (t : State X) → (state_of (stmt_of erased cx s t)).taken ≡ t.taken
+
+abbrev pub OutputStays : (X : Type 0) → Context → Stmt → Type 0
+OutputStays X cx s = IsTrue (list_all is_no_print (statements_of s)) → (t : State X) → (state_of (stmt_of erased cx s t)).out ≡ t.out

@@ -1,11 +1,39 @@
 // Laws of runs and of statements.
+ghost use Rattle.std.specs.Prelude.{ℕ, List};
+ghost use Rattle.xmp_prog.specs.declared.parts.ProgParts.{ProgParts};
 ghost use Rattle.xmp_prog.specs.declared.statements.Stmt.{Stmt};
 ghost use Rattle.xmp_meaning.specs.Context.{Context};
-ghost use Rattle.xmp_meaning.specs.Handlers.{erased};
+ghost use Rattle.xmp_meaning.specs.Handlers.{Handlers, erased};
 ghost use Rattle.xmp_meaning.specs.Statements.{stmt_of};
-ghost use Rattle.xmp_meaning_laws.specs.Laws.{ShapeStays};
+ghost use Rattle.xmp_meaning_laws.specs.Laws.{ShapeStays, HandlersAreIdle, IsLocal, OutputUnseen, StepsStay, InputStays, OutputStays};
 
 /// A statement leaves the number of scalars, of arrays and of each array's cells. Directives mean nothing here.
 pub fn shape_stays<X>()
     ensures { (cx : Context) (s : Stmt) → ShapeStays {X = X} (stmt_of erased cx s) }
+{}
+
+/// Where no directive stands, a statement does the same with all handlers that read and write cells where they lie.
+pub fn handlers_are_idle<X>()
+    ensures { (h : Handlers X) (cx : Context) (s : Stmt) → HandlersAreIdle X h cx s }
+{}
+
+/// Without an uncounted loop, in the functions that are called neither, no step is taken, and a run isn't out of steps.
+pub fn steps_stay<X>()
+    ensures { (p : ProgParts) (node : ℕ) (input : List ℕ) (n : ℕ) (s : Stmt) → StepsStay X p node input n s }
+{}
+
+/// A statement doesn't look at its output. Directives mean nothing here.
+pub fn output_is_unseen<X>()
+    ensures { (cx : Context) (s : Stmt) → OutputUnseen {X = X} (stmt_of erased cx s) }
+{}
+
+/// The input is read by `scanf` alone, and the output is written by `printf` alone. Directives mean nothing here.
+pub fn input_and_output_stay<X>()
+    ensures input { (cx : Context) (s : Stmt) → InputStays X cx s }
+    ensures output { (cx : Context) (s : Stmt) → OutputStays X cx s }
+{}
+
+/// A statement does the same from states that have the same in what it names. Directives mean nothing here.
+pub fn statements_are_local<X>()
+    ensures { (cx : Context) (s : Stmt) → IsLocal X cx s }
 {}

@@ -3,4 +3,7 @@
 
 mod laws;
 
-pub use laws::shape_stays;
+pub use laws::{
+    handlers_are_idle, input_and_output_stay, output_is_unseen, shape_stays,
+    statements_are_local, steps_stay,
+};
