@@ -10,3 +10,7 @@ pub mod Idle
 pub mod Local
 pub mod Unseen
 pub mod Stays
+pub mod Values
+pub mod Types
+pub mod Unasked
+pub mod Bounds

@@ -1,5 +1,5 @@
 -- Laws of runs and of statements.
-use Rattle.std.specs.Prelude.{◌≡◌, ◌≢◌, ◌++◌, ◌&&◌, ◌==◌, if◌then◌else◌, ℕ, zero, suc, ℤ, Option, Some, None, Bool, true, false, List, [], ◌∷◌, length, map, IsTrue, slice_get}
+use Rattle.std.specs.Prelude.{◌≡◌, ◌≢◌, ◌++◌, ◌&&◌, ◌||◌, not, is_none, ◌==◌, if◌then◌else◌, ℕ, zero, suc, ℤ, Option, Some, None, Result, Ok, Err, Bool, true, false, List, [], ◌∷◌, length, map, IsTrue, slice_get, ◌<◌, pos, unwrap_or}
 use Rattle.std.specs.List.{AllByRecursion, list_all, flat_map}
 use Rattle.xmp_prog.specs.declared.parts.ProgParts.{ProgParts}
 use Rattle.xmp_prog.specs.declared.statements.Plain.{Plain}
@@ -8,10 +8,23 @@ use Rattle.xmp_prog.specs.declared.statements.Stmt.{Stmt}
 use Rattle.xmp_prog.specs.declared.statements.Stmt.TheOpen.{Stmt-F}
 use Rattle.xmp_prog.specs.declared.expressions.Expr.TheOpen.{Expr-F}
 use Rattle.xmp_prog.specs.declared.parts.Function.{Function}
-use Rattle.xmp_prog.specs.Terms.{Term, Of, Element}
+use Rattle.xmp_prog.specs.Terms.{Term, Of, Element, type_of, terms_of}
 use Rattle.xmp_prog.specs.Statements.{Statement, statements_of, slots_of_stmt, terms_of_stmt, terms_in, terms_of_plain, arrays_of_plain}
 use Rattle.xmp_meaning.specs.declared.ends.End.TheVariants.{OutOfSteps}
-use Rattle.xmp_meaning.specs.Calls.{context}
+use Rattle.xmp_num.specs.declared.types.Ty.{Ty}
+use Rattle.xmp_num.specs.Arithmetic.{FitsType, binary_of}
+use Rattle.xmp_num.specs.declared.types.TrapKind.{TrapKind}
+use Rattle.xmp_prog.specs.declared.expressions.Expr.TheFolds.{fold-Expr}
+use Rattle.xmp_prog.specs.declared.expressions.Expr.{Expr}
+use Rattle.xmp_prog.specs.Tests.{constant_fits, operands_fit, choice_fits, counted_fits}
+use Rattle.xmp_prog.specs.Directives.{nest_counted}
+use Rattle.xmp_prog.specs.Fits.{node_count, PartsFit}
+use Rattle.xmp_meaning.specs.Cells.{read_in}
+use Rattle.xmp_meaning.specs.Declarations.{scalar_type, array_type, is_coarray}
+use Rattle.xmp_meaning.specs.Layouts.{Whole}
+use Rattle.xmp_meaning.specs.Expressions.{expr_of}
+use Rattle.xmp_meaning.specs.Programs.{program, beginning}
+use Rattle.xmp_meaning.specs.Calls.{context, main_context}
 use Rattle.xmp_meaning.specs.Runs.{State, Step, Gave, Ended, Run, state_of, cell, set_cell}
 use Rattle.xmp_meaning.specs.Context.{Context}
 use Rattle.xmp_meaning.specs.Handlers.{Handlers, erased}
@@ -160,3 +173,81 @@ InputStays X cx s = IsTrue (list_all is_no_scan (statements_of s)) → (t : Stat
 
 abbrev pub OutputStays : (X : Type 0) → Context → Stmt → Type 0
 OutputStays X cx s = IsTrue (list_all is_no_print (statements_of s)) → (t : State X) → (state_of (stmt_of erased cx s t)).out ≡ t.out
+
+-- ---- types
+
+-- each value that is read lies in its type: of a scalar, and of a cell
+pub record ValuesLie (X : Type 0) (p : ProgParts) (s : State X) : Type 0 where
+  pub scalars : (slot : ℕ) → FitsType (scalar_type p slot) (unwrap_or (slice_get s.scalars slot) (pos 0))
+  pub cells : (array : ℕ) (at : ℤ) → FitsType (array_type p array) (read_in s.arrays array at)
+
+-- the terms have types that fit each other
+pub record TermsFit (p : ProgParts) (terms : List Term) : Type 0 where
+  pub constants : IsTrue (list_all constant_fits terms)
+  pub operands : IsTrue (list_all operands_fit terms)
+  pub choices : IsTrue (list_all choice_fits terms)
+
+-- and the loops are counted by an int
+pub record TypesFit (p : ProgParts) (s : Stmt) : Type 0 where
+  pub terms : TermsFit p (terms_of_stmt p s)
+  pub counted : IsTrue (list_all (counted_fits p) (statements_of s))
+  pub nests : IsTrue (list_all (nest_counted p) (statements_of s))
+
+-- the value that a step gives lies in a type
+abbrev pub GivesA : {X : Type 0} → Ty → Step X ℤ → Type 0
+GivesA ty (Gave v s) = FitsType ty v
+GivesA ty (Ended e s) = Unit {0}
+
+-- an expression gives a value of its type, and all values still lie in theirs
+abbrev pub ExpressionsLie : (X : Type 0) → ProgParts → ℕ → List ℕ → ℕ → Expr → Type 0
+ExpressionsLie X p node input n e = node < node_count p → TermsFit p (terms_of p e) → (s : State X) → ValuesLie X p s
+    → GivesA (type_of p e) (expr_of erased (context p node input n) e s) × ValuesLie X p (state_of (expr_of erased (context p node input n) e s))
+
+-- after a statement all values lie in their types, where they did before
+abbrev pub StatementsLie : (X : Type 0) → ProgParts → ℕ → List ℕ → ℕ → Stmt → Type 0
+StatementsLie X p node input n s = node < node_count p → TypesFit p s → (t : State X) → ValuesLie X p t
+    → ValuesLie X p (state_of (stmt_of erased (context p node input n) s t))
+
+-- and so they do where a program ends whose parts fit
+abbrev pub ProgramsLie : (X : Type 0) → ProgParts → ℕ → List ℕ → ℕ → Type 0
+ProgramsLie X p node input steps = node < node_count p → PartsFit p → (extra : X)
+    → ValuesLie X p (state_of (program erased (main_context p node input) (beginning Whole p steps extra)))
+
+-- ---- the node's number
+
+-- whether a term asks neither for the node's number nor for its own cell of a coarray, and calls functions alone that pass a test
+abbrev pub asks_nothing : ProgParts → (ℕ → Bool) → Term → Bool
+asks_nothing p test (Of Expr-F.Node) = false
+asks_nothing p test (Of e) = calls_pass test (Of e)
+asks_nothing p test (Element a) = not (is_none a.image) || not (is_coarray p a.array)
+
+abbrev pub function_asks_nothing : ProgParts → (ℕ → Bool) → Option Function → Bool
+function_asks_nothing p test None = true
+function_asks_nothing p test (Some f) = list_all (asks_nothing p test) (terms_of_stmt p f.body)
+
+-- whether function `k`, one of the first `n`, doesn't ask for it, nor does one that it calls
+abbrev pub is_unasking : ProgParts → ℕ → ℕ → Bool
+is_unasking p zero k = true
+is_unasking p (suc n) k = if k == n then function_asks_nothing p (is_unasking p n) (slice_get p.functions n) else is_unasking p n k
+
+-- where nothing asks for it, the node's number is of no account
+abbrev pub NodeUnasked : (X : Type 0) → ProgParts → (node other : ℕ) → List ℕ → ℕ → Stmt → Type 0
+NodeUnasked X p node other input n s = IsTrue (list_all (asks_nothing p (is_unasking p n)) (terms_of_stmt p s))
+    → (t : State X) → stmt_of erased (context p node input n) s t ≡ stmt_of erased (context p other input n) s t
+
+-- ---- the bounds of counted loops
+
+-- the value that an operator gives; 0 where it traps
+abbrev pub value_or_zero : Result ℤ TrapKind → ℤ
+value_or_zero (Ok v) = v
+value_or_zero (Err kind) = pos 0
+
+-- the value of a bound, by the values of the scalars; 0 for what stands in no bound
+abbrev pub bound_step : (ℕ → ℤ) → Expr-F ℤ (Unit {0}) → ℤ
+bound_step read (Expr-F.Const v ty) = v
+bound_step read (Expr-F.Scalar slot at) = read slot
+bound_step read (Expr-F.Binary op ty a b at) = value_or_zero (binary_of op ty a b)
+bound_step read _ = pos 0
+
+abbrev pub bound_value : (ℕ → ℤ) → Expr → ℤ
+bound_value read = fold-Expr ℤ (Unit {0}) (bound_step read) (λ a. tt)

@@ -1,11 +1,12 @@
 // Laws of runs and of statements.
 ghost use Rattle.std.specs.Prelude.{ℕ, List};
 ghost use Rattle.xmp_prog.specs.declared.parts.ProgParts.{ProgParts};
+ghost use Rattle.xmp_prog.specs.declared.expressions.Expr.{Expr};
 ghost use Rattle.xmp_prog.specs.declared.statements.Stmt.{Stmt};
 ghost use Rattle.xmp_meaning.specs.Context.{Context};
 ghost use Rattle.xmp_meaning.specs.Handlers.{Handlers, erased};
 ghost use Rattle.xmp_meaning.specs.Statements.{stmt_of};
-ghost use Rattle.xmp_meaning_laws.specs.Laws.{ShapeStays, HandlersAreIdle, IsLocal, OutputUnseen, StepsStay, InputStays, OutputStays};
+ghost use Rattle.xmp_meaning_laws.specs.Laws.{ShapeStays, HandlersAreIdle, IsLocal, OutputUnseen, StepsStay, InputStays, OutputStays, ExpressionsLie, StatementsLie, ProgramsLie, NodeUnasked};
 
 /// A statement leaves the number of scalars, of arrays and of each array's cells. Directives mean nothing here.
 pub fn shape_stays<X>()
@@ -36,4 +37,16 @@ pub fn input_and_output_stay<X>()
 /// A statement does the same from states that have the same in what it names. Directives mean nothing here.
 pub fn statements_are_local<X>()
     ensures { (cx : Context) (s : Stmt) → IsLocal X cx s }
+{}
+
+/// Values lie in their types: what an expression gives, and all variables after it, after a statement and after a program.
+pub fn values_lie<X>()
+    ensures expressions { (p : ProgParts) (node : ℕ) (input : List ℕ) (n : ℕ) (e : Expr) → ExpressionsLie X p node input n e }
+    ensures statements { (p : ProgParts) (node : ℕ) (input : List ℕ) (n : ℕ) (s : Stmt) → StatementsLie X p node input n s }
+    ensures programs { (p : ProgParts) (node : ℕ) (input : List ℕ) (steps : ℕ) → ProgramsLie X p node input steps }
+{}
+
+/// Where nothing asks for it, in the functions that are called neither, the node's number is of no account.
+pub fn node_is_unasked<X>()
+    ensures { (p : ProgParts) (node other : ℕ) (input : List ℕ) (n : ℕ) (s : Stmt) → NodeUnasked X p node other input n s }
 {}
