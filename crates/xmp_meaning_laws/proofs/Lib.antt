@@ -14,3 +14,4 @@ pub mod Values
 pub mod Types
 pub mod Unasked
 pub mod Bounds
+pub mod CountedLoops

@@ -1,5 +1,5 @@
 -- Laws of runs and of statements.
-use Rattle.std.specs.Prelude.{◌≡◌, ◌≢◌, ◌++◌, ◌&&◌, ◌||◌, not, is_none, ◌==◌, if◌then◌else◌, ℕ, zero, suc, ℤ, Option, Some, None, Result, Ok, Err, Bool, true, false, List, [], ◌∷◌, length, map, IsTrue, slice_get, ◌<◌, pos, unwrap_or}
+use Rattle.std.specs.Prelude.{◌≡◌, ◌≢◌, ◌++◌, ◌&&◌, ◌||◌, not, is_none, ◌==◌, if◌then◌else◌, ℕ, zero, suc, ℤ, Option, Some, None, Result, Ok, Err, Bool, true, false, List, [], ◌∷◌, length, map, IsTrue, slice_get, ◌<◌, is_some, pos, unwrap_or}
 use Rattle.std.specs.List.{AllByRecursion, list_all, flat_map}
 use Rattle.xmp_prog.specs.declared.parts.ProgParts.{ProgParts}
 use Rattle.xmp_prog.specs.declared.statements.Plain.{Plain}
@@ -8,7 +8,7 @@ use Rattle.xmp_prog.specs.declared.statements.Stmt.{Stmt}
 use Rattle.xmp_prog.specs.declared.statements.Stmt.TheOpen.{Stmt-F}
 use Rattle.xmp_prog.specs.declared.expressions.Expr.TheOpen.{Expr-F}
 use Rattle.xmp_prog.specs.declared.parts.Function.{Function}
-use Rattle.xmp_prog.specs.Terms.{Term, Of, Element, type_of, terms_of}
+use Rattle.xmp_prog.specs.Terms.{Term, Of, Element, type_of, terms_of, slots_of_terms}
 use Rattle.xmp_prog.specs.Statements.{Statement, statements_of, slots_of_stmt, terms_of_stmt, terms_in, terms_of_plain, arrays_of_plain}
 use Rattle.xmp_meaning.specs.declared.ends.End.TheVariants.{OutOfSteps}
 use Rattle.xmp_num.specs.declared.types.Ty.{Ty}
@@ -30,7 +30,12 @@ use Rattle.xmp_meaning.specs.Context.{Context}
 use Rattle.xmp_meaning.specs.Handlers.{Handlers, erased}
 use Rattle.xmp_meaning.specs.Statements.{stmt_of}
 use Rattle.xmp_meaning.specs.Writes.{plain_arrays}
-use Rattle.xmp_meaning.specs.Laws.{with_extra, bare}
+use Rattle.xmp_meaning.specs.Laws.{with_extra, bare, KeepsScalar, IsCounted}
+use Rattle.xmp_meaning.specs.declared.ends.Flow.{Flow}
+use Rattle.xmp_prog.specs.declared.statements.LoopHead.{LoopHead}
+use Rattle.xmp_prog.specs.Counted.{is_counted}
+use Rattle.xmp_num.specs.declared.types.Ty.TheVariants.{Int}
+use Rattle.std.specs.Ordering.{int_eq}
 
 -- ---- the shape of a state
 
@@ -251,3 +256,19 @@ bound_step read _ = pos 0
 
 abbrev pub bound_value : (ℕ → ℤ) → Expr → ℤ
 bound_value read = fold-Expr ℤ (Unit {0}) (bound_step read) (λ a. tt)
+
+-- the value of a scalar in a state; 0 where there is none
+abbrev pub scalar_in : {X : Type 0} → State X → ℕ → ℤ
+scalar_in s slot = unwrap_or (slice_get s.scalars slot) (pos 0)
+
+-- whether a state has a loop's index, and in the scalars of its bound what another has
+abbrev pub keeps_bound : {X : Type 0} → ProgParts → LoopHead → State X → State X → Bool
+keeps_bound p head s t =
+    is_some (slice_get t.scalars head.index.number) && list_all (λ n. int_eq (scalar_in t n) (scalar_in s n)) (slots_of_terms (terms_of p head.to))
+
+-- a loop that a program's parts take for counted is counted, where its body leaves its index and the scalars of its bound
+abbrev pub LoopsAreCounted : (X : Type 0) → Handlers X → Context → LoopHead → Run X Flow → Type 0
+LoopsAreCounted X h cx head body = (writes : List ℕ) → IsTrue (is_counted cx.program head writes) → IsTrue (list_all constant_fits (terms_of cx.program head.to))
+    → AllByRecursion (λ slot. KeepsScalar {X = X} slot body) (head.index.number ∷ slots_of_terms (terms_of cx.program head.to))
+    → (s : State X) (from : ℤ) → FitsType Int from
+    → IsCounted X h cx head body (keeps_bound cx.program head s) from (bound_value (scalar_in s) head.to)

@@ -2,11 +2,14 @@
 ghost use Rattle.std.specs.Prelude.{ℕ, List};
 ghost use Rattle.xmp_prog.specs.declared.parts.ProgParts.{ProgParts};
 ghost use Rattle.xmp_prog.specs.declared.expressions.Expr.{Expr};
+ghost use Rattle.xmp_prog.specs.declared.statements.LoopHead.{LoopHead};
 ghost use Rattle.xmp_prog.specs.declared.statements.Stmt.{Stmt};
+ghost use Rattle.xmp_meaning.specs.declared.ends.Flow.{Flow};
+ghost use Rattle.xmp_meaning.specs.Runs.{Run};
 ghost use Rattle.xmp_meaning.specs.Context.{Context};
 ghost use Rattle.xmp_meaning.specs.Handlers.{Handlers, erased};
 ghost use Rattle.xmp_meaning.specs.Statements.{stmt_of};
-ghost use Rattle.xmp_meaning_laws.specs.Laws.{ShapeStays, HandlersAreIdle, IsLocal, OutputUnseen, StepsStay, InputStays, OutputStays, ExpressionsLie, StatementsLie, ProgramsLie, NodeUnasked};
+ghost use Rattle.xmp_meaning_laws.specs.Laws.{ShapeStays, HandlersAreIdle, IsLocal, OutputUnseen, StepsStay, InputStays, OutputStays, ExpressionsLie, StatementsLie, ProgramsLie, NodeUnasked, LoopsAreCounted};
 
 /// A statement leaves the number of scalars, of arrays and of each array's cells. Directives mean nothing here.
 pub fn shape_stays<X>()
@@ -49,4 +52,9 @@ pub fn values_lie<X>()
 /// Where nothing asks for it, in the functions that are called neither, the node's number is of no account.
 pub fn node_is_unasked<X>()
     ensures { (p : ProgParts) (node other : ℕ) (input : List ℕ) (n : ℕ) (s : Stmt) → NodeUnasked X p node other input n s }
+{}
+
+/// A loop that a program's parts take for counted is counted, where its body leaves its index and the scalars of its bound.
+pub fn loops_are_counted<X>()
+    ensures { (h : Handlers X) (cx : Context) (head : LoopHead) (body : Run X Flow) → LoopsAreCounted X h cx head body }
 {}
