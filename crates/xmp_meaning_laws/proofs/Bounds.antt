@@ -1,22 +1,20 @@
 -- The bound of a counted loop: its value, and that the loop is counted by it.
-use Rattle.std.proofs.Common.{◌≡◌, ◌<◌, ◌≤◌, ◌+◌, ◌*◌, ◌++◌, ◌==◌, ◌&&◌, ◌||◌, not, ℕ, zero, suc, ℤ, pos, negsuc, ◌+ℤ◌, Bool, true, false, true≢false, List, [], ◌∷◌, length, map, Option, Some, None, Result, Ok, Err, refl, sym, subst, ap, ◌∙◌, if◌then◌else◌, arith}
-use Rattle.std.specs.Prelude.{slice_get, slice_set, unwrap_or, int_le, int_lt, nat_le, nat_lt, ◌-ℤ◌, ◌*ℤ◌}
-use Rattle.std.specs.List.{AllByRecursion, list_all, flat_map}
-use Rattle.std.proofs.lemmas.Int.{ints}
+use Rattle.std.proofs.Common.{◌≡◌, ◌++◌, ℕ, ℤ, pos, true, false, true≢false, List, [], ◌∷◌, refl, sym, subst, ap, ◌∙◌}
+use Rattle.std.specs.Prelude.{slice_get, unwrap_or}
+use Rattle.std.specs.List.{AllByRecursion}
 use Rattle.xmp_num.specs.declared.types.Ty.{Ty}
 use Rattle.xmp_num.specs.declared.types.BinOp.{BinOp}
 use Rattle.xmp_num.specs.declared.types.BinOp.TheVariants as op
-use Rattle.xmp_num.specs.Arithmetic.{binary_of, wrap}
-use Rattle.xmp_prog.specs.declared.parts.ProgParts.{ProgParts}
+use Rattle.xmp_num.specs.Arithmetic.{binary_of}
 use Rattle.xmp_prog.specs.declared.expressions.Expr.{Expr, map-Expr}
 use Rattle.xmp_prog.specs.declared.expressions.Access.{Access}
-use Rattle.xmp_prog.specs.declared.expressions.Expr.TheOpen.{Expr-F, Access-F}
-use Rattle.xmp_prog.specs.declared.expressions.Expr.TheFolds.{ind-Expr, fold-Expr, fold-Access, fold-roll-Expr}
+use Rattle.xmp_prog.specs.declared.expressions.Expr.TheOpen.{Expr-F}
+use Rattle.xmp_prog.specs.declared.expressions.Expr.TheFolds.{ind-Expr, fold-Access, fold-roll-Expr}
 use Rattle.xmp_prog.specs.declared.expressions.Expr.TheViews.{roll-Expr}
 use Rattle.xmp_prog.specs.Terms.{Term, Typed, typed, typed_step, terms_of, slots_of_term, slots_of_terms}
 use Rattle.xmp_prog.specs.Terms as terms
 use Rattle.xmp_prog.specs.Counted.{is_bound_operator, is_bound_term}
-use Rattle.xmp_meaning.specs.Runs.{State, Step, Gave, Ended, Run, and_then, ◌>>=◌, pure, or_trap}
+use Rattle.xmp_meaning.specs.Runs.{State, Gave, Run, and_then, ◌>>=◌, or_trap}
 use Rattle.xmp_meaning.specs.Context.{Context}
 use Rattle.xmp_meaning.specs.Handlers.{Handlers}
 use Rattle.xmp_meaning.specs.Expressions.{Element, expr_of, element_of, expr_step, access_step}

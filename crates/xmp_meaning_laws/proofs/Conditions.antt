@@ -1,7 +1,7 @@
 -- Conditions on what stands in a text, and relations between runs that are kept where they are met.
-use Rattle.std.proofs.Common.{◌≡◌, ◌++◌, ℕ, ℤ, pos, Bool, List, [], ◌∷◌, map, Option, Some, None, Result, Ok, if◌then◌else◌}
+use Rattle.std.proofs.Common.{◌≡◌, ◌++◌, ℕ, ℤ, pos, Bool, List, [], ◌∷◌, None, Ok}
 use Rattle.std.specs.Prelude.{slice_get}
-use Rattle.std.specs.List.{AllByRecursion, flat_map}
+use Rattle.std.specs.List.{AllByRecursion}
 use Rattle.xmp_base.specs.declared.place.Place.{Place}
 use Rattle.xmp_num.specs.declared.types.TrapKind.{TrapKind}
 use Rattle.xmp_num.specs.declared.types.Ty.{Ty}
@@ -9,7 +9,7 @@ use Rattle.xmp_num.specs.declared.types.Ty.TheVariants.{Int}
 use Rattle.xmp_num.specs.declared.types.BinOp.{BinOp}
 use Rattle.xmp_num.specs.Arithmetic.{binary_of, wrap}
 use Rattle.xmp_map.specs.declared.grid.NodeSet.{NodeSet}
-use Rattle.xmp_prog.specs.declared.expressions.Expr.TheOpen.{Expr-F, Access-F}
+use Rattle.xmp_prog.specs.declared.expressions.Expr.TheOpen.{Expr-F}
 use Rattle.xmp_prog.specs.declared.statements.Name.{Name}
 use Rattle.xmp_prog.specs.declared.statements.LoopDirective.{LoopDirective}
 use Rattle.xmp_prog.specs.declared.statements.MoveSide.{MoveSide}
@@ -21,11 +21,11 @@ use Rattle.xmp_prog.specs.Fits.{node_count}
 use Rattle.xmp_prog.specs.Terms.{Term, Of, Element, call_type, result_of, slots_of_term}
 use Rattle.xmp_prog.specs.Statements.{Statement, terms_in, slots_beside, arrays_beside, plain_writes, indices_of}
 use Rattle.xmp_meaning.specs.declared.ends.Flow.{Flow}
-use Rattle.xmp_meaning.specs.Runs.{State, Step, RunIn, Run, ◌>>=◌, pure, trap, scalar, set_scalar, write, taken, set_taken}
+use Rattle.xmp_meaning.specs.Runs.{State, Step, Run, ◌>>=◌, pure, trap, scalar, set_scalar, write, taken, set_taken}
 use Rattle.xmp_meaning.specs.Declarations.{scalar_type, array_type}
 use Rattle.xmp_meaning.specs.Layouts.{Layout}
 use Rattle.xmp_meaning.specs.Context.{Context}
-use Rattle.xmp_meaning.specs.Handlers.{Handlers, TaskIn, TaskRun, Aim}
+use Rattle.xmp_meaning.specs.Handlers.{Handlers, TaskRun, Aim}
 use Rattle.xmp_meaning.specs.Expressions.{call, image_of}
 use Rattle.xmp_meaning.specs.Loops.{while_loop}
 use Rattle.xmp_meaning.specs.Writes.{plain_arrays}

@@ -1,20 +1,19 @@
 -- A loop that a program's parts take for counted is counted.
-use Rattle.std.proofs.Common.{◌≡◌, ◌<◌, ◌≤◌, ◌+◌, ◌*◌, ◌++◌, ◌==◌, ◌&&◌, ◌||◌, ◌≢◌, ◌⊎◌, inl, inr, not, ℕ, zero, suc, ℤ, pos, negsuc, ◌+ℤ◌, Bool, true, false, true≢false, List, [], ◌∷◌, length, map, Option, Some, None, refl, sym, subst, ap, ◌∙◌, if◌then◌else◌, arith}
-use Rattle.std.specs.Prelude.{slice_get, slice_set, unwrap_or, int_le, int_lt, nat_le, nat_lt, is_some}
-use Rattle.std.specs.List.{AllByRecursion, list_all, flat_map}
+use Rattle.std.proofs.Common.{◌≡◌, ◌≤◌, ◌+◌, ◌*◌, ◌==◌, ◌&&◌, ◌||◌, ◌≢◌, ◌⊎◌, inl, inr, not, ℕ, zero, suc, ℤ, pos, ◌+ℤ◌, Bool, true, false, true≢false, List, [], ◌∷◌, Some, refl, sym, subst, ap, ◌∙◌, arith}
+use Rattle.std.specs.Prelude.{slice_get, slice_set, unwrap_or, int_le, int_lt, nat_le, is_some}
+use Rattle.std.specs.List.{AllByRecursion, list_all}
 use Rattle.std.specs.Ordering.{int_eq}
 use Rattle.std.proofs.lemmas.Int.{ints, int_wrap_fits}
 use Rattle.std.proofs.lemmas.Bool.Decides.{Decides-int_eq}
 use Rattle.std.proofs.lemmas.Bool.{eqb-true, eq-eqb, leb-true}
 use Rattle.xmp_map.proofs.Counted.{and_left, and_right}
-use Rattle.xmp_num.specs.declared.types.Ty.{Ty}
 use Rattle.xmp_num.specs.declared.types.Ty.TheVariants.{Int}
 use Rattle.xmp_num.specs.Arithmetic.{FitsType, wrap, width_of}
 use Rattle.xmp_prog.specs.declared.parts.ProgParts.{ProgParts}
 use Rattle.xmp_prog.specs.declared.expressions.Expr.{Expr, map-Expr}
 use Rattle.xmp_prog.specs.declared.expressions.Access.{Access}
-use Rattle.xmp_prog.specs.declared.expressions.Expr.TheOpen.{Expr-F, Access-F}
-use Rattle.xmp_prog.specs.declared.expressions.Expr.TheFolds.{ind-Expr, fold-Expr, fold-Access, fold-roll-Expr}
+use Rattle.xmp_prog.specs.declared.expressions.Expr.TheOpen.{Expr-F}
+use Rattle.xmp_prog.specs.declared.expressions.Expr.TheFolds.{ind-Expr, fold-Access, fold-roll-Expr}
 use Rattle.xmp_prog.specs.declared.expressions.Expr.TheViews.{roll-Expr}
 use Rattle.xmp_prog.specs.declared.statements.LoopHead.{LoopHead}
 use Rattle.xmp_prog.specs.Numbers.{is_in, apart, same_type}
@@ -24,11 +23,10 @@ use Rattle.xmp_prog.specs.Tests.{constant_fits}
 use Rattle.xmp_prog.specs.Counted.{most_counted, is_int_scalar, is_bound_term, small_step, is_small_constant, is_counted}
 use Rattle.xmp_meaning.specs.declared.ends.Flow.{Flow}
 use Rattle.xmp_meaning.specs.declared.ends.Flow.TheVariants.{Next}
-use Rattle.xmp_meaning.specs.Runs.{State, Step, Gave, Ended, Run, state_of}
+use Rattle.xmp_meaning.specs.Runs.{State, Step, Gave, Run, state_of}
 use Rattle.xmp_meaning.specs.Context.{Context}
 use Rattle.xmp_meaning.specs.Handlers.{Handlers}
-use Rattle.xmp_meaning.specs.Expressions.{expr_of}
-use Rattle.xmp_meaning.specs.Loops.{is_inside, turn_count}
+use Rattle.xmp_meaning.specs.Loops.{is_inside}
 use Rattle.xmp_meaning.specs.Laws.{IsCounted, KeepsScalar}
 use Rattle.xmp_meaning.proofs.Counting.{turns_are_counted}
 use Rattle.xmp_meaning.proofs.Stays.{set_other}
@@ -260,9 +258,11 @@ module _ {X : Type 0} (h : Handlers X) (cx : Context) (head : LoopHead) (body : 
   index_set : (t : State X) (v : ℤ) → fits t ≡ true
       → (fits (record t { scalars = slice_set t.scalars index v }) ≡ true) × (slice_get (slice_set t.scalars index v) index ≡ Some v)
   index_set t v f =
-      let there : slice_get (slice_set t.scalars index v) index ≡ Some v = set_there t.scalars index v (index_there t f) in
-      (both_true (is_some (slice_get (slice_set t.scalars index v) index)) (list_all (Same s (record t { scalars = slice_set t.scalars index v })) slots) (ap is_some there)
-      (same_still s t (record t { scalars = slice_set t.scalars index v }) slots (others_set t v slots (others index slots index_apart)) (slots_same t f)), there)
+      let there : slice_get (slice_set t.scalars index v) index ≡ Some v = set_there t.scalars index v (index_there t f) in (
+        both_true (is_some (slice_get (slice_set t.scalars index v) index)) (list_all (Same s (record t { scalars = slice_set t.scalars index v })) slots) (ap is_some there)
+            (same_still s t (record t { scalars = slice_set t.scalars index v }) slots (others_set t v slots (others index slots index_apart)) (slots_same t f)),
+        there,
+      )
 
   small_facts : by_constant ≡ true → (int_le (wrap Int to) (pos 1073741823) ≡ true) × (head.step ≤ 1073741823)
   small_facts f =

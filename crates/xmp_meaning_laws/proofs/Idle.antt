@@ -1,19 +1,16 @@
 -- Where no directive stands, all handlers do the same.
-use Rattle.std.proofs.Common.{◌≡◌, ◌++◌, ℕ, ℤ, pos, Bool, true, false, true≢false, List, [], ◌∷◌, refl, sym, subst, ap, ◌∙◌, if◌then◌else◌}
+use Rattle.std.proofs.Common.{◌≡◌, ◌++◌, ℤ, pos, true, false, true≢false, refl, sym, subst, ap}
 use Rattle.std.specs.Prelude.{slice_get, slice_set, unwrap_or}
-use Rattle.std.specs.List.{AllByRecursion, list_all, flat_map}
-use Rattle.xmp_prog.specs.declared.statements.Plain.{Plain}
 use Rattle.xmp_prog.specs.declared.statements.Stmt.{Stmt}
-use Rattle.xmp_prog.specs.Terms.{Term}
-use Rattle.xmp_prog.specs.Statements.{Statement, statements_of, slots_in, terms_in}
-use Rattle.xmp_meaning.specs.Runs.{State, Step, Gave, Ended, Run, cell, set_cell}
+use Rattle.xmp_prog.specs.Statements.{statements_of}
+use Rattle.xmp_meaning.specs.Runs.{State, cell, set_cell}
 use Rattle.xmp_meaning.specs.Cells.{read_in, write_in}
 use Rattle.xmp_meaning.specs.Context.{Context}
 use Rattle.xmp_meaning.specs.Handlers.{Handlers, erased}
 use Rattle.xmp_meaning.specs.Statements.{stmt_of}
 use Rattle.xmp_meaning.specs.Laws.{with_extra, bare}
-use Rattle.xmp_meaning_laws.specs.Laws.{Alike, KeepsCells, HandlersAreIdle, is_no_directive, arrays_of_stmt}
-use Rattle.xmp_meaning_laws.proofs.Conditions.{Conditions, Two, one, twice, Anything, HandlersKeep, indices_beside}
+use Rattle.xmp_meaning_laws.specs.Laws.{KeepsCells, HandlersAreIdle, is_no_directive}
+use Rattle.xmp_meaning_laws.proofs.Conditions.{Conditions, twice, Anything, HandlersKeep}
 use Rattle.xmp_meaning_laws.proofs.Named.{named, all_of_test, all_of_each, statements_meet}
 use Rattle.xmp_meaning_laws.proofs.Watched.{No_type}
 use Rattle.xmp_meaning_laws.proofs.Simulated.{IsSimulation, Sided, Simulates, simulates, alike_of}

@@ -1,19 +1,17 @@
 -- A statement depends on what it names alone.
-use Rattle.std.proofs.Common.{◌≡◌, ◌++◌, ℕ, zero, suc, ℤ, pos, negsuc, Bool, true, List, [], ◌∷◌, Option, Some, None, refl, sym, subst, ap, ◌∙◌}
+use Rattle.std.proofs.Common.{◌≡◌, ◌++◌, ℕ, zero, suc, ℤ, pos, negsuc, Bool, true, List, [], ◌∷◌, refl, subst, ap}
 use Rattle.std.specs.Prelude.{slice_get, slice_set, unwrap_or}
-use Rattle.std.specs.List.{AllByRecursion, flat_map}
 use Rattle.xmp_prog.specs.declared.statements.Stmt.{Stmt}
 use Rattle.xmp_prog.specs.Statements.{statements_of}
-use Rattle.xmp_meaning.specs.Runs.{State, Run}
 use Rattle.xmp_meaning.specs.Cells.{row_in, read_in, write_in}
 use Rattle.xmp_meaning.specs.Context.{Context}
 use Rattle.xmp_meaning.specs.Handlers.{erased}
 use Rattle.xmp_meaning.specs.Statements.{stmt_of}
 use Rattle.xmp_meaning_laws.specs.Laws.{SameIn, IsLocal}
-use Rattle.xmp_meaning_laws.proofs.Conditions.{Conditions, Two, twice, Anything}
+use Rattle.xmp_meaning_laws.proofs.Conditions.{twice, Anything}
 use Rattle.xmp_meaning_laws.proofs.Named.{named, all_of_test, all_of_each, statements_meet}
 use Rattle.xmp_meaning_laws.proofs.Idle.{Free}
-use Rattle.xmp_meaning_laws.proofs.Simulated.{IsSimulation, Simulates, simulates, alike_of}
+use Rattle.xmp_meaning_laws.proofs.Simulated.{IsSimulation, simulates, alike_of}
 use Rattle.xmp_meaning_laws.proofs.WhereErased.{erased_keep}
 use Rattle.xmp_meaning_laws.proofs.WhereStatements.{kept_stmt}
 

@@ -1,15 +1,15 @@
 -- Conditions on the scalars, arrays and indices that a statement names, and on its terms and the statements in it.
-use Rattle.std.proofs.Common.{◌≡◌, ◌++◌, ◌&&◌, ℕ, ℤ, Bool, true, List, [], ◌∷◌, map}
+use Rattle.std.proofs.Common.{◌≡◌, ◌++◌, ℕ, Bool, true, List, [], ◌∷◌, map}
 use Rattle.std.specs.List.{AllByRecursion, list_all, flat_map}
 use Rattle.xmp_prog.specs.declared.parts.ProgParts.{ProgParts}
 use Rattle.xmp_prog.specs.declared.statements.Plain.{Plain}
 use Rattle.xmp_prog.specs.declared.statements.Plain.TheVariants as plain
 use Rattle.xmp_prog.specs.declared.statements.Stmt.TheOpen.{Stmt-F}
 use Rattle.xmp_prog.specs.Terms.{Term, slots_of_term, slots_of_terms}
-use Rattle.xmp_prog.specs.Statements.{Statement, terms_in, terms_of_plain, terms_of_head, slots_in, slots_beside, slots_of_plain, slots_of_side, slots_of_point, plain_writes, arrays_beside, arrays_of_plain, indices_of}
+use Rattle.xmp_prog.specs.Statements.{Statement, terms_in, terms_of_plain, slots_in, slots_beside, slots_of_plain, slots_of_side, slots_of_point, plain_writes, arrays_beside, arrays_of_plain, indices_of}
 use Rattle.xmp_meaning.specs.Writes.{plain_arrays}
 use Rattle.xmp_meaning_laws.specs.Laws.{arrays_of_term, arrays_in}
-use Rattle.xmp_meaning_laws.proofs.Conditions.{Conditions, TermMeets, TermsMeet, StatementMeets, set_beside, indices_beside, puts_beside, all_apart}
+use Rattle.xmp_meaning_laws.proofs.Conditions.{Conditions, TermsMeet, StatementMeets, set_beside, indices_beside, puts_beside, all_apart}
 use Rattle.xmp_map.proofs.Counted.{and_left, and_right}
 
 -- ---- lists

@@ -1,14 +1,12 @@
 -- What a statement leaves as it was: the steps without an uncounted loop, the input without `scanf`, the output without `printf`.
-use Rattle.std.proofs.Common.{◌≡◌, ◌≢◌, ◌++◌, ◌==◌, ℕ, zero, suc, ℤ, pos, Bool, true, false, true≢false, List, [], ◌∷◌, Option, Some, None, refl, sym, ap, ◌∙◌, subst, if◌then◌else◌}
-use Rattle.std.specs.Prelude.{slice_get, slice_set, unwrap_or}
-use Rattle.std.specs.List.{AllByRecursion, list_all, flat_map}
+use Rattle.std.proofs.Common.{◌≡◌, ◌≢◌, ◌==◌, ℕ, zero, suc, ℤ, Bool, true, false, true≢false, List, [], ◌∷◌, Option, Some, None, refl, sym, ◌∙◌, if◌then◌else◌}
+use Rattle.std.specs.Prelude.{slice_get, slice_set}
+use Rattle.std.specs.List.{AllByRecursion, list_all}
 use Rattle.xmp_base.specs.declared.place.Place.{Place}
 use Rattle.xmp_num.specs.declared.types.TrapKind.{TrapKind}
 use Rattle.xmp_meaning.specs.Declarations.{scalar_type}
-use Rattle.std.proofs.lemmas.Bool.{eqb-true}
 use Rattle.xmp_map.proofs.Counted.{and_left, and_right}
 use Rattle.xmp_num.specs.Arithmetic.{wrap}
-use Rattle.xmp_num.specs.declared.types.Ty.{Ty}
 use Rattle.xmp_prog.specs.declared.parts.ProgParts.{ProgParts}
 use Rattle.xmp_prog.specs.declared.parts.Function.{Function}
 use Rattle.xmp_prog.specs.declared.statements.Stmt.{Stmt}
@@ -18,17 +16,16 @@ use Rattle.xmp_meaning.specs.declared.ends.End.{End}
 use Rattle.xmp_meaning.specs.declared.ends.End.TheVariants.{OutOfSteps, Trapped}
 use Rattle.xmp_meaning.specs.declared.ends.Flow.{Flow}
 use Rattle.xmp_meaning.specs.Runs.{State, Step, Gave, Ended, Run, and_then, ◌>>=◌, pure, state_of}
-use Rattle.xmp_meaning.specs.Cells.{read_in, write_in}
 use Rattle.xmp_meaning.specs.Context.{Context}
 use Rattle.xmp_meaning.specs.Handlers.{erased}
 use Rattle.xmp_meaning.specs.Expressions.{after_call}
 use Rattle.xmp_meaning.specs.Statements.{stmt_of}
 use Rattle.xmp_meaning.specs.Calls.{frame, bind, returned, invoke_some, context, call_of}
 use Rattle.xmp_meaning_laws.specs.Laws.{TakesNoStep, StepsStay, InputStays, OutputStays, is_no_while, calls_pass, has_no_while, function_has_none, is_without, is_no_scan, is_no_print}
-use Rattle.xmp_meaning_laws.proofs.Conditions.{Conditions, Two, twice, Anything}
+use Rattle.xmp_meaning_laws.proofs.Conditions.{Anything}
 use Rattle.xmp_meaning_laws.proofs.Named.{named, all_of_test, all_of_each, statements_meet}
 use Rattle.xmp_meaning_laws.proofs.Idle.{Free}
-use Rattle.xmp_meaning_laws.proofs.Watched.{Watch, IsWatch, Watched, Watches, watches, No_type}
+use Rattle.xmp_meaning_laws.proofs.Watched.{Watch, IsWatch, Watched, watches, No_type}
 use Rattle.xmp_meaning_laws.proofs.WhereErased.{erased_keep}
 use Rattle.xmp_meaning_laws.proofs.WhereStatements.{kept_stmt}
 

@@ -1,7 +1,7 @@
 -- Values lie in their types.
-use Rattle.std.proofs.Common.{◌≡◌, ◌<◌, ◌≤◌, ◌++◌, ◌==◌, ◌&&◌, ◌||◌, ℕ, zero, suc, ℤ, pos, Bool, true, false, true≢false, List, [], ◌∷◌, length, replicate, map, Option, Some, None, refl, sym, subst, ap, ◌∙◌, if◌then◌else◌, arith}
+use Rattle.std.proofs.Common.{◌≡◌, ◌<◌, ◌≤◌, ◌++◌, ◌==◌, ℕ, zero, suc, ℤ, pos, Bool, true, false, true≢false, List, [], ◌∷◌, length, Option, Some, None, refl, sym, subst, if◌then◌else◌, arith}
 use Rattle.std.specs.Prelude.{slice_get, slice_set, unwrap_or}
-use Rattle.std.specs.List.{AllByRecursion, list_all, flat_map}
+use Rattle.std.specs.List.{AllByRecursion, flat_map}
 use Rattle.std.proofs.lemmas.Bool.{eqb-true}
 use Rattle.xmp_map.proofs.Counted.{and_left, and_right}
 use Rattle.xmp_map.proofs.GridLaws.{grid_small}
@@ -21,8 +21,8 @@ use Rattle.xmp_prog.specs.Directives.{nest_counted}
 use Rattle.xmp_prog.specs.Statements.{Statement, statements_of, terms_of_stmt, indices_of}
 use Rattle.xmp_prog.specs.Fits.{node_count, PartsFit, terms_of_program, statements_of_program}
 use Rattle.xmp_meaning.specs.declared.ends.Flow.{Flow}
-use Rattle.xmp_meaning.specs.Runs.{State, Step, StepIn, Gave, Ended, Run, RunIn, and_then, ◌>>=◌, pure, state_of}
-use Rattle.xmp_meaning.specs.Cells.{read_in, write_in}
+use Rattle.xmp_meaning.specs.Runs.{State, Step, Gave, Ended, Run, and_then, ◌>>=◌, pure, state_of}
+use Rattle.xmp_meaning.specs.Cells.{write_in}
 use Rattle.xmp_meaning.specs.Declarations.{scalar_type, array_type}
 use Rattle.xmp_meaning.specs.Context.{Context}
 use Rattle.xmp_meaning.specs.Handlers.{erased}
@@ -32,8 +32,8 @@ use Rattle.xmp_meaning.specs.Calls.{frame, bind, returned, invoke_some, context,
 use Rattle.xmp_meaning.specs.Layouts.{Whole, row_length}
 use Rattle.xmp_meaning.specs.Programs.{starts, program, beginning}
 use Rattle.xmp_meaning_laws.specs.Laws.{ValuesLie, TermsFit, TypesFit, GivesA, ExpressionsLie, StatementsLie, ProgramsLie}
-use Rattle.xmp_meaning_laws.proofs.Conditions.{Conditions, TermsMeet, KeepsWhere, HandlersKeep, Two, twice, Anything, indices_beside, all_apart, all_together}
-use Rattle.xmp_meaning_laws.proofs.Named.{named, all_of_test, all_of_each, all_of_two, all_mapped, statements_meet, terms_meet}
+use Rattle.xmp_meaning_laws.proofs.Conditions.{Conditions, TermsMeet, KeepsWhere, HandlersKeep, twice, Anything, indices_beside, all_apart, all_together}
+use Rattle.xmp_meaning_laws.proofs.Named.{named, all_of_test, all_of_each, statements_meet, terms_meet}
 use Rattle.xmp_meaning_laws.proofs.Idle.{Free}
 use Rattle.xmp_meaning_laws.proofs.Values.{zero_fits, one_fits, small_fits, wrap_fits, same_types, operator_fits, constant_lies, set_has, write_has, zero_read, zero_rows}
 use Rattle.xmp_meaning_laws.proofs.Watched.{Watch, IsWatch, Watched, Watches, watches}
@@ -70,9 +70,10 @@ head_int p head writes e = int_scalar (slice_get p.scalars head.index.number) (a
 
 nest_ints : (p : ProgParts) (heads : List LoopHead) (writes : List ℕ) → is_nest p heads writes ≡ true → AllByRecursion (IsInt p) (indices_of heads)
 nest_ints p [] writes e = tt
-nest_ints p (head ∷ heads) writes e =
-    (head_int p head (indices_of heads ++ writes) (and_left (is_counted p head (indices_of heads ++ writes)) (is_nest p heads writes) e),
-    nest_ints p heads writes (and_right (is_counted p head (indices_of heads ++ writes)) (is_nest p heads writes) e))
+nest_ints p (head ∷ heads) writes e = (
+  head_int p head (indices_of heads ++ writes) (and_left (is_counted p head (indices_of heads ++ writes)) (is_nest p heads writes) e),
+  nest_ints p heads writes (and_right (is_counted p head (indices_of heads ++ writes)) (is_nest p heads writes) e),
+)
 
 statement_ints : (p : ProgParts) (y : Statement) → counted_fits p y ≡ true → nest_counted p y ≡ true → AllByRecursion (IsInt p) (indices_beside y)
 statement_ints p (Stmt-F.Plain q) e f = tt
@@ -198,9 +199,10 @@ calls_lie p node input (suc n) k vs steps = at_test (k == n) refl (calls_lie p n
 
 pub expressions_lie : (X : Type 0) (p : ProgParts) (node : ℕ) (input : List ℕ) (n : ℕ) (e : Expr) → ExpressionsLie X p node input n e
 expressions_lie X p node input n e inside f s h =
-    let lies : _ = expression_lies (context p node input n) (calls_lie p node input n) inside e f s h in
-    (gives_lying (context p node input n) (calls_lie p node input n) inside (type_of p e) s (expr_of erased (context p node input n) e s) lies,
-    value_lies (context p node input n) (calls_lie p node input n) inside (FitsType (type_of p e)) s (expr_of erased (context p node input n) e s) lies)
+    let lies : _ = expression_lies (context p node input n) (calls_lie p node input n) inside e f s h in (
+      gives_lying (context p node input n) (calls_lie p node input n) inside (type_of p e) s (expr_of erased (context p node input n) e s) lies,
+      value_lies (context p node input n) (calls_lie p node input n) inside (FitsType (type_of p e)) s (expr_of erased (context p node input n) e s) lies,
+    )
 
 pub statements_lie : (X : Type 0) (p : ProgParts) (node : ℕ) (input : List ℕ) (n : ℕ) (s : Stmt) → StatementsLie X p node input n s
 statements_lie X p node input n s inside f t h =
@@ -217,8 +219,10 @@ programs_lie X p node input steps inside f extra =
     (kept_then k kh {p' = starts erased cx p.start} {q' = stmt_of erased cx p.body} (kept_starts k kh p.start (all_of_each Free (λ n. tt) _) (met starts_terms both.0))
     (kept_stmt k kh p.body (statements_meet p Free Free (IsInt p) TermFits Free (statements_of p.body) (all_of_each Free (λ y. tt) _) (all_of_each Free (λ n. tt) _)
     (all_of_each Free (λ n. tt) _) (index_ints p (statements_of p.body) counted nests) (all_apart TermFits function_terms (terms_of_stmt p p.body) both.1).1))
-    start (record { scalars = λ slot. subst (FitsType (scalar_type p slot)) (sym (zero_read (length p.scalars) slot)) (zero_fits (scalar_type p slot));
-      cells = λ array at. subst (FitsType (array_type p array)) (sym (zero_rows (λ a. row_length Whole p a) p.arrays array at)) (zero_fits (array_type p array)) }))
+    start (record {
+      scalars = λ slot. subst (FitsType (scalar_type p slot)) (sym (zero_read (length p.scalars) slot)) (zero_fits (scalar_type p slot));
+      cells = λ array at. subst (FitsType (array_type p array)) (sym (zero_rows (λ a. row_length Whole p a) p.arrays array at)) (zero_fits (array_type p array));
+    }))
   where
     cx : Context
     cx = main_context p node input

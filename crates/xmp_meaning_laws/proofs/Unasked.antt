@@ -1,28 +1,25 @@
 -- Where nothing asks for it, the node's number is of no account.
-use Rattle.std.proofs.Common.{◌≡◌, ◌++◌, ◌==◌, ◌||◌, not, ℕ, zero, suc, ℤ, pos, Bool, true, false, true≢false, List, [], ◌∷◌, Option, Some, None, refl, sym, subst, ap, ◌∙◌, if◌then◌else◌}
-use Rattle.std.specs.Prelude.{slice_get, slice_set, unwrap_or, is_none}
-use Rattle.std.specs.List.{AllByRecursion, list_all}
-use Rattle.xmp_num.specs.declared.types.Ty.{Ty}
+use Rattle.std.proofs.Common.{◌≡◌, ◌++◌, ◌==◌, ◌||◌, not, ℕ, zero, suc, ℤ, pos, Bool, true, false, true≢false, List, [], Option, Some, None, refl, sym, ap, ◌∙◌, if◌then◌else◌}
+use Rattle.std.specs.Prelude.{slice_get, slice_set, unwrap_or}
+use Rattle.std.specs.List.{list_all}
 use Rattle.xmp_num.specs.Arithmetic.{wrap}
 use Rattle.xmp_prog.specs.declared.parts.ProgParts.{ProgParts}
 use Rattle.xmp_prog.specs.declared.parts.Function.{Function}
 use Rattle.xmp_prog.specs.declared.statements.Stmt.{Stmt}
-use Rattle.xmp_prog.specs.Terms.{Term}
 use Rattle.xmp_prog.specs.Statements.{statements_of, terms_of_stmt}
 use Rattle.xmp_meaning.specs.declared.ends.Flow.{Flow}
 use Rattle.xmp_meaning.specs.Runs.{State, Step, Gave, Ended, Run, and_then, ◌>>=◌, pure}
 use Rattle.xmp_meaning.specs.Cells.{read_in, write_in}
 use Rattle.xmp_meaning.specs.Declarations.{is_coarray}
 use Rattle.xmp_meaning.specs.Layouts.{Whole}
-use Rattle.xmp_meaning.specs.Context.{Context}
 use Rattle.xmp_meaning.specs.Handlers.{erased}
 use Rattle.xmp_meaning.specs.Statements.{stmt_of}
 use Rattle.xmp_meaning.specs.Calls.{frame, bind, returned, invoke_some, context, call_of}
-use Rattle.xmp_meaning_laws.specs.Laws.{Alike, asks_nothing, function_asks_nothing, is_unasking, NodeUnasked}
-use Rattle.xmp_meaning_laws.proofs.Conditions.{Conditions, Two, one, another, Anything}
+use Rattle.xmp_meaning_laws.specs.Laws.{asks_nothing, function_asks_nothing, is_unasking, NodeUnasked}
+use Rattle.xmp_meaning_laws.proofs.Conditions.{Two, Anything}
 use Rattle.xmp_meaning_laws.proofs.Named.{named, all_of_test, all_of_each, statements_meet}
 use Rattle.xmp_meaning_laws.proofs.Idle.{Free}
-use Rattle.xmp_meaning_laws.proofs.Simulated.{IsSimulation, Sided, Simulates, simulates}
+use Rattle.xmp_meaning_laws.proofs.Simulated.{IsSimulation, Sided, simulates}
 use Rattle.xmp_meaning_laws.proofs.WhereErased.{erased_keep}
 use Rattle.xmp_meaning_laws.proofs.WhereStatements.{kept_stmt}
 

@@ -1,9 +1,9 @@
 -- A run doesn't look at its output.
-use Rattle.std.proofs.Common.{◌≡◌, ◌++◌, ℕ, ℤ, pos, List, refl, sym, ap, ◌∙◌, append_assoc}
+use Rattle.std.proofs.Common.{◌≡◌, ◌++◌, ℕ, pos, List, refl, sym, ap, ◌∙◌, append_assoc}
 use Rattle.std.specs.Prelude.{slice_get, slice_set, unwrap_or}
 use Rattle.xmp_prog.specs.declared.statements.Stmt.{Stmt}
 use Rattle.xmp_prog.specs.Statements.{statements_of}
-use Rattle.xmp_meaning.specs.Runs.{State, Run}
+use Rattle.xmp_meaning.specs.Runs.{State}
 use Rattle.xmp_meaning.specs.Cells.{read_in, write_in}
 use Rattle.xmp_meaning.specs.Context.{Context}
 use Rattle.xmp_meaning.specs.Handlers.{erased}

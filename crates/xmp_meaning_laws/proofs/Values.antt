@@ -1,7 +1,7 @@
 -- What an operator gives lies in its type, and so does what is read after a write.
-use Rattle.std.proofs.Common.{◌≡◌, ◌<◌, ◌≤◌, ◌/◌, ◌^◌, ◌*ℤ◌, ◌+ℤ◌, ◌-ℤ◌, ◌&&◌, ◌||◌, ℕ, zero, suc, ℤ, pos, negsuc, Bool, true, false, true≢false, not, List, [], ◌∷◌, map, replicate, Option, Some, None, Result, Ok, Err, refl, sym, subst, ap, ◌∙◌, if◌then◌else◌, arith}
+use Rattle.std.proofs.Common.{◌≡◌, ◌≤◌, ◌/◌, ◌^◌, ◌*ℤ◌, ◌+ℤ◌, ◌-ℤ◌, ◌||◌, ℕ, zero, suc, ℤ, pos, negsuc, Bool, true, false, true≢false, not, List, [], ◌∷◌, map, replicate, Result, Ok, Err, refl, sym, subst, ap, if◌then◌else◌, arith}
 use Rattle.std.specs.Prelude.{slice_get, slice_set, unwrap_or, int_lt, int_le, int_div, int_rem, nat_lt}
-use Rattle.std.specs.Int.{int_div_euclid, int_bit_and, int_bit_or, int_bit_xor, w64}
+use Rattle.std.specs.Int.{int_div_euclid}
 use Rattle.std.specs.Ordering.{int_eq}
 use Rattle.std.proofs.lemmas.Int.{ints, SFits-int_wrap}
 use Rattle.std.proofs.Math.Nat.{div-le_self}

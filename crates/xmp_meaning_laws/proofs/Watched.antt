@@ -1,5 +1,5 @@
 -- What holds of each state that a run reaches, what it may change, how it may end, and what its value is: one relation that keeps all of these.
-use Rattle.std.proofs.Common.{◌≡◌, ◌++◌, ℕ, zero, suc, ℤ, pos, Bool, true, false, List, Option, None, Ok, refl}
+use Rattle.std.proofs.Common.{◌≡◌, ◌++◌, ℕ, zero, suc, ℤ, pos, Bool, true, false, List, Ok, refl}
 use Rattle.std.specs.Prelude.{slice_get, slice_set, unwrap_or}
 use Rattle.xmp_base.specs.declared.place.Place.{Place}
 use Rattle.xmp_num.specs.declared.types.TrapKind.{TrapKind}
@@ -7,25 +7,25 @@ use Rattle.xmp_num.specs.declared.types.Ty.{Ty}
 use Rattle.xmp_num.specs.declared.types.Ty.TheVariants.{Int}
 use Rattle.xmp_num.specs.declared.types.BinOp.{BinOp}
 use Rattle.xmp_num.specs.Arithmetic.{binary_of, wrap}
-use Rattle.xmp_prog.specs.declared.expressions.Expr.TheOpen.{Expr-F, Access-F}
+use Rattle.xmp_prog.specs.declared.expressions.Expr.TheOpen.{Expr-F}
 use Rattle.xmp_prog.specs.declared.expressions.Expr.{Expr}
 use Rattle.xmp_prog.specs.declared.statements.Target.{Target}
 use Rattle.xmp_prog.specs.declared.statements.Plain.TheVariants as plain
 use Rattle.xmp_prog.specs.declared.statements.Stmt.TheOpen.{Stmt-F}
 use Rattle.xmp_prog.specs.Fits.{node_count}
-use Rattle.xmp_prog.specs.Terms.{Term, Of, Element, call_type, result_of}
+use Rattle.xmp_prog.specs.Terms.{Of, call_type, result_of}
 use Rattle.xmp_meaning.specs.declared.ends.End.{End}
 use Rattle.xmp_meaning.specs.declared.ends.End.TheVariants.{Trapped, OutOfSteps}
 use Rattle.xmp_meaning.specs.declared.ends.Flow.{Flow}
 use Rattle.xmp_meaning.specs.declared.ends.Flow.TheVariants.{Next, Returned}
-use Rattle.xmp_meaning.specs.Runs.{State, Step, Gave, Ended, Run, and_then, ◌>>=◌, pure, step_of}
+use Rattle.xmp_meaning.specs.Runs.{State, Step, Gave, Ended, Run, and_then, pure, step_of}
 use Rattle.xmp_meaning.specs.Cells.{read_in, write_in}
 use Rattle.xmp_meaning.specs.Declarations.{scalar_type, array_type}
 use Rattle.xmp_meaning.specs.Blocks.{after, then_run, choose, turns}
 use Rattle.xmp_meaning.specs.Context.{Context}
-use Rattle.xmp_meaning.specs.Expressions.{call, image_of}
+use Rattle.xmp_meaning.specs.Expressions.{call}
 use Rattle.xmp_meaning.specs.Loops.{turn}
-use Rattle.xmp_meaning_laws.proofs.Conditions.{Conditions, Two, one, twice, Anything, KeepsWhere}
+use Rattle.xmp_meaning_laws.proofs.Conditions.{Conditions, twice, Anything, KeepsWhere}
 
 -- What is watched: what holds of states, what may differ between the state before and the state after, and which ends may come.
 pub record Watch (X : Type 0) : Type 1 where

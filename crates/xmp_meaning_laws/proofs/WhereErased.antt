@@ -1,5 +1,5 @@
 -- Where directives mean nothing the relation is kept, if it is kept by reading and writing cells.
-use Rattle.std.proofs.Common.{◌≡◌, ◌++◌, ℕ, ℤ, List, [], ◌∷◌, map}
+use Rattle.std.proofs.Common.{◌++◌, ℕ, ℤ, List, [], ◌∷◌, map}
 use Rattle.xmp_num.specs.declared.types.Ty.{Ty}
 use Rattle.xmp_meaning.specs.declared.ends.Flow.{Flow}
 use Rattle.xmp_meaning.specs.declared.ends.Flow.TheVariants.{Next, Returned}

@@ -1,8 +1,6 @@
 -- Expressions keep every relation whose conditions their terms meet.
 use Rattle.std.proofs.Common.{◌≡◌, ◌++◌, ℕ, ℤ, pos, Bool, true, false, not, List, [], ◌∷◌, map, Option, Some, None, Result, Ok, Err, refl, sym, subst, if◌then◌else◌}
-use Rattle.std.specs.Prelude.{slice_get}
-use Rattle.std.specs.List.{AllByRecursion, flat_map}
-use Rattle.std.specs.Option.{option_map}
+use Rattle.std.specs.List.{flat_map}
 use Rattle.xmp_base.specs.declared.place.Place.{Place}
 use Rattle.xmp_num.specs.declared.types.TrapKind.{TrapKind}
 use Rattle.xmp_num.specs.declared.types.TrapKind.TheVariants.{Subscript}
@@ -15,15 +13,14 @@ use Rattle.xmp_prog.specs.declared.expressions.Expr.TheOpen.{Expr-F, Access-F}
 use Rattle.xmp_prog.specs.declared.expressions.Expr.TheFolds.{ind-Expr, ind-Access, fold-Access, fold-roll-Expr, fold-roll-Access}
 use Rattle.xmp_prog.specs.declared.expressions.Expr.TheViews.{roll-Expr, roll-Access}
 use Rattle.xmp_prog.specs.declared.parts.ProgParts.{ProgParts}
-use Rattle.xmp_prog.specs.Fits.{node_count}
-use Rattle.xmp_prog.specs.Terms.{Typed, typed, typed_step, type_of, terms_of, terms_of_access} 
+use Rattle.xmp_prog.specs.Terms.{Typed, typed, typed_step, type_of, terms_of, terms_of_access}
 use Rattle.xmp_prog.specs.Terms as terms
 use Rattle.xmp_meaning.specs.Runs.{Run, ◌>>=◌, pure, or_trap}
-use Rattle.xmp_meaning.specs.Declarations.{extents, is_coarray, array_type}
+use Rattle.xmp_meaning.specs.Declarations.{extents, array_type}
 use Rattle.xmp_meaning.specs.Layouts.{number_of}
 use Rattle.xmp_meaning.specs.Context.{Context}
 use Rattle.xmp_meaning.specs.Handlers.{Handlers}
-use Rattle.xmp_meaning.specs.Expressions.{Element, expr_of, element_of, cell_number, cell_of, expr_step, access_step, checked, within, or_subscript, each, holds, is_zero, as_truth, natural, image_of}
+use Rattle.xmp_meaning.specs.Expressions.{Element, expr_of, element_of, cell_number, cell_of, expr_step, access_step, checked, within, or_subscript, each, holds, is_zero, as_truth, natural}
 use Rattle.xmp_meaning_laws.proofs.Conditions.{Conditions, TermMeets, TermsMeet, Two, one, another, Anything, Relation, KeepsWhere, HandlersKeep, all_apart}
 
 -- the same array, whose cells may be read, and related runs that give the subscripts and the image

@@ -7,7 +7,6 @@ use Rattle.xmp_num.specs.declared.types.Ty.{Ty}
 use Rattle.xmp_num.specs.declared.types.Ty.TheVariants.{Int}
 use Rattle.xmp_num.specs.Arithmetic.{binary_of, wrap}
 use Rattle.xmp_num.specs.Decimal.{scan_of}
-use Rattle.xmp_map.specs.declared.grid.NodeSet.{NodeSet}
 use Rattle.xmp_prog.specs.declared.parts.ProgParts.{ProgParts}
 use Rattle.xmp_prog.specs.declared.parts.Start.{Start}
 use Rattle.xmp_prog.specs.declared.expressions.Expr.{Expr}
@@ -25,10 +24,10 @@ use Rattle.xmp_prog.specs.declared.statements.Plain.TheVariants as plain
 use Rattle.xmp_prog.specs.declared.statements.Stmt.{Stmt, map-Stmt}
 use Rattle.xmp_prog.specs.declared.statements.Task.{Task, map-Task}
 use Rattle.xmp_prog.specs.declared.statements.Stmt.TheOpen.{Stmt-F, Task-F}
-use Rattle.xmp_prog.specs.declared.statements.Stmt.TheFolds.{ind-Stmt, fold-Stmt, fold-Task, fold-roll-Stmt, fold-roll-Task}
+use Rattle.xmp_prog.specs.declared.statements.Stmt.TheFolds.{ind-Stmt, fold-Task, fold-roll-Stmt, fold-roll-Task}
 use Rattle.xmp_prog.specs.declared.statements.Stmt.TheViews.{roll-Stmt, roll-Task}
 use Rattle.xmp_prog.specs.Terms.{Term, terms_of, terms_of_option, terms_of_list}
-use Rattle.xmp_prog.specs.Statements.{Statement, Walked, WalkedTask, walked, walk_step, walk_task, statements_of, terms_in, terms_of_target, terms_of_head, terms_of_part, terms_of_side, indices_of, slots_of_target, slots_of_side, arrays_of_side, slots_of_plain, slots_of_point, plain_writes}
+use Rattle.xmp_prog.specs.Statements.{Statement, Walked, WalkedTask, walked, walk_step, walk_task, terms_of_target, terms_of_head, terms_of_part, terms_of_side, indices_of, slots_of_target, slots_of_side, arrays_of_side, slots_of_point}
 use Rattle.xmp_meaning.specs.declared.location.Location.{Location}
 use Rattle.xmp_meaning.specs.declared.location.Location.TheVariants as location
 use Rattle.xmp_meaning.specs.declared.ends.Flow.{Flow}
@@ -44,7 +43,7 @@ use Rattle.xmp_meaning.specs.Assignments.{location_type, value_at, store, at_tar
 use Rattle.xmp_meaning.specs.Loops.{inside, is_inside, step_up, turn_count, entering, counted, nest}
 use Rattle.xmp_meaning.specs.Sections.{Chosen, One, Many, chosen, numbers, in_range, progression, section, subscripts, all_subscripts, cells_from, cells, cell_at, lengths, fit, name_of, lengths_fit, spread, aim, read_cell, store_all}
 use Rattle.xmp_meaning.specs.Statements.{plain_of, stmt_step, task_step, stmt_of}
-use Rattle.xmp_meaning.specs.Writes.{target_arrays, plain_arrays}
+use Rattle.xmp_meaning.specs.Writes.{target_arrays}
 use Rattle.xmp_meaning.specs.Programs.{starts}
 use Rattle.xmp_meaning.proofs.Keeps.{TasksAlike, AllAlike}
 use Rattle.xmp_meaning_laws.proofs.Conditions.{Conditions, TermMeets, TermsMeet, StatementMeets, Two, one, another, Anything, Relation, KeepsWhere, HandlersKeep, all_apart}
