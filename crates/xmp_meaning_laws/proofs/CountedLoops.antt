@@ -128,11 +128,11 @@ unit_step_up false e from to m f g h = next_fits from to m f g h
 
 -- ---- what the bound's scalars are
 
-both_true : (a b : Bool) → a ≡ true → b ≡ true → (a && b) ≡ true
+pub both_true : (a b : Bool) → a ≡ true → b ≡ true → (a && b) ≡ true
 both_true true b e f = f
 both_true false b e f = absurd (true≢false (sym e))
 
-neither : (a b : Bool) → not (a || b) ≡ true → (a ≡ false) × (not b ≡ true)
+pub neither : (a b : Bool) → not (a || b) ≡ true → (a ≡ false) × (not b ≡ true)
 neither true b e = absurd (true≢false (sym e))
 neither false b e = (refl, e)
 
@@ -142,7 +142,7 @@ others i (n ∷ ns) e =
     let parts : _ = neither (n == i) (is_in ns i) e in
     ((λ same. true≢false (sym (eq-eqb n i (sym same)) ∙ parts.0)), others i ns parts.1)
 
-set_there : (xs : List ℤ) (i : ℕ) (v : ℤ) → is_some (slice_get xs i) ≡ true → slice_get (slice_set xs i v) i ≡ Some v
+pub set_there : (xs : List ℤ) (i : ℕ) (v : ℤ) → is_some (slice_get xs i) ≡ true → slice_get (slice_set xs i v) i ≡ Some v
 set_there [] i v e = absurd (true≢false (sym e))
 set_there (x ∷ xs) zero v e = refl
 set_there (x ∷ xs) (suc i) v e = set_there xs i v e
@@ -168,7 +168,7 @@ module _ {X : Type 0} (s : State X) where
       (equal_of (scalar_in t n) (scalar_in s n) (and_left (Same t n) (list_all (Same t) ns) e), same_reads t ns (and_right (Same t n) (list_all (Same t) ns) e))
 
 -- six tests that all hold
-record Six (a b c d e f : Bool) : Type 0 where
+pub record Six (a b c d e f : Bool) : Type 0 where
   pub first : a ≡ true
   pub second : b ≡ true
   pub third : c ≡ true
@@ -176,7 +176,7 @@ record Six (a b c d e f : Bool) : Type 0 where
   pub fifth : e ≡ true
   pub sixth : f ≡ true
 
-six : (a b c d e f : Bool) → (a && (b && (c && (d && (e && f))))) ≡ true → Six a b c d e f
+pub six : (a b c d e f : Bool) → (a && (b && (c && (d && (e && f))))) ≡ true → Six a b c d e f
 six a b c d e f h =
     let after_first : _ = and_right a (b && (c && (d && (e && f)))) h in
     let after_second : _ = and_right b (c && (d && (e && f))) after_first in

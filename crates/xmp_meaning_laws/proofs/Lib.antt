@@ -15,3 +15,4 @@ pub mod Types
 pub mod Unasked
 pub mod Bounds
 pub mod CountedLoops
+pub mod Nests

@@ -9,7 +9,7 @@ use Rattle.xmp_prog.specs.declared.statements.Stmt.TheOpen.{Stmt-F}
 use Rattle.xmp_prog.specs.declared.expressions.Expr.TheOpen.{Expr-F}
 use Rattle.xmp_prog.specs.declared.parts.Function.{Function}
 use Rattle.xmp_prog.specs.Terms.{Term, Of, Element, type_of, terms_of, slots_of_terms}
-use Rattle.xmp_prog.specs.Statements.{Statement, statements_of, slots_of_stmt, terms_of_stmt, terms_in, terms_of_plain, arrays_of_plain}
+use Rattle.xmp_prog.specs.Statements.{Statement, statements_of, writes_of, indices_of, slots_of_stmt, terms_of_stmt, terms_in, terms_of_plain, arrays_of_plain}
 use Rattle.xmp_meaning.specs.declared.ends.End.TheVariants.{OutOfSteps}
 use Rattle.xmp_num.specs.declared.types.Ty.{Ty}
 use Rattle.xmp_num.specs.Arithmetic.{FitsType, binary_of}
@@ -25,15 +25,16 @@ use Rattle.xmp_meaning.specs.Layouts.{Whole}
 use Rattle.xmp_meaning.specs.Expressions.{expr_of}
 use Rattle.xmp_meaning.specs.Programs.{program, beginning}
 use Rattle.xmp_meaning.specs.Calls.{context, main_context}
-use Rattle.xmp_meaning.specs.Runs.{State, Step, Gave, Ended, Run, state_of, cell, set_cell}
+use Rattle.xmp_meaning.specs.Runs.{State, Step, Gave, Ended, Run, state_of, ◌>>=◌, scalar, cell, set_cell}
 use Rattle.xmp_meaning.specs.Context.{Context}
 use Rattle.xmp_meaning.specs.Handlers.{Handlers, erased}
 use Rattle.xmp_meaning.specs.Statements.{stmt_of}
 use Rattle.xmp_meaning.specs.Writes.{plain_arrays}
-use Rattle.xmp_meaning.specs.Laws.{with_extra, bare, KeepsScalar, IsCounted}
+use Rattle.xmp_meaning.specs.Laws.{with_extra, bare, KeepsScalar, IsCounted, repeated}
+use Rattle.xmp_meaning.specs.Loops.{entering, nest}
 use Rattle.xmp_meaning.specs.declared.ends.Flow.{Flow}
 use Rattle.xmp_prog.specs.declared.statements.LoopHead.{LoopHead}
-use Rattle.xmp_prog.specs.Counted.{is_counted}
+use Rattle.xmp_prog.specs.Counted.{is_counted, is_nest}
 use Rattle.xmp_num.specs.declared.types.Ty.TheVariants.{Int}
 use Rattle.std.specs.Ordering.{int_eq}
 
@@ -272,3 +273,22 @@ LoopsAreCounted X h cx head body = (writes : List ℕ) → IsTrue (is_counted cx
     → AllByRecursion (λ slot. KeepsScalar {X = X} slot body) (head.index.number ∷ slots_of_terms (terms_of cx.program head.to))
     → (s : State X) (from : ℤ) → FitsType Int from
     → IsCounted X h cx head body (keeps_bound cx.program head s) from (bound_value (scalar_in s) head.to)
+
+-- a counted loop by its count: the entry, and then so many turns, with no test, the index going up by the step each time
+abbrev pub by_count : {X : Type 0} → Handlers X → Context → LoopHead → Run X Flow → Run X Flow
+by_count h cx head body = do
+  n ← entering h cx head
+  from ← scalar head.index.number
+  repeated head n 0 from body
+
+-- a nest so, the outermost loop first
+abbrev pub nest_by_count : {X : Type 0} → Handlers X → Context → List LoopHead → Run X Flow → Run X Flow
+nest_by_count h cx [] body = body
+nest_by_count h cx (head ∷ heads) body = by_count h cx head (nest_by_count h cx heads body)
+
+-- a nest that a program's parts take for counted makes its turns by their count, where its indices are there
+abbrev pub NestsAreCounted : (X : Type 0) → Context → List LoopHead → Stmt → Type 0
+NestsAreCounted X cx heads body = IsTrue (is_nest cx.program heads (writes_of body))
+    → IsTrue (list_all constant_fits (flat_map (λ head. terms_of cx.program head.to) heads))
+    → (s : State X) → AllByRecursion (λ i. IsTrue (is_some (slice_get s.scalars i))) (indices_of heads)
+    → nest erased cx heads (stmt_of erased cx body) s ≡ nest_by_count erased cx heads (stmt_of erased cx body) s

@@ -9,7 +9,7 @@ ghost use Rattle.xmp_meaning.specs.Runs.{Run};
 ghost use Rattle.xmp_meaning.specs.Context.{Context};
 ghost use Rattle.xmp_meaning.specs.Handlers.{Handlers, erased};
 ghost use Rattle.xmp_meaning.specs.Statements.{stmt_of};
-ghost use Rattle.xmp_meaning_laws.specs.Laws.{ShapeStays, HandlersAreIdle, IsLocal, OutputUnseen, StepsStay, InputStays, OutputStays, ExpressionsLie, StatementsLie, ProgramsLie, NodeUnasked, LoopsAreCounted};
+ghost use Rattle.xmp_meaning_laws.specs.Laws.{ShapeStays, HandlersAreIdle, IsLocal, OutputUnseen, StepsStay, InputStays, OutputStays, ExpressionsLie, StatementsLie, ProgramsLie, NodeUnasked, LoopsAreCounted, NestsAreCounted};
 
 /// A statement leaves the number of scalars, of arrays and of each array's cells. Directives mean nothing here.
 pub fn shape_stays<X>()
@@ -57,4 +57,9 @@ pub fn node_is_unasked<X>()
 /// A loop that a program's parts take for counted is counted, where its body leaves its index and the scalars of its bound.
 pub fn loops_are_counted<X>()
     ensures { (h : Handlers X) (cx : Context) (head : LoopHead) (body : Run X Flow) → LoopsAreCounted X h cx head body }
+{}
+
+/// A nest that a program's parts take for counted makes its turns by their count. Directives mean nothing here.
+pub fn nests_are_counted<X>()
+    ensures { (cx : Context) (heads : List LoopHead) (body : Stmt) → NestsAreCounted X cx heads body }
 {}
