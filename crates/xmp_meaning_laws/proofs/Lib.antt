@@ -16,3 +16,4 @@ pub mod Unasked
 pub mod Bounds
 pub mod CountedLoops
 pub mod Nests
+pub mod Owners

@@ -19,6 +19,9 @@ use Rattle.xmp_prog.specs.declared.expressions.Expr.{Expr}
 use Rattle.xmp_prog.specs.Tests.{constant_fits, operands_fit, choice_fits, counted_fits}
 use Rattle.xmp_prog.specs.Directives.{nest_counted}
 use Rattle.xmp_prog.specs.Fits.{node_count, PartsFit}
+use Rattle.xmp_map.specs.declared.template.Template.{Template}
+use Rattle.xmp_map.specs.RowMajor.{product, unravel}
+use Rattle.xmp_map.specs.Spread.{owns_point}
 use Rattle.xmp_meaning.specs.Cells.{read_in}
 use Rattle.xmp_meaning.specs.Declarations.{scalar_type, array_type, is_coarray}
 use Rattle.xmp_meaning.specs.Layouts.{Whole}
@@ -292,3 +295,16 @@ NestsAreCounted X cx heads body = IsTrue (is_nest cx.program heads (writes_of bo
     → IsTrue (list_all constant_fits (flat_map (λ head. terms_of cx.program head.to) heads))
     → (s : State X) → AllByRecursion (λ i. IsTrue (is_some (slice_get s.scalars i))) (indices_of heads)
     → nest erased cx heads (stmt_of erased cx body) s ≡ nest_by_count erased cx heads (stmt_of erased cx body) s
+
+-- ---- the owner of a point
+
+-- a node below the count that owns a point of a template, and alone does
+pub record OneOwner (t : Template) (point : List ℤ) : Type 0 where
+  pub node : ℕ
+  pub below : node < product t.grid.sizes
+  pub owns : IsTrue (owns_point (unravel t.grid.sizes node) t.spread point)
+  pub only : (other : ℕ) → other < product t.grid.sizes → IsTrue (owns_point (unravel t.grid.sizes other) t.spread point) → other ≡ node
+
+-- each point of a template, one outside it too, has one owner
+abbrev pub PointsHaveOwners : Template → Type 0
+PointsHaveOwners t = (point : List ℤ) → length point ≡ t.dims → OneOwner t point

@@ -1,5 +1,6 @@
 // Laws of runs and of statements.
 ghost use Rattle.std.specs.Prelude.{ℕ, List};
+ghost use Rattle.xmp_map.specs.declared.template.Template.{Template};
 ghost use Rattle.xmp_prog.specs.declared.parts.ProgParts.{ProgParts};
 ghost use Rattle.xmp_prog.specs.declared.expressions.Expr.{Expr};
 ghost use Rattle.xmp_prog.specs.declared.statements.LoopHead.{LoopHead};
@@ -9,7 +10,7 @@ ghost use Rattle.xmp_meaning.specs.Runs.{Run};
 ghost use Rattle.xmp_meaning.specs.Context.{Context};
 ghost use Rattle.xmp_meaning.specs.Handlers.{Handlers, erased};
 ghost use Rattle.xmp_meaning.specs.Statements.{stmt_of};
-ghost use Rattle.xmp_meaning_laws.specs.Laws.{ShapeStays, HandlersAreIdle, IsLocal, OutputUnseen, StepsStay, InputStays, OutputStays, ExpressionsLie, StatementsLie, ProgramsLie, NodeUnasked, LoopsAreCounted, NestsAreCounted};
+ghost use Rattle.xmp_meaning_laws.specs.Laws.{ShapeStays, HandlersAreIdle, IsLocal, OutputUnseen, StepsStay, InputStays, OutputStays, ExpressionsLie, StatementsLie, ProgramsLie, NodeUnasked, LoopsAreCounted, NestsAreCounted, PointsHaveOwners};
 
 /// A statement leaves the number of scalars, of arrays and of each array's cells. Directives mean nothing here.
 pub fn shape_stays<X>()
@@ -62,4 +63,9 @@ pub fn loops_are_counted<X>()
 /// A nest that a program's parts take for counted makes its turns by their count. Directives mean nothing here.
 pub fn nests_are_counted<X>()
     ensures { (cx : Context) (heads : List LoopHead) (body : Stmt) → NestsAreCounted X cx heads body }
+{}
+
+/// Each point of a template, one outside it too, has exactly one owner among the nodes of the grid.
+pub fn points_have_owners()
+    ensures { (t : Template) → PointsHaveOwners t }
 {}
