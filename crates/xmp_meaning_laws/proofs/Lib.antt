@@ -17,3 +17,4 @@ pub mod Bounds
 pub mod CountedLoops
 pub mod Nests
 pub mod Owners
+pub mod Shadows

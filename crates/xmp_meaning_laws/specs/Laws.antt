@@ -1,5 +1,5 @@
 -- Laws of runs and of statements.
-use Rattle.std.specs.Prelude.{◌≡◌, ◌≢◌, ◌++◌, ◌&&◌, ◌||◌, not, is_none, ◌==◌, if◌then◌else◌, ℕ, zero, suc, ℤ, Option, Some, None, Result, Ok, Err, Bool, true, false, List, [], ◌∷◌, length, map, IsTrue, slice_get, ◌<◌, is_some, pos, unwrap_or}
+use Rattle.std.specs.Prelude.{◌≡◌, ◌≢◌, ◌≤◌, ◌+◌, ◌++◌, ◌&&◌, ◌||◌, not, is_none, ◌==◌, if◌then◌else◌, ℕ, zero, suc, ℤ, Option, Some, None, Result, Ok, Err, Bool, true, false, List, [], ◌∷◌, length, map, IsTrue, slice_get, ◌<◌, is_some, pos, unwrap_or}
 use Rattle.std.specs.List.{AllByRecursion, list_all, flat_map}
 use Rattle.xmp_prog.specs.declared.parts.ProgParts.{ProgParts}
 use Rattle.xmp_prog.specs.declared.statements.Plain.{Plain}
@@ -21,6 +21,9 @@ use Rattle.xmp_prog.specs.Directives.{nest_counted}
 use Rattle.xmp_prog.specs.Fits.{node_count, PartsFit}
 use Rattle.xmp_map.specs.declared.template.Template.{Template}
 use Rattle.xmp_map.specs.RowMajor.{product, unravel}
+use Rattle.xmp_dist.specs.declared.dimension.Dim.{Dim}
+use Rattle.xmp_dist.specs.Owner.{owner_inside}
+use Rattle.xmp_map.specs.Shadow.{has_shadow, holds_at}
 use Rattle.xmp_map.specs.Spread.{owns_point}
 use Rattle.xmp_meaning.specs.Cells.{read_in}
 use Rattle.xmp_meaning.specs.Declarations.{scalar_type, array_type, is_coarray}
@@ -308,3 +311,10 @@ pub record OneOwner (t : Template) (point : List ℤ) : Type 0 where
 -- each point of a template, one outside it too, has one owner
 abbrev pub PointsHaveOwners : Template → Type 0
 PointsHaveOwners t = (point : List ℤ) → length point ≡ t.dims → OneOwner t point
+
+-- ---- shadows
+
+-- a node that owns a position of a dimension holds each position within the shadow's widths of it; without a shadow the widths are 0
+abbrev pub ShadowIsHeld : Dim → Type 0
+ShadowIsHeld d = (node low high x y : ℕ) → x < d.size → owner_inside d x ≡ node → x ≤ y + low → y ≤ x + high
+    → (has_shadow d.dist ≡ false → (low ≡ 0) × (high ≡ 0)) → IsTrue (holds_at d node low high y)

@@ -1,5 +1,6 @@
 // Laws of runs and of statements.
 ghost use Rattle.std.specs.Prelude.{ℕ, List};
+ghost use Rattle.xmp_dist.specs.declared.dimension.Dim.{Dim};
 ghost use Rattle.xmp_map.specs.declared.template.Template.{Template};
 ghost use Rattle.xmp_prog.specs.declared.parts.ProgParts.{ProgParts};
 ghost use Rattle.xmp_prog.specs.declared.expressions.Expr.{Expr};
@@ -10,7 +11,7 @@ ghost use Rattle.xmp_meaning.specs.Runs.{Run};
 ghost use Rattle.xmp_meaning.specs.Context.{Context};
 ghost use Rattle.xmp_meaning.specs.Handlers.{Handlers, erased};
 ghost use Rattle.xmp_meaning.specs.Statements.{stmt_of};
-ghost use Rattle.xmp_meaning_laws.specs.Laws.{ShapeStays, HandlersAreIdle, IsLocal, OutputUnseen, StepsStay, InputStays, OutputStays, ExpressionsLie, StatementsLie, ProgramsLie, NodeUnasked, LoopsAreCounted, NestsAreCounted, PointsHaveOwners};
+ghost use Rattle.xmp_meaning_laws.specs.Laws.{ShapeStays, HandlersAreIdle, IsLocal, OutputUnseen, StepsStay, InputStays, OutputStays, ExpressionsLie, StatementsLie, ProgramsLie, NodeUnasked, LoopsAreCounted, NestsAreCounted, PointsHaveOwners, ShadowIsHeld};
 
 /// A statement leaves the number of scalars, of arrays and of each array's cells. Directives mean nothing here.
 pub fn shape_stays<X>()
@@ -68,4 +69,9 @@ pub fn nests_are_counted<X>()
 /// Each point of a template, one outside it too, has exactly one owner among the nodes of the grid.
 pub fn points_have_owners()
     ensures { (t : Template) → PointsHaveOwners t }
+{}
+
+/// A node that owns a position of a dimension holds each position within the shadow's widths of it.
+pub fn shadows_are_held()
+    ensures { (d : Dim) → ShadowIsHeld d }
 {}
