@@ -1,5 +1,5 @@
 -- What lies within the shadow's widths of an owned position is held.
-use Rattle.std.proofs.Common.{◌≡◌, ◌<◌, ◌≤◌, ◌+◌, ◌==◌, ◌&&◌, ◌||◌, ℕ, suc, Bool, true, false, true≢false, refl, sym, subst, ap, ◌∙◌, arith, eq-eqb, le-leb}
+use Rattle.std.proofs.Common.{◌≡◌, ◌<◌, ◌≤◌, ◌+◌, ◌==◌, ◌&&◌, ◌||◌, ℕ, suc, Bool, true, false, true≢false, refl, sym, subst, ◌∙◌, arith, eq-eqb, le-leb}
 use Rattle.std.specs.Prelude.{nat_lt, nat_le}
 use Rattle.xmp_dist.specs.declared.form.Dist.{Dist}
 use Rattle.xmp_dist.specs.declared.form.Dist.TheVariants.{Whole, Block, Cyclic, Gblock}
@@ -49,7 +49,7 @@ shadow_is_held d node low high x y inside owns below above none = at_shadow (has
     at_shadow : (b : Bool) → has_shadow d.dist ≡ b → holds_at d node low high y ≡ true
     at_shadow true e =
         let chunk : (nat_le start x && nat_lt x end) ≡ true =
-            sym (chunk_owner d.size d.nodes d.dist node x d.valid (chunked d.dist e) node_lt inside) ∙ eq-eqb (owner_inside d x) node owns in
+        sym (chunk_owner d.size d.nodes d.dist node x d.valid (chunked d.dist e) node_lt inside) ∙ eq-eqb (owner_inside d x) node owns in
         second (owner_inside d y == node) (has_shadow d.dist && is_near start end low high y)
         (both_true (has_shadow d.dist) (is_near start end low high y) e (near start end low high x y (leb-true start x (and_left (nat_le start x) (nat_lt x end) chunk)) (leb-true (suc x) end (and_right (nat_le start x) (nat_lt x end) chunk)) below above))
     at_shadow false e =

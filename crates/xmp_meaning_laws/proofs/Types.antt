@@ -52,7 +52,7 @@ IsInt p slot = scalar_type p slot ≡ Int
 abbrev pub typed_conditions : ProgParts → Conditions
 typed_conditions p = named Free Free (IsInt p) TermFits Free
 
-pub terms_fit : (p : ProgParts) (ts : List Term) → TermsFit p ts → AllByRecursion TermFits ts
+pub terms_fit : (p : ProgParts) (ts : List Term) → TermsFit ts → AllByRecursion TermFits ts
 terms_fit p ts f = three ts (all_of_test constant_fits ts f.constants) (all_of_test operands_fit ts f.operands) (all_of_test choice_fits ts f.choices)
   where
     three : (ts : List Term) → AllByRecursion (λ t. constant_fits t ≡ true) ts → AllByRecursion (λ t. operands_fit t ≡ true) ts
@@ -150,7 +150,7 @@ module _ {X : Type 0} (cx : Context) (calls : CallsLie cx) (inside : cx.node < n
     puts = λ row may at v lies s h. (write_lies s row at v lies h, tt, tt);
   }
 
-  pub expression_lies : (e : Expr) → TermsFit cx.program (terms_of cx.program e) → (s : State X) → ValuesLie X cx.program s
+  pub expression_lies : (e : Expr) → TermsFit (terms_of cx.program e) → (s : State X) → ValuesLie X cx.program s
       → Watched typed_watch (FitsType (type_of cx.program e)) s (expr_of erased cx e s)
   expression_lies e f s h = kept_expr (watches types_watched) (erased_keep (watches types_watched) cells_watched) e
       (terms_meet cx.program Free Free (IsInt cx.program) TermFits Free (terms_of cx.program e) (terms_fit cx.program (terms_of cx.program e) f)
@@ -210,7 +210,7 @@ statements_lie X p node input n s inside f t h =
     (statement_lies (context p node input n) (calls_lie p node input n) inside s f t h)
 
 -- all terms of a program whose parts fit
-program_fits : (p : ProgParts) → PartsFit p → TermsFit p (terms_of_program p)
+program_fits : (p : ProgParts) → PartsFit p → TermsFit (terms_of_program p)
 program_fits p f = record { constants = f.expressions.constants; operands = f.expressions.operands; choices = f.expressions.choices }
 
 pub programs_lie : (X : Type 0) (p : ProgParts) (node : ℕ) (input : List ℕ) (steps : ℕ) → ProgramsLie X p node input steps

@@ -194,14 +194,14 @@ pub record ValuesLie (X : Type 0) (p : ProgParts) (s : State X) : Type 0 where
   pub cells : (array : ℕ) (at : ℤ) → FitsType (array_type p array) (read_in s.arrays array at)
 
 -- the terms have types that fit each other
-pub record TermsFit (p : ProgParts) (terms : List Term) : Type 0 where
+pub record TermsFit (terms : List Term) : Type 0 where
   pub constants : IsTrue (list_all constant_fits terms)
   pub operands : IsTrue (list_all operands_fit terms)
   pub choices : IsTrue (list_all choice_fits terms)
 
 -- and the loops are counted by an int
 pub record TypesFit (p : ProgParts) (s : Stmt) : Type 0 where
-  pub terms : TermsFit p (terms_of_stmt p s)
+  pub terms : TermsFit (terms_of_stmt p s)
   pub counted : IsTrue (list_all (counted_fits p) (statements_of s))
   pub nests : IsTrue (list_all (nest_counted p) (statements_of s))
 
@@ -212,7 +212,7 @@ GivesA ty (Ended e s) = Unit {0}
 
 -- an expression gives a value of its type, and all values still lie in theirs
 abbrev pub ExpressionsLie : (X : Type 0) → ProgParts → ℕ → List ℕ → ℕ → Expr → Type 0
-ExpressionsLie X p node input n e = node < node_count p → TermsFit p (terms_of p e) → (s : State X) → ValuesLie X p s
+ExpressionsLie X p node input n e = node < node_count p → TermsFit (terms_of p e) → (s : State X) → ValuesLie X p s
     → GivesA (type_of p e) (expr_of erased (context p node input n) e s) × ValuesLie X p (state_of (expr_of erased (context p node input n) e s))
 
 -- after a statement all values lie in their types, where they did before
