@@ -1,0 +1,12 @@
+pub mod Objects
+pub mod Setting
+pub mod Reads
+pub mod Same
+pub mod Offsets
+pub mod Elements
+pub mod Forms
+pub mod Bounds
+pub mod PlainEvents
+pub mod LoopEvents
+pub mod Statements
+pub mod Program

@@ -1,0 +1,30 @@
+// What happens at each form of statement: one line a form.
+ghost use Rattle.std.specs.Prelude.{◌≡◌, ◌∷◌, List, map};
+ghost use Rattle.xmp_base.specs.declared.place.Place.{Place};
+ghost use Rattle.xmp_paths.specs.Plans.{in_order};
+ghost use Rattle.xmp_prog.specs.declared.expressions.Expr.{Expr};
+ghost use Rattle.xmp_prog.specs.declared.statements.LoopHead.{LoopHead};
+ghost use Rattle.xmp_prog.specs.declared.statements.LoopDirective.{LoopDirective};
+ghost use Rattle.xmp_prog.specs.declared.statements.Plain.{Plain};
+ghost use Rattle.xmp_prog.specs.declared.statements.Stmt.{Stmt};
+ghost use Rattle.xmp_prog.specs.declared.statements.Stmt.TheVariants as stmt;
+ghost use Rattle.xmp_prog.specs.declared.statements.Task.{Task};
+ghost use Rattle.xmp_flow.specs.Setting.{Setting, in_task, wrong_where};
+ghost use Rattle.xmp_flow.specs.PlainEvents.{plain_events};
+ghost use Rattle.xmp_flow.specs.LoopEvents.{loop_events};
+ghost use Rattle.xmp_flow.specs.Statements.{events_of, told, choice_events, while_events, counted_events};
+
+/// The events of each form of statement, by those of the statements in it.
+pub fn forms_of_plans()
+    ensures plain { (p : Plain) (s : Setting) → events_of (stmt.Plain p) s ≡ plain_events p s }
+    ensures block { (all : List Stmt) (s : Setting) → events_of (stmt.Block all) s ≡ in_order (map (λ x. events_of x s) all) }
+    ensures choice { (test : Expr) (a b : Stmt) (s : Setting) → events_of (stmt.If test a b) s ≡ choice_events test (told a) (told b) s }
+    ensures uncounted { (test : Expr) (body : Stmt) (at : Place) (s : Setting)
+        → events_of (stmt.While test body at) s ≡ while_events test (events_of body) at s }
+    ensures counted { (head : LoopHead) (body : Stmt) (s : Setting)
+        → events_of (stmt.Counted head body) s ≡ counted_events head (events_of body) s }
+    ensures directive { (d : LoopDirective) (body : Stmt) (s : Setting)
+        → events_of (stmt.Loop d body) s ≡ loop_events d body (events_of body) s }
+    ensures tasks { (all : List Task) (at : Place) (s : Setting)
+        → events_of (stmt.Tasks all at) s ≡ in_order (wrong_where s.inside 10 at ∷ map (λ t. events_of t.body (in_task s t.nodes)) all) }
+{}

@@ -1,0 +1,8 @@
+//! The rules on copies that are out of date: the events of each form of statement, and the plan of a program.
+#![tactic(auto)]
+
+mod laws;
+mod role;
+
+pub use laws::forms_of_plans;
+pub use role::Role;
