@@ -1,7 +1,7 @@
 // What happens at each form of statement: one line a form.
-ghost use Rattle.std.specs.Prelude.{◌≡◌, ◌∷◌, List, map};
+ghost use Rattle.std.specs.Prelude.{◌≡◌, ◌∷◌, [], List, map};
 ghost use Rattle.xmp_base.specs.declared.place.Place.{Place};
-ghost use Rattle.xmp_paths.specs.Plans.{in_order};
+ghost use Rattle.xmp_paths.specs.Plans.{branch, in_order};
 ghost use Rattle.xmp_prog.specs.declared.expressions.Expr.{Expr};
 ghost use Rattle.xmp_prog.specs.declared.statements.LoopHead.{LoopHead};
 ghost use Rattle.xmp_prog.specs.declared.statements.LoopDirective.{LoopDirective};
@@ -10,15 +10,17 @@ ghost use Rattle.xmp_prog.specs.declared.statements.Stmt.{Stmt};
 ghost use Rattle.xmp_prog.specs.declared.statements.Stmt.TheVariants as stmt;
 ghost use Rattle.xmp_prog.specs.declared.statements.Task.{Task};
 ghost use Rattle.xmp_flow.specs.Setting.{Setting, in_task, wrong_where};
-ghost use Rattle.xmp_flow.specs.PlainEvents.{plain_events};
+ghost use Rattle.xmp_flow.specs.Reads.{reads_of};
+ghost use Rattle.xmp_flow.specs.PlainEvents.{in_form, plain_events};
 ghost use Rattle.xmp_flow.specs.LoopEvents.{loop_events};
-ghost use Rattle.xmp_flow.specs.Statements.{events_of, told, choice_events, while_events, counted_events};
+ghost use Rattle.xmp_flow.specs.Statements.{events_of, if_form, while_events, counted_events};
 
 /// The events of each form of statement, by those of the statements in it.
 pub fn forms_of_plans()
     ensures plain { (p : Plain) (s : Setting) → events_of (stmt.Plain p) s ≡ plain_events p s }
     ensures block { (all : List Stmt) (s : Setting) → events_of (stmt.Block all) s ≡ in_order (map (λ x. events_of x s) all) }
-    ensures choice { (test : Expr) (a b : Stmt) (s : Setting) → events_of (stmt.If test a b) s ≡ choice_events test (told a) (told b) s }
+    ensures choice { (test : Expr) (a b : Stmt) (s : Setting) → events_of (stmt.If test a b) s
+        ≡ in_form s (in_order (reads_of test s ∷ branch (events_of a s) (events_of b s) ∷ [])) (if_form s test a b) }
     ensures uncounted { (test : Expr) (body : Stmt) (at : Place) (s : Setting)
         → events_of (stmt.While test body at) s ≡ while_events test (events_of body) at s }
     ensures counted { (head : LoopHead) (body : Stmt) (s : Setting)
