@@ -1,2 +1,3 @@
 pub mod ToldLaws
 pub mod FormLaws
+pub mod ReadLaws

@@ -4,5 +4,5 @@
 mod laws;
 mod role;
 
-pub use laws::forms_of_plans;
+pub use laws::{forms_of_plans, reads_of_forms};
 pub use role::Role;
