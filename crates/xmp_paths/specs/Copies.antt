@@ -54,4 +54,5 @@ Returns old new = ReturnsTo old.trail (set_of old) new
 
 -- the new copies may be out of date as the plan leaves the old
 abbrev pub CarriesOver : Plan Event → Copies → Copies → Type 0
-CarriesOver plan old new = (object node : ℕ) → may_be_stale new object node ≡ may_leave object node plan (may_be_stale old object node)
+CarriesOver plan old new =
+    (object node : ℕ) → may_be_stale new object node ≡ may_leave object node plan (may_be_stale old object node)

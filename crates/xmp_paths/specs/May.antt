@@ -1,4 +1,4 @@
--- The rules that break in a plan, by recursion on it: what the private contracts say of the code, and the laws above them.
+-- The rules that break in a plan, by recursion on it: the private contracts of the code cite it.
 use Rattle.std.specs.Prelude.{ℕ, ◌≡◌, Bool, true, ◌||◌, ◌⊎◌}
 use Rattle.xmp_paths.specs.NodeSets.{has}
 use Rattle.xmp_paths.specs.Plans.{Plan, skip, emit, sequence, branch, loop}

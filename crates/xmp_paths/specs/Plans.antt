@@ -1,7 +1,9 @@
--- Plans of events of any kind E, and the paths through them. Source: this project, for the ways through statements of ISO C, 6.8.
+-- Plans of events of any kind E, and the paths through them. Source: this project, after the ways through the
+-- statements of ISO C11, 6.8.
 use Rattle.std.specs.Prelude.{ℕ, zero, suc, ◌≡◌, List, [], ◌∷◌, ◌++◌, ◌⊎◌}
 
--- what happens in a program, without the program: nothing, one event, one part after another, either of two, or a part any number of times
+-- what happens in a program, without the program: nothing, one event, one part after another, either of two, or a
+-- part any number of times
 pub data Plan (E : Type 0) : Type 0 where
   skip : Plan E
   emit : E → Plan E

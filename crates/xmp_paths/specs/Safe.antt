@@ -14,7 +14,8 @@ left node events stale object = after_events object node events (stale object)
 -- on no path through the plan does the node read an object whose copy on it is out of date then
 pub record Safe (node : ℕ) (plan : Plan Event) (stale : ℕ → Bool) : Type 0 where
   pub never : (before after : List Event) (object nodes rule : ℕ) (at : Place) →
-      Path plan (before ++ Read object nodes rule at ∷ after) → has nodes node ≡ true → left node before stale object ≡ true → ⊥
+      Path plan (before ++ Read object nodes rule at ∷ after) → has nodes node ≡ true →
+      left node before stale object ≡ true → ⊥
 
 -- no rule breaks in the plan where it stands
 abbrev pub NothingWrong : Plan Event → Type 0

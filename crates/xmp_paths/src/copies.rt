@@ -42,7 +42,8 @@ impl Copies {
 
     // A table with this set, with no entry in the trail. It grows where it has to.
     fn set(&mut self, object: u64, nodes: u16) -> Result<(), AllocError>
-        ensures sets { OnOk result ((other : ℕ) → set_of self.new other ≡ (if object == other then nodes else set_of self.old other)) }
+        ensures sets { OnOk result ((other : ℕ) → set_of self.new other
+            ≡ (if object == other then nodes else set_of self.old other)) }
         ensures trail { self.new.trail ≡ self.old.trail }
     {
         let at = object as usize;
@@ -56,7 +57,8 @@ impl Copies {
 
     // Only a set that differs goes into the trail: so what a loop does again leaves no second entry.
     fn write(&mut self, object: u64, nodes: u16) -> Result<(), AllocError>
-        ensures sets { OnOk result ((other : ℕ) → set_of self.new other ≡ (if object == other then nodes else set_of self.old other)) }
+        ensures sets { OnOk result ((other : ℕ) → set_of self.new other
+            ≡ (if object == other then nodes else set_of self.old other)) }
         ensures returns { OnOk result (Returns self.old self.new) }
     {
         let was = self.get(object);
@@ -158,7 +160,8 @@ impl Copies {
 
     // Makes the changes, the first first.
     fn put(&mut self, changes: &[Change]) -> Result<(), AllocError>
-        ensures sets { OnOk result ((object : ℕ) → set_of self.new object ≡ put_at object changes.now (set_of self.old object)) }
+        ensures sets { OnOk result ((object : ℕ) → set_of self.new object
+            ≡ put_at object changes.now (set_of self.old object)) }
         ensures returns { OnOk result (Returns self.old self.new) }
     {
         'changes: for change in changes {
@@ -169,7 +172,8 @@ impl Copies {
 
     // Adds the changes' nodes to the sets of their objects.
     fn add(&mut self, changes: &[Change]) -> Result<(), AllocError>
-        ensures sets { OnOk result ((object : ℕ) → set_of self.new object ≡ add_at object changes.now (set_of self.old object)) }
+        ensures sets { OnOk result ((object : ℕ) → set_of self.new object
+            ≡ add_at object changes.now (set_of self.old object)) }
         ensures returns { OnOk result (Returns self.old self.new) }
     {
         'changes: for change in changes {
@@ -179,17 +183,19 @@ impl Copies {
         Ok(())
     }
 
-    // The copies that may be out of date now, and those that may be after the changes, made where the trail had so many entries.
+    // The copies that may be out of date now, and those that may be after the changes, made where the trail had so many
+    // entries.
     pub fn join(
         &mut self,
         alloc: Global,
         start: usize,
-        changes: &[Change],
+        changes: Items<Change>,
     ) -> Result<(), AllocError>
-        ensures sets { OnOk result ((object node : ℕ) → may_be_stale self.new object node ≡ (has (put_at object changes.now (set_before self.old start object)) node || may_be_stale self.old object node)) }
+        ensures sets { OnOk result ((object node : ℕ) → may_be_stale self.new object node
+            ≡ (has (put_at object changes (set_before self.old start object)) node || may_be_stale self.old object node)) }
         ensures returns { OnOk result (ReturnsTo (take start self.old.trail) (set_before self.old start) self.new) }
     {
-        let both = self.joined(alloc, changes)?;
+        let both = self.joined(alloc, changes.as_slice())?;
         let others = self.go_back(alloc, start)?;
         self.add(others.as_slice())?;
         self.put(both.as_slice())?;

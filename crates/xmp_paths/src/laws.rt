@@ -10,12 +10,14 @@ ghost use Rattle.xmp_paths.specs.Safe.{left, Safe, NothingWrong};
 
 /// Each plan has one verdict: the first rule that breaks in it, or that none does.
 pub fn one_verdict()
-    ensures some { (phase : Phase) (plan : Plan Event) → (found : Option Refusal) × IsFirst (in_phase phase (Breaks plan)) found }
+    ensures some { (phase : Phase) (plan : Plan Event)
+        → (found : Option Refusal) × IsFirst (in_phase phase (Breaks plan)) found }
     ensures one { (phase : Phase) (plan : Plan Event) (x y : Option Refusal)
         → IsFirst (in_phase phase (Breaks plan)) x → IsFirst (in_phase phase (Breaks plan)) y → x ≡ y }
 {}
 
-/// No rule breaks in a plan exactly where it is safe on each node, from copies that are all current, and nothing is wrong.
+/// No rule breaks in a plan exactly where it is safe on each node, from copies that are all current, and nothing in it
+/// is wrong.
 pub fn safe_or_broken()
     ensures { (plan : Plan Event) → ((b : Broken) → Breaks plan b → ⊥)
         ↔ (((node : ℕ) → Safe node plan (λ object. false)) × NothingWrong plan) }
@@ -29,6 +31,6 @@ pub fn safe_along_paths()
         ↔ (Safe node p stale × Safe node q stale) }
     ensures turns { (node : ℕ) (p : Plan Event) (stale : ℕ → Bool) → Safe node (loop p) stale
         ↔ Safe node (sequence p (loop p)) stale }
-    ensures fewer { (node : ℕ) (p : Plan Event) (stale less : ℕ → Bool) → ((object : ℕ) → less object ≡ true → stale object ≡ true)
-        → Safe node p stale → Safe node p less }
+    ensures fewer { (node : ℕ) (p : Plan Event) (stale less : ℕ → Bool)
+        → ((object : ℕ) → less object ≡ true → stale object ≡ true) → Safe node p stale → Safe node p less }
 {}

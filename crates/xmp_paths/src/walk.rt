@@ -1,7 +1,7 @@
 // Going through a tree: which copies may be out of date after it, and the first rule that breaks in it.
 ghost use Rattle.std.specs.Prelude.{◌≡◌, map, OnOk, IfOk};
 ghost use Rattle.xmp_base.specs.First.{IsFirst};
-ghost use Rattle.xmp_paths.specs.Plans.{in_order, branch, loop};
+ghost use Rattle.xmp_paths.specs.Plans.{emit, in_order, branch, loop};
 ghost use Rattle.xmp_paths.specs.Flows.{plan_of};
 ghost use Rattle.xmp_paths.specs.Rules.{in_phase};
 ghost use Rattle.xmp_paths.specs.May.{BreaksAt, BreaksFrom};
@@ -10,6 +10,7 @@ ghost use Rattle.xmp_paths.specs.Copies.{may_be_stale, CarriesOver, Returns};
 use crate::copies::Copies;
 use crate::event::{Event, Flow};
 use crate::node_sets::meets;
+use sqlite_items::Items;
 use std::alloc::{AllocError, Global};
 use xmp_base::{Phase, Refusal, earlier};
 
@@ -28,7 +29,7 @@ pub fn carry(alloc: Global, flow: &Flow, copies: &mut Copies) -> Result<(), Allo
             carry(alloc, left.get(), copies)?;
             let changes = copies.go_back(alloc, start)?;
             carry(alloc, right.get(), copies)?;
-            copies.join(alloc, start, changes.as_slice())?;
+            copies.join(alloc, start, changes)?;
             Ok(())
         }
         Flow::Loop(body) => carry_turns(alloc, body.get(), copies),
@@ -55,7 +56,7 @@ fn carry_turns(alloc: Global, body: &Flow, copies: &mut Copies) -> Result<(), Al
 {
     let start = copies.reached();
     carry(alloc, body, copies)?;
-    copies.join(alloc, start, &[])
+    copies.join(alloc, start, Items::new(alloc))
 }
 
 // The rule that breaks at an event, where one does.
@@ -74,6 +75,21 @@ fn judge(phase: Phase, event: &Event, copies: &Copies) -> Option<Refusal>
     }
 }
 
+// Judges an event, and marks the copies.
+fn inspect_event(
+    phase: Phase,
+    event: &Event,
+    copies: &mut Copies,
+) -> Result<Option<Refusal>, AllocError>
+    ensures first { IfOk result (λ found. IsFirst (in_phase phase (BreaksAt event.now (may_be_stale copies.old))) found) }
+    ensures carries { OnOk result (CarriesOver (emit event.now) copies.old copies.new) }
+    ensures returns { OnOk result (Returns copies.old copies.new) }
+{
+    let found = judge(phase, event, copies);
+    copies.mark(event)?;
+    Ok(found)
+}
+
 // Goes through a tree as `carry` does, and judges its events.
 #[cycle(inspect)]
 pub fn inspect(
@@ -82,23 +98,20 @@ pub fn inspect(
     flow: &Flow,
     copies: &mut Copies,
 ) -> Result<Option<Refusal>, AllocError>
-    ensures first { IfOk result (λ found. IsFirst (in_phase phase (BreaksFrom (plan_of flow.now) (may_be_stale copies.old))) found) }
+    ensures first { IfOk result (λ found.
+        IsFirst (in_phase phase (BreaksFrom (plan_of flow.now) (may_be_stale copies.old))) found) }
     ensures carries { OnOk result (CarriesOver (plan_of flow.now) copies.old copies.new) }
     ensures returns { OnOk result (Returns copies.old copies.new) }
 {
     match flow {
-        Flow::Emit(event) => {
-            let found = judge(phase, event, copies);
-            copies.mark(event)?;
-            Ok(found)
-        }
+        Flow::Emit(event) => inspect_event(phase, event, copies),
         Flow::Sequence(parts) => inspect_all(alloc, phase, parts.as_slice(), copies),
         Flow::Branch(left, right) => {
             let start = copies.reached();
             let first = inspect(alloc, phase, left.get(), copies)?;
             let changes = copies.go_back(alloc, start)?;
             let second = inspect(alloc, phase, right.get(), copies)?;
-            copies.join(alloc, start, changes.as_slice())?;
+            copies.join(alloc, start, changes)?;
             Ok(earlier(first, second))
         }
         Flow::Loop(body) => inspect_turns(alloc, phase, body.get(), copies),
@@ -113,7 +126,8 @@ fn inspect_all(
     parts: &[Flow],
     copies: &mut Copies,
 ) -> Result<Option<Refusal>, AllocError>
-    ensures first { IfOk result (λ found. IsFirst (in_phase phase (BreaksFrom (in_order (map plan_of parts.now)) (may_be_stale copies.old))) found) }
+    ensures first { IfOk result (λ found.
+        IsFirst (in_phase phase (BreaksFrom (in_order (map plan_of parts.now)) (may_be_stale copies.old))) found) }
     ensures carries { OnOk result (CarriesOver (in_order (map plan_of parts.now)) copies.old copies.new) }
     ensures returns { OnOk result (Returns copies.old copies.new) }
 {
@@ -133,7 +147,8 @@ fn inspect_turns(
     body: &Flow,
     copies: &mut Copies,
 ) -> Result<Option<Refusal>, AllocError>
-    ensures first { IfOk result (λ found. IsFirst (in_phase phase (BreaksFrom (loop (plan_of body.now)) (may_be_stale copies.old))) found) }
+    ensures first { IfOk result (λ found.
+        IsFirst (in_phase phase (BreaksFrom (loop (plan_of body.now)) (may_be_stale copies.old))) found) }
     ensures carries { OnOk result (CarriesOver (loop (plan_of body.now)) copies.old copies.new) }
     ensures returns { OnOk result (Returns copies.old copies.new) }
 {

@@ -17,9 +17,9 @@ carry-returns-in_ok-join-in-Branch-clause-carries t c =
     ∙ ap (λ f. branch (plan_of c.get.result.now) (plan_of f)) (sym c.get-in-Branch.ensures))) in
     subst (λ (p : Plan Event). CarriesOver p c.args.copies.now c.join.new.self) (sym e)
     (branch_end (plan_of c.get.result.now) (plan_of c.get-in-Branch.result.now) c.reached-start.result
-    c.args.copies.now c.carry.new.copies c.go_back.new.self c.carry-in-Branch.new.copies c.join.new.self c.as_slice-in-Branch.result.now
+    c.args.copies.now c.carry.new.copies c.go_back.new.self c.carry-in-Branch.new.copies c.join.new.self c.in_ok-changes-in-Branch.changes
     c.reached-start.ensures c.in_ok-carry-in-Branch.ensures.carries c.in_ok-carry-in-Branch.ensures.returns
-    (c.as_slice-in-Branch.ensures ∙ c.in_ok-changes-in-Branch.ensures.changes) c.in_ok-changes-in-Branch.ensures.sets c.in_ok-changes-in-Branch.ensures.trail
+    c.in_ok-changes-in-Branch.ensures.changes c.in_ok-changes-in-Branch.ensures.sets c.in_ok-changes-in-Branch.ensures.trail
     c.in_ok-carry-in-Branch-2.ensures.carries c.in_ok-carry-in-Branch-2.ensures.returns c.in_ok-join-in-Branch.ensures.sets)
 
 pub carry-returns-in-Loop-clause-carries : goal.carry-returns-in-Loop-clause-carries

@@ -13,10 +13,10 @@ use Rattle.xmp_paths.specs.declared.event.Event.{Event}
 use Rattle.xmp_paths.specs.declared.event.Flow.{Flow}
 use Rattle.xmp_paths.proofs.walk.+inspect.Goals as goal
 
-pub inspect-returns-in_ok-mark-in-Emit-clause-first : goal.inspect-returns-in_ok-mark-in-Emit-clause-first
-inspect-returns-in_ok-mark-in-Emit-clause-first t c =
-    subst (λ (p : Plan Event). IsFirst (in_phase c.args.phase (BreaksFrom p (may_be_stale c.args.copies.now))) c.judge-found.result)
-    (sym (ap plan_of c.in-Emit.is ∙ plan-emit c.in-Emit.event)) c.judge-found.ensures
+pub inspect-returns-in-Emit-clause-first : goal.inspect-returns-in-Emit-clause-first
+inspect-returns-in-Emit-clause-first t c =
+    subst (λ (p : Plan Event). IfOk c.inspect_event.result (λ found. IsFirst (in_phase c.args.phase (BreaksFrom p (may_be_stale c.args.copies.now))) found))
+    (sym (ap plan_of c.in-Emit.is ∙ plan-emit c.in-Emit.event)) c.inspect_event.ensures.first
 
 pub inspect-returns-in-Sequence-clause-first : goal.inspect-returns-in-Sequence-clause-first
 inspect-returns-in-Sequence-clause-first t c =
@@ -49,9 +49,9 @@ inspect-returns-in_ok-join-in-Branch-clause-carries t c =
     ∙ ap (λ f. branch (plan_of c.get.result.now) (plan_of f)) (sym c.get-in-Branch.ensures))) in
     subst (λ (p : Plan Event). CarriesOver p c.args.copies.now c.join.new.self) (sym e)
     (branch_end (plan_of c.get.result.now) (plan_of c.get-in-Branch.result.now) c.reached-start.result
-    c.args.copies.now c.inspect.new.copies c.go_back.new.self c.inspect-in-Branch.new.copies c.join.new.self c.as_slice-in-Branch.result.now
+    c.args.copies.now c.inspect.new.copies c.go_back.new.self c.inspect-in-Branch.new.copies c.join.new.self c.in_ok-changes-in-Branch.changes
     c.reached-start.ensures c.in_ok-first-in-Branch.ensures.carries c.in_ok-first-in-Branch.ensures.returns
-    (c.as_slice-in-Branch.ensures ∙ c.in_ok-changes-in-Branch.ensures.changes) c.in_ok-changes-in-Branch.ensures.sets c.in_ok-changes-in-Branch.ensures.trail
+    c.in_ok-changes-in-Branch.ensures.changes c.in_ok-changes-in-Branch.ensures.sets c.in_ok-changes-in-Branch.ensures.trail
     c.in_ok-second-in-Branch.ensures.carries c.in_ok-second-in-Branch.ensures.returns c.in_ok-join-in-Branch.ensures.sets)
 
 pub inspect-returns-in-Loop-clause-first : goal.inspect-returns-in-Loop-clause-first
