@@ -1,5 +1,6 @@
 pub mod Objects
 pub mod Setting
+pub mod Views
 pub mod Reads
 pub mod Same
 pub mod Offsets
