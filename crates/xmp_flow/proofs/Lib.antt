@@ -1,3 +1,4 @@
 pub mod ToldLaws
 pub mod FormLaws
 pub mod ReadLaws
+pub mod ReachLaws

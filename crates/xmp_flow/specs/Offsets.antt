@@ -1,6 +1,6 @@
 -- At which offset from the iteration's own element a loop directive accesses an array that is aligned with its template.
 -- Source: this project, after the on clause of the loop construct and the align directive of XcalableMP 1.4.
-use Rattle.std.specs.Prelude.{ℕ, ◌==◌, Bool, true, false, ◌&&◌, not, List, [], ◌∷◌, slice_get, ℤ, pos, neg_ℤ, ◌+ℤ◌, ◌-ℤ◌, int_le, Option, Some, None, if◌then◌else◌}
+use Rattle.std.specs.Prelude.{ℕ, ◌==◌, Bool, true, false, ◌&&◌, not, List, [], ◌∷◌, slice_get, ℤ, pos, neg_ℤ, ◌+ℤ◌, ◌-ℤ◌, ◌≤ℤ◌, int_le, Option, Some, None, if◌then◌else◌}
 use Rattle.std.specs.Option.{option_map}
 use Rattle.xmp_num.specs.declared.types.BinOp.{BinOp}
 use Rattle.xmp_num.specs.declared.types.BinOp.TheVariants as op
@@ -24,7 +24,11 @@ pub record Offset : Type 0 where
 
 -- the constant that an expression is, of at most 4,194,304 in size
 abbrev pub small : ℤ → Option ℤ
-small c = if int_le c (pos 4194304) && int_le (neg_ℤ c) (pos 4194304) then Some c else None
+small c = if int_le (neg_ℤ (pos 4194304)) c && int_le c (pos 4194304) then Some c else None
+
+-- what is then known of its size
+abbrev pub IsSmall : ℤ → Type 0
+IsSmall c = (neg_ℤ (pos 4194304) ≤ℤ c) × (c ≤ℤ pos 4194304)
 
 abbrev pub constant_in : Expr-F Expr Access → Option ℤ
 constant_in (Expr-F.Const v ty) = small v

@@ -1,12 +1,18 @@
 //! The rules on copies that are out of date: the events of each form of statement, and the plan of a program.
 #![tactic(auto)]
 
+mod elements;
 mod laws;
+mod offsets;
+mod expressions;
 mod role;
 mod scalars;
 mod setting;
 
+pub use elements::{element_read, element_write, home_of};
 pub use laws::{forms_of_plans, reads_of_forms};
+pub use offsets::Reach;
+pub use expressions::{reads, reads_of_each, with};
 pub use role::Role;
 pub use scalars::{assigned, is_written, loops, read_scalar, role_at, wrong_where};
 pub use setting::Around;
