@@ -2,3 +2,4 @@ pub mod ToldLaws
 pub mod FormLaws
 pub mod ReadLaws
 pub mod ReachLaws
+pub mod SameLaws

@@ -74,9 +74,9 @@ own_scalars d body = filter (λ slot. is_own (role_in d body slot)) (scalars_wri
 abbrev pub head_events : Setting → LoopDirective → Stmt → (outer : List ℕ) → LoopHead → Plan Event
 head_events s d body outer h = in_order (
   reads_of h.from (at_bounds d body s)
-  ∷ wrong_where (not (is_bound s.program outer (scalars_of d body) h.from)) 12 h.from_at
+  ∷ wrong_where (not (is_bound outer (scalars_of d body) h.from)) 12 h.from_at
   ∷ reads_of h.to (at_bounds d body s)
-  ∷ wrong_where (not (is_bound s.program outer (scalars_of d body) h.to)) 12 h.to_at
+  ∷ wrong_where (not (is_bound outer (scalars_of d body) h.to)) 12 h.to_at
   ∷ wrong_where (is_reduced (role_in d body h.index.number)) 5 h.index.at
   ∷ [])
 

@@ -88,7 +88,7 @@ cast s from v = in_order (emit (Read (scalar_object v.number) (nodes_in s.progra
 
 -- a number of a gmove
 abbrev pub number_events : Setting → Number → Plan Event
-number_events s n = in_order (reads_of n.value (in_move s) ∷ wrong_where (not (is_number s.program n.value)) 12 n.at ∷ [])
+number_events s n = in_order (reads_of n.value (in_move s) ∷ wrong_where (not (is_number n.value)) 12 n.at ∷ [])
 
 abbrev pub part_events : Setting → Part → Plan Event
 part_events s (part.One n) = number_events s n

@@ -6,7 +6,7 @@ use Rattle.xmp_num.specs.declared.types.BinOp.TheVariants as op
 use Rattle.xmp_prog.specs.Numbers.{same_type}
 use Rattle.xmp_prog.specs.declared.expressions.Expr.{Expr, out-Expr}
 use Rattle.xmp_prog.specs.declared.expressions.Expr.TheOpen.{Expr-F, Access-F}
-use Rattle.xmp_prog.specs.declared.expressions.Expr.TheFolds.{fold-Expr}
+use Rattle.xmp_prog.specs.declared.expressions.Expr.TheFolds.{fold-Expr, fold-Access}
 use Rattle.xmp_prog.specs.declared.expressions.Access.{Access}
 
 -- operators by number
@@ -70,3 +70,7 @@ same_step e x = same_form e (out-Expr x)
 -- whether two expressions are one, places apart
 abbrev pub same : Expr → Expr → Bool
 same = fold-Expr (Expr → Bool) (Access → Bool) same_step same_element
+
+-- whether two elements are
+abbrev pub same_access : Access → Access → Bool
+same_access = fold-Access (Expr → Bool) (Access → Bool) same_step same_element

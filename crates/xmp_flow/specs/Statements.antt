@@ -44,7 +44,7 @@ form_of_if s test None = None
 form_of_if s test (Some set) = at_role (s.roles set.0)
   where
     at_role : Role → Option (List Expr)
-    at_role (Reduced r) = guarded_form s.program set.0 r set.1 (compared s.program set.0 r (out-Expr test))
+    at_role (Reduced r) = guarded_form s.program set.0 set.1 (compared s.program set.0 r (out-Expr test))
     at_role _ = None
 
 abbrev pub if_form : Setting → Expr → Stmt → Stmt → Option (List Expr)

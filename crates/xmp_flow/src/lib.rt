@@ -6,6 +6,7 @@ mod laws;
 mod offsets;
 mod expressions;
 mod role;
+mod equal;
 mod scalars;
 mod setting;
 
@@ -14,5 +15,6 @@ pub use laws::{forms_of_plans, reads_of_forms};
 pub use offsets::Reach;
 pub use expressions::{reads, reads_of_each, with};
 pub use role::Role;
+pub use equal::same;
 pub use scalars::{assigned, is_written, loops, read_scalar, role_at, wrong_where};
 pub use setting::Around;
