@@ -15,7 +15,7 @@ use Rattle.xmp_prog.specs.Terms.{type_of}
 use Rattle.xmp_prog.specs.declared.expressions.Expr.{Expr, out-Expr}
 use Rattle.xmp_prog.specs.declared.expressions.Expr.TheVariants as expr
 use Rattle.xmp_prog.specs.declared.expressions.Expr.TheOpen.{Expr-F, Access-F}
-use Rattle.xmp_prog.specs.declared.expressions.Expr.TheFolds.{fold-Expr}
+use Rattle.xmp_prog.specs.declared.expressions.Expr.TheFolds.{fold-Expr, fold-Access}
 use Rattle.xmp_prog.specs.declared.expressions.Access.{Access}
 use Rattle.xmp_prog.specs.declared.statements.Compound.{Compound}
 use Rattle.xmp_prog.specs.declared.statements.Target.{Target}
@@ -131,3 +131,7 @@ assigns_plain _ = None
 abbrev pub assigns : Stmt-F Stmt Task → Option (ℕ × Expr)
 assigns (Stmt-F.Plain s) = assigns_plain s
 assigns _ = None
+
+-- whether an element names it
+abbrev pub names_in : ℕ → Access → Bool
+names_in v = fold-Access Bool Bool (names_step v) names_access

@@ -3,6 +3,7 @@
 
 mod elements;
 mod laws;
+mod naming;
 mod offsets;
 mod expressions;
 mod role;
@@ -12,6 +13,7 @@ mod setting;
 
 pub use elements::{element_read, element_write, home_of};
 pub use laws::{forms_of_plans, reads_of_forms};
+pub use naming::{is_bound, is_in, is_number, names, scalar_type, type_of};
 pub use offsets::Reach;
 pub use expressions::{reads, reads_of_each, with};
 pub use role::Role;
