@@ -1,5 +1,5 @@
 -- The setting that the code holds.
-use Rattle.std.specs.Prelude.{ℕ, ◌≡◌, Bool, true, false, ◌&&◌, List, slice_get, Option, Some, None, if◌then◌else◌}
+use Rattle.std.specs.Prelude.{ℕ, ◌≡◌, Bool, true, false, ◌&&◌, List, [], ◌∷◌, slice_get, Option, Some, None, if◌then◌else◌}
 use Rattle.std.specs.List.{list_all}
 use Rattle.std.specs.Option.{unwrap_or, option_copied, option_map}
 use Rattle.xmp_base.specs.declared.place.Place.{Place}
@@ -18,6 +18,8 @@ use Rattle.xmp_flow.specs.declared.role.Role.{Role}
 use Rattle.xmp_flow.specs.declared.role.Role.TheVariants.{Shared}
 use Rattle.xmp_flow.specs.declared.setting.Around.{Around}
 use Rattle.xmp_flow.specs.declared.offsets.Reach.{Reach}
+use Rattle.xmp_flow.specs.declared.forms.Form.{Form}
+use Rattle.xmp_flow.specs.declared.forms.Form.TheVariants.{Beside, One, Two}
 
 -- by slot, and shared where there is none
 abbrev pub role_at : List Role → ℕ → Role
@@ -76,3 +78,9 @@ events_at s array at r =
 abbrev pub events_of_reach : Setting → ℕ → Place → Option Reach → Plan Event
 events_of_reach s array at None = emit (Wrong 2 at)
 events_of_reach s array at (Some r) = events_at s array at r
+
+-- the expressions that a form reads
+abbrev pub read_by : Form → Option (List Expr)
+read_by Beside = None
+read_by (One e) = Some (e.now ∷ [])
+read_by (Two e x) = Some (e.now ∷ x.now ∷ [])

@@ -2,6 +2,7 @@
 #![tactic(auto)]
 
 mod elements;
+mod forms;
 mod laws;
 mod naming;
 mod offsets;
@@ -12,6 +13,7 @@ mod scalars;
 mod setting;
 
 pub use elements::{element_read, element_write, home_of};
+pub use forms::{Form, assignment_form, guarded_form};
 pub use laws::{forms_of_plans, reads_of_forms};
 pub use naming::{is_bound, is_in, is_number, names, scalar_type, type_of};
 pub use offsets::Reach;
