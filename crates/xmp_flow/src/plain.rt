@@ -1,0 +1,174 @@
+// The events of the statements that hold no statement.
+ghost use Rattle.std.specs.Prelude.{◌≡◌, ◌++◌, ◌∷◌, ◌&&◌, ◌||◌, [], map, IfOk, not, is_some, List, Option};
+ghost use Rattle.std.specs.Option.{option_map};
+ghost use Rattle.xmp_paths.specs.Plans.{in_order};
+ghost use Rattle.xmp_paths.specs.Flows.{plan_of};
+ghost use Rattle.xmp_prog.specs.declared.expressions.Expr.{Expr};
+ghost use Rattle.xmp_flow.specs.Setting.{wrong_where};
+ghost use Rattle.xmp_flow.specs.Reads.{reads_of, reads_of_all, reads_of_option, subscript_reads};
+ghost use Rattle.xmp_flow.specs.Elements.{element_write};
+ghost use Rattle.xmp_flow.specs.PlainEvents.{assignment_events, cast, moved, number_events, old_element, old_scalar, part_events, plain_events, reflected, scalar_assigned, scanned, set_events, side_events, source_events};
+ghost use Rattle.xmp_flow.specs.Views.{KnowsAll, read_by, setting_of};
+
+use crate::elements::{element_read, element_write, home_of};
+use crate::expressions::{reads, reads_of_each, with};
+use crate::forms::{Form, assignment_form};
+use crate::naming::is_number;
+use crate::nodes::nodes_in;
+use crate::role::Role;
+use crate::scalars::{assigned, loops, read_scalar, role_at, wrong_where};
+use crate::setting::Around;
+use sqlite_items::Items;
+use std::alloc::{AllocError, Global};
+use xmp_base::Place;
+use xmp_map::NodeSet;
+use xmp_paths::{Event, Flow};
+use xmp_prog::{Access, Compound, Expr, Home, MoveSide, Name, Number, Part, Plain, Target};
+
+// A scalar is assigned, and may not be a reduction variable.
+fn scalar_assigned(alloc: Global, s: &Around, slot: u32, at: Place) -> Result<Flow, AllocError>
+    requires { KnowsAll s.now }
+    ensures { IfOk result (λ flow. plan_of flow ≡ in_order (scalar_assigned (setting_of s.now) slot at)) }
+{
+    let reduced = matches!(role_at(s, slot), Role::Reduced(_));
+    let wrong = wrong_where(alloc, reduced, 5, at);
+    Flow::both(alloc, wrong, assigned(s, slot))
+}
+
+fn old_scalar(alloc: Global, s: &Around, slot: u32, at: Place, compound: Option<Compound>) -> Flow
+    ensures { plan_of result ≡ old_scalar (setting_of s.now) slot at compound }
+{
+    match compound {
+        Some(_) => read_scalar(alloc, s, slot, at),
+        None => Flow::nothing(alloc),
+    }
+}
+
+fn old_element(alloc: Global, s: &Around, a: &Access, compound: Option<Compound>) -> Flow
+    requires { KnowsAll s.now }
+    ensures { plan_of result ≡ old_element (setting_of s.now) a.now compound }
+{
+    match compound {
+        Some(_) => element_read(alloc, s, a.array, a.subscripts.as_slice(), a.at),
+        None => Flow::nothing(alloc),
+    }
+}
+
+/// What a form reads.
+pub fn form_reads(alloc: Global, s: &Around, form: Form<'_>) -> Result<Option<Flow>, AllocError>
+    requires { KnowsAll s.now }
+    ensures { IfOk result (λ flow. option_map plan_of flow ≡ option_map (λ es. in_order (reads_of_all es (setting_of s.now))) (read_by form.entry)) }
+{
+    match form {
+        Form::Beside => Ok(None),
+        Form::One(e) => {
+            let first = reads(alloc, s, e)?;
+            let mut parts = Items::new(alloc);
+            parts.push(first)?;
+            Ok(Some(Flow::all(parts)))
+        }
+        Form::Two(e, x) => {
+            let first = reads(alloc, s, e)?;
+            let second = reads(alloc, s, x)?;
+            let flow = Flow::both(alloc, first, second)?;
+            Ok(Some(flow))
+        }
+    }
+}
+
+// A number of a gmove: all nodes read it.
+fn number_events(alloc: Global, s: &Around, n: &Number) -> Result<Flow, AllocError>
+    requires { KnowsAll s.now }
+    ensures { IfOk result (λ flow. plan_of flow ≡ number_events (setting_of s.now) n.now) }
+{
+    let inside = Around {
+        nodes: s.all,
+        moving: true,
+        ..*s
+    };
+    let part = reads(alloc, &inside, &n.value)?;
+    let wrong = wrong_where(alloc, !is_number(&n.value), 12, n.at);
+    Flow::both(alloc, part, wrong)
+}
+
+// The shadow of a distributed array is current on all nodes.
+fn reflected(alloc: Global, s: &Around, a: &Name) -> Flow
+    requires { KnowsAll s.now }
+    ensures { plan_of result ≡ reflected (setting_of s.now) a.now }
+{
+    match home_of(s, a.number) {
+        Some(Home::Spread(_, _)) => Flow::one(Event::Mark {
+            object: 2 * a.number as u64 + 1,
+            current: s.all,
+            stale: 0,
+        }),
+        _ => Flow::nothing(alloc),
+    }
+}
+
+// A scalar is read at the source of a bcast, and current on all nodes then.
+fn cast(alloc: Global, s: &Around, from: &NodeSet, v: &Name) -> Result<Flow, AllocError>
+    requires { KnowsAll s.now }
+    ensures { IfOk result (λ flow. plan_of flow ≡ cast (setting_of s.now) from.now v.now) }
+{
+    let object = 2 * v.number as u64;
+    let read = Flow::one(Event::Read {
+        object,
+        nodes: nodes_in(&s.program.grid, from),
+        rule: 11,
+        at: v.at,
+    });
+    let mark = Flow::one(Event::Mark {
+        object,
+        current: s.all,
+        stale: 0,
+    });
+    Flow::both(alloc, read, mark)
+}
+
+// The source of a gmove, where it isn't distributed.
+fn source_events(alloc: Global, s: &Around, from: &MoveSide) -> Flow
+    requires { KnowsAll s.now }
+    ensures { plan_of result ≡ source_events (setting_of s.now) from.now }
+{
+    match from {
+        MoveSide::Scalar(v) => Flow::one(Event::Read {
+            object: 2 * v.number as u64,
+            nodes: s.all,
+            rule: 1,
+            at: v.at,
+        }),
+        MoveSide::Array(a, _) => match home_of(s, a.number) {
+            Some(Home::Copy) => Flow::one(Event::Read {
+                object: 2 * a.number as u64 + 1,
+                nodes: s.all,
+                rule: 1,
+                at: a.at,
+            }),
+            _ => Flow::nothing(alloc),
+        },
+    }
+}
+
+// The target of a gmove.
+fn moved(alloc: Global, s: &Around, to: &MoveSide) -> Flow
+    requires { KnowsAll s.now }
+    ensures { plan_of result ≡ moved (setting_of s.now) to.now }
+{
+    match to {
+        MoveSide::Scalar(v) => Flow::one(Event::Mark {
+            object: 2 * v.number as u64,
+            current: s.all,
+            stale: 0,
+        }),
+        MoveSide::Array(a, _) => match home_of(s, a.number) {
+            Some(Home::Copy) => wrong_where(alloc, s.over.is_some(), 6, a.at),
+            Some(Home::Spread(_, _)) => Flow::one(Event::Mark {
+                object: 2 * a.number as u64 + 1,
+                current: 0,
+                stale: s.all,
+            }),
+            _ => Flow::nothing(alloc),
+        },
+    }
+}
