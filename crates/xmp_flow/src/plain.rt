@@ -4,6 +4,7 @@ ghost use Rattle.std.specs.Option.{option_map};
 ghost use Rattle.xmp_paths.specs.Plans.{in_order};
 ghost use Rattle.xmp_paths.specs.Flows.{plan_of};
 ghost use Rattle.xmp_prog.specs.declared.expressions.Expr.{Expr};
+ghost use Rattle.xmp_prog.specs.declared.statements.Target.TheVariants as Target;
 ghost use Rattle.xmp_flow.specs.Setting.{wrong_where};
 ghost use Rattle.xmp_flow.specs.Reads.{reads_of, reads_of_all, reads_of_option, subscript_reads};
 ghost use Rattle.xmp_flow.specs.Elements.{element_write};
@@ -170,5 +171,90 @@ fn moved(alloc: Global, s: &Around, to: &MoveSide) -> Flow
             }),
             _ => Flow::nothing(alloc),
         },
+    }
+}
+
+// An assignment to a scalar that isn't a reduction form.
+fn set_events(
+    alloc: Global,
+    s: &Around,
+    slot: u32,
+    at: Place,
+    compound: Option<Compound>,
+    value: &Expr,
+) -> Result<Flow, AllocError>
+    requires { KnowsAll s.now }
+    ensures { IfOk result (λ flow. plan_of flow ≡ set_events (setting_of s.now) slot at compound value.now) }
+{
+    let mut parts = Items::new(alloc);
+    parts.push(old_scalar(alloc, s, slot, at, compound))?;
+    let part = reads(alloc, s, value)?;
+    parts.push(part)?;
+    let reduced = matches!(role_at(s, slot), Role::Reduced(_));
+    parts.push(wrong_where(alloc, reduced, 5, at))?;
+    parts.push(assigned(s, slot))?;
+    Ok(Flow::all(parts))
+}
+
+// What a form of an assignment reads, or what happens beside a form.
+fn scalar_events(
+    alloc: Global,
+    s: &Around,
+    slot: u32,
+    at: Place,
+    compound: Option<Compound>,
+    value: &Expr,
+) -> Result<Flow, AllocError>
+    requires { KnowsAll s.now }
+    ensures { IfOk result (λ flow. plan_of flow ≡ assignment_events (setting_of s.now) compound value.now (Target.Scalar slot at)) }
+{
+    if let Role::Reduced(r) = role_at(s, slot) {
+        let form = assignment_form(s.program, slot, r, at, compound, value);
+        if let Some(flow) = form_reads(alloc, s, form)? {
+            return Ok(flow);
+        }
+    }
+    set_events(alloc, s, slot, at, compound, value)
+}
+
+// The parts of a side of a gmove.
+fn part_events(alloc: Global, s: &Around, part: &Part) -> Result<Flow, AllocError>
+    requires { KnowsAll s.now }
+    ensures { IfOk result (λ flow. plan_of flow ≡ part_events (setting_of s.now) part.now) }
+{
+    match part {
+        Part::One(n) => number_events(alloc, s, n),
+        Part::Many { base, length, step } => {
+            let mut parts = Items::new(alloc);
+            let first = number_events(alloc, s, base)?;
+            parts.push(first)?;
+            let second = number_events(alloc, s, length)?;
+            parts.push(second)?;
+            let third = number_events(alloc, s, step)?;
+            parts.push(third)?;
+            Ok(Flow::all(parts))
+        }
+    }
+}
+
+fn parts_events(alloc: Global, s: &Around, all: &[Part]) -> Result<Flow, AllocError>
+    requires { KnowsAll s.now }
+    ensures { IfOk result (λ flow. plan_of flow ≡ in_order (map (part_events (setting_of s.now)) all.now)) }
+{
+    let mut parts = Items::new(alloc);
+    'items: for part in all {
+        let flow = part_events(alloc, s, part)?;
+        parts.push(flow)?;
+    }
+    Ok(Flow::all(parts))
+}
+
+fn side_events(alloc: Global, s: &Around, side: &MoveSide) -> Result<Flow, AllocError>
+    requires { KnowsAll s.now }
+    ensures { IfOk result (λ flow. plan_of flow ≡ side_events (setting_of s.now) side.now) }
+{
+    match side {
+        MoveSide::Scalar(_) => Ok(Flow::nothing(alloc)),
+        MoveSide::Array(_, parts) => parts_events(alloc, s, parts.as_slice()),
     }
 }
