@@ -117,6 +117,11 @@ abbrev pub moved : Setting → MoveSide → Plan Event
 moved s (side.Scalar v) = current_on_all s (scalar_object v.number)
 moved s (side.Array a parts) = moved_at s a (home_of s a.number)
 
+-- a gmove: the numbers of its sides, its source, and its target
+abbrev pub plan_of_gmove : Setting → MoveSide → MoveSide → Place → Plan Event
+plan_of_gmove s to from at =
+    in_order (wrong_where s.inside 10 at ∷ side_events s to ∷ side_events s from ∷ source_events s from ∷ moved s to ∷ [])
+
 -- ---- all forms
 
 abbrev pub plain_events : Plain → Setting → Plan Event
@@ -132,5 +137,4 @@ plain_events (plain.Sync status at) s = in_order (scalar_assigned s status.numbe
 plain_events (plain.Reflect arrays at) s = in_order (wrong_where s.inside 10 at ∷ map (reflected s) arrays)
 plain_events (plain.Barrier at) s = wrong_where s.inside 10 at
 plain_events (plain.Cast variables from at) s = in_order (wrong_where s.inside 10 at ∷ map (cast s from) variables)
-plain_events (plain.Gmove to from at) s =
-    in_order (wrong_where s.inside 10 at ∷ side_events s to ∷ side_events s from ∷ source_events s from ∷ moved s to ∷ [])
+plain_events (plain.Gmove to from at) s = plan_of_gmove s to from at

@@ -8,7 +8,7 @@ ghost use Rattle.xmp_prog.specs.declared.statements.Target.TheVariants as Target
 ghost use Rattle.xmp_flow.specs.Setting.{wrong_where};
 ghost use Rattle.xmp_flow.specs.Reads.{reads_of, reads_of_all, reads_of_option, subscript_reads};
 ghost use Rattle.xmp_flow.specs.Elements.{element_write};
-ghost use Rattle.xmp_flow.specs.PlainEvents.{assignment_events, cast, moved, number_events, old_element, old_scalar, part_events, plain_events, reflected, scalar_assigned, scanned, set_events, side_events, source_events};
+ghost use Rattle.xmp_flow.specs.PlainEvents.{assignment_events, cast, moved, number_events, old_element, old_scalar, part_events, plain_events, plan_of_gmove, reflected, scalar_assigned, scanned, set_events, side_events, source_events};
 ghost use Rattle.xmp_flow.specs.Views.{KnowsAll, read_by, setting_of};
 
 use crate::elements::{element_read, element_write, home_of};
@@ -257,4 +257,81 @@ fn side_events(alloc: Global, s: &Around, side: &MoveSide) -> Result<Flow, Alloc
         MoveSide::Scalar(_) => Ok(Flow::nothing(alloc)),
         MoveSide::Array(_, parts) => parts_events(alloc, s, parts.as_slice()),
     }
+}
+
+// An assignment to an element: its subscripts, the old element of a compound one, the value, and the element.
+fn element_events(
+    alloc: Global,
+    s: &Around,
+    a: &Access,
+    compound: Option<Compound>,
+    value: &Expr,
+) -> Result<Flow, AllocError>
+    requires { KnowsAll s.now }
+    ensures { IfOk result (λ flow. plan_of flow ≡ in_order (reads_of_all a.now.subscripts (setting_of s.now)
+        ++ old_element (setting_of s.now) a.now compound ∷ reads_of value.now (setting_of s.now)
+        ∷ element_write (setting_of s.now) a.now.array a.now.subscripts a.now.at ∷ [])) }
+{
+    let mut parts = reads_of_each(alloc, s, a.subscripts.as_slice())?;
+    parts.push(old_element(alloc, s, a, compound))?;
+    let part = reads(alloc, s, value)?;
+    parts.push(part)?;
+    with(parts, element_write(alloc, s, a.array, a.subscripts.as_slice(), a.at))
+}
+
+// The arrays of a reflect.
+fn reflected_each(alloc: Global, s: &Around, arrays: &[Name], at: Place) -> Result<Flow, AllocError>
+    requires { KnowsAll s.now }
+    ensures { IfOk result (λ flow. plan_of flow
+        ≡ in_order (wrong_where (setting_of s.now).inside 10 at ∷ map (reflected (setting_of s.now)) arrays.now)) }
+{
+    let mut parts = Items::new(alloc);
+    parts.push(wrong_where(alloc, s.inside, 10, at))?;
+    'items: for a in arrays {
+        parts.push(reflected(alloc, s, a))?;
+    }
+    Ok(Flow::all(parts))
+}
+
+// The scalars of a bcast.
+fn cast_each(
+    alloc: Global,
+    s: &Around,
+    variables: &[Name],
+    from: &NodeSet,
+    at: Place,
+) -> Result<Flow, AllocError>
+    requires { KnowsAll s.now }
+    ensures { IfOk result (λ flow. plan_of flow
+        ≡ in_order (wrong_where (setting_of s.now).inside 10 at ∷ map (cast (setting_of s.now) from.now) variables.now)) }
+{
+    let mut parts = Items::new(alloc);
+    parts.push(wrong_where(alloc, s.inside, 10, at))?;
+    'items: for v in variables {
+        let part = cast(alloc, s, from, v)?;
+        parts.push(part)?;
+    }
+    Ok(Flow::all(parts))
+}
+
+// A gmove.
+fn gmove_events(
+    alloc: Global,
+    s: &Around,
+    to: &MoveSide,
+    from: &MoveSide,
+    at: Place,
+) -> Result<Flow, AllocError>
+    requires { KnowsAll s.now }
+    ensures { IfOk result (λ flow. plan_of flow ≡ plan_of_gmove (setting_of s.now) to.now from.now at) }
+{
+    let mut parts = Items::new(alloc);
+    parts.push(wrong_where(alloc, s.inside, 10, at))?;
+    let first = side_events(alloc, s, to)?;
+    parts.push(first)?;
+    let second = side_events(alloc, s, from)?;
+    parts.push(second)?;
+    parts.push(source_events(alloc, s, from))?;
+    parts.push(moved(alloc, s, to))?;
+    Ok(Flow::all(parts))
 }
