@@ -91,11 +91,11 @@ reach_more d ss ls es k x h all one next whole e n f g i =
     let o : one ≡ reach_along d ss (get_or ls k x) (slice_get es k) = f ∙ ap (reach_along d ss (get_or ls k x)) g in
     let tail = reach_of (offsets_along d ss (drop (suc k) ls) (drop (suc k) es)) in
     let here : reach_of (offsets_along d ss (drop k ls) (drop k es)) ≡ join_reach one tail =
-        ap (λ l. reach_of (offsets_along d ss l (drop k es))) (drop-cons ls k x h)
-        ∙ (reach_step d ss (get_or ls k x) (drop (suc k) ls) (drop k es)
-        ∙ (ap (λ e. join_reach (reach_along d ss (get_or ls k x) e) (reach_of (offsets_along d ss (drop (suc k) ls) (drop 1 (drop k es))))) (get_drop k es)
-        ∙ (ap (λ e. join_reach (reach_along d ss (get_or ls k x) (slice_get es k)) (reach_of (offsets_along d ss (drop (suc k) ls) e))) (drop_drop k es)
-        ∙ ap (λ r. join_reach r tail) (sym o)))) in
+    ap (λ l. reach_of (offsets_along d ss l (drop k es))) (drop-cons ls k x h)
+    ∙ (reach_step d ss (get_or ls k x) (drop (suc k) ls) (drop k es)
+    ∙ (ap (λ e. join_reach (reach_along d ss (get_or ls k x) e) (reach_of (offsets_along d ss (drop (suc k) ls) (drop 1 (drop k es))))) (get_drop k es)
+    ∙ (ap (λ e. join_reach (reach_along d ss (get_or ls k x) (slice_get es k)) (reach_of (offsets_along d ss (drop (suc k) ls) e))) (drop_drop k es)
+    ∙ ap (λ r. join_reach r tail) (sym o)))) in
     ap (λ j. join_reach next (reach_of (offsets_along d ss (drop j ls) (drop j es)))) (add-one k)
     ∙ (ap (λ r. join_reach r tail) n
     ∙ (join_assoc all one tail

@@ -50,7 +50,7 @@ module _ {C D : Type 0} (f : C → Expr) (g : D → Access) (h : (c : C) → Exp
 
   told_access_with : (array : ℕ) (subscripts : List C) (image : Option C) (at : Place) →
       (element_step (map-Access Expr Access Reading Element reading element
-          (map-Access C D Expr Access f g (record { array = array; subscripts = subscripts; image = image; at = at })))).access
+      (map-Access C D Expr Access f g (record { array = array; subscripts = subscripts; image = image; at = at })))).access
       ≡ roll-Access (map-Access C D Expr Access f g (record { array = array; subscripts = subscripts; image = image; at = at }))
   told_access_with array subscripts None at = ap (λ l. record { array = array; subscripts = l; image = None; at = at }) (all_told subscripts)
   told_access_with array subscripts (Some c) at =

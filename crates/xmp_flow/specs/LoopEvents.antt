@@ -73,12 +73,12 @@ own_scalars d body = filter (λ slot. is_own (role_in d body slot)) (scalars_wri
 -- the head of a loop of the nest, the indices of the loops round it apart: its bounds, and its index
 abbrev pub head_events : Setting → LoopDirective → Stmt → (outer : List ℕ) → LoopHead → Plan Event
 head_events s d body outer h = in_order (
-  reads_of h.from (at_bounds d body s)
-  ∷ wrong_where (not (is_bound outer (scalars_of d body) h.from)) 12 h.from_at
-  ∷ reads_of h.to (at_bounds d body s)
-  ∷ wrong_where (not (is_bound outer (scalars_of d body) h.to)) 12 h.to_at
-  ∷ wrong_where (is_reduced (role_in d body h.index.number)) 5 h.index.at
-  ∷ [])
+    reads_of h.from (at_bounds d body s)
+    ∷ wrong_where (not (is_bound outer (scalars_of d body) h.from)) 12 h.from_at
+    ∷ reads_of h.to (at_bounds d body s)
+    ∷ wrong_where (not (is_bound outer (scalars_of d body) h.to)) 12 h.to_at
+    ∷ wrong_where (is_reduced (role_in d body h.index.number)) 5 h.index.at
+    ∷ [])
 
 abbrev pub nest_events : Setting → LoopDirective → Stmt → (outer : List ℕ) → List LoopHead → List (Plan Event)
 nest_events s d body outer [] = []
@@ -117,9 +117,9 @@ ends s d body =
 -- a loop directive round a body with these events
 abbrev pub loop_events : LoopDirective → Stmt → (Setting → Plan Event) → Setting → Plan Event
 loop_events d body events s = in_order (
-  wrong_where s.inside 10 d.at
-  ∷ in_order (nest_events s d body [] d.nest)
-  ∷ in_order (reduction_events s [] d.reductions)
-  ∷ loop (iteration s d body events)
-  ∷ in_order (ends s d body)
-  ∷ [])
+    wrong_where s.inside 10 d.at
+    ∷ in_order (nest_events s d body [] d.nest)
+    ∷ in_order (reduction_events s [] d.reductions)
+    ∷ loop (iteration s d body events)
+    ∷ in_order (ends s d body)
+    ∷ [])

@@ -66,12 +66,12 @@ while_events test body at s =
 -- index is read in the test and the step too, where it is current, since the body writes neither it nor the bound.
 abbrev pub counted_events : LoopHead → (Setting → Plan Event) → Setting → Plan Event
 counted_events h body s = in_order (
-  wrong_where (is_reduced (s.roles h.index.number)) 5 h.index.at
-  ∷ reads_of h.from s
-  ∷ assigned s h.index.number
-  ∷ loop (in_order (reads_of h.to s ∷ body s ∷ assigned s h.index.number ∷ []))
-  ∷ reads_of h.to s
-  ∷ [])
+    wrong_where (is_reduced (s.roles h.index.number)) 5 h.index.at
+    ∷ reads_of h.from s
+    ∷ assigned s h.index.number
+    ∷ loop (in_order (reads_of h.to s ∷ body s ∷ assigned s h.index.number ∷ []))
+    ∷ reads_of h.to s
+    ∷ [])
 
 -- ---- all forms
 

@@ -135,13 +135,7 @@ fn two_if<'a>(v: u32, test: bool, y: &'a Expr, x: &'a Expr) -> Form<'a>
 }
 
 // `q ? x : v`
-fn chosen_form<'a>(
-    v: u32,
-    at: Place,
-    x: &'a Expr,
-    w: &Expr,
-    compared: Option<&'a Expr>,
-) -> Form<'a>
+fn chosen_form<'a>(v: u32, at: Place, x: &'a Expr, w: &Expr, compared: Option<&'a Expr>) -> Form<'a>
     ensures { read_by result ≡ chosen_form v at x.now w.now (option_copied compared.entry) }
 {
     match compared {

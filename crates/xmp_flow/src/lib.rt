@@ -2,26 +2,26 @@
 #![tactic(auto)]
 
 mod elements;
+mod equal;
+mod expressions;
 mod forms;
 mod laws;
 mod naming;
 mod nodes;
 mod offsets;
-mod expressions;
 mod plain;
 mod role;
-mod equal;
 mod scalars;
 mod setting;
 
 pub use elements::{element_read, element_write, home_of};
+pub use equal::same;
+pub use expressions::{reads, reads_of_each, with};
 pub use forms::{Form, assignment_form, guarded_form};
 pub use laws::{forms_of_plans, reads_of_forms};
 pub use naming::{is_bound, is_in, is_number, names, scalar_type, type_of};
 pub use nodes::{nodes_in, nodes_of};
 pub use offsets::Reach;
-pub use expressions::{reads, reads_of_each, with};
 pub use role::Role;
-pub use equal::same;
 pub use scalars::{assigned, is_written, loops, read_scalar, role_at, wrong_where};
 pub use setting::Around;

@@ -22,9 +22,7 @@ pub fn names(v: u32, e: &Expr) -> bool
         Expr::Binary(_, _, a, b, _) => names(v, a.get()) || names(v, b.get()),
         Expr::Both(a, b) => names(v, a.get()) || names(v, b.get()),
         Expr::Either(a, b) => names(v, a.get()) || names(v, b.get()),
-        Expr::Choose(a, b, c) => {
-            names(v, a.get()) || (names(v, b.get()) || names(v, c.get()))
-        }
+        Expr::Choose(a, b, c) => { names(v, a.get()) || (names(v, b.get()) || names(v, c.get())) }
         Expr::Convert(_, a) => names(v, a.get()),
         Expr::Call(_, arguments, _) => any_names(v, arguments.as_slice()),
     }

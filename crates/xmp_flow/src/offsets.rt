@@ -51,13 +51,7 @@ fn shift_of(index: u32, e: &Expr) -> Option<i64>
     ensures small { IfSome result IsSmall }
 {
     match e {
-        Expr::Scalar(slot, _) => {
-            if *slot == index {
-                Some(0)
-            } else {
-                None
-            }
-        }
+        Expr::Scalar(slot, _) => { if *slot == index { Some(0) } else { None } }
         Expr::Binary(BinOp::Add, _, a, b, _) => {
             if is_index(index, a.get()) {
                 constant_of(b.get())
@@ -143,12 +137,7 @@ fn offset_at(l: &AlignedDim, e: &Expr, point: Option<Point>) -> Option<Reach>
 }
 
 // Along one dimension of an array.
-fn along(
-    d: &LoopDirective,
-    template: &Template,
-    l: &AlignedDim,
-    e: Option<&Expr>,
-) -> Option<Reach>
+fn along(d: &LoopDirective, template: &Template, l: &AlignedDim, e: Option<&Expr>) -> Option<Reach>
     ensures { result ≡ reach_along d.now template.now.spread l.now (option_copied e.entry) }
 {
     if !is_distributed(template, l.target.dim) {

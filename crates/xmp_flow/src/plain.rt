@@ -276,7 +276,10 @@ fn element_events(
     parts.push(old_element(alloc, s, a, compound))?;
     let part = reads(alloc, s, value)?;
     parts.push(part)?;
-    with(parts, element_write(alloc, s, a.array, a.subscripts.as_slice(), a.at))
+    with(
+        parts,
+        element_write(alloc, s, a.array, a.subscripts.as_slice(), a.at),
+    )
 }
 
 // The arrays of a reflect.

@@ -22,7 +22,7 @@ all_same-items-preserved t c =
       rest = c.items.invariant.rest
           ∙ (pass_some c.items.k c.args.es.now c.args.xs.now c.index-es-k.result c.in-Some.x.now c.items-test.true (c.in-Some.ensures {u = tt})
           ∙ (ap (λ b. b && all_pass (map same (drop (suc c.items.k) c.args.es.now)) (drop (suc c.items.k) c.args.xs.now))
-              (ap (λ y. same y c.in-Some.x.now) (sym c.index-es-k.is) ∙ e)
+          (ap (λ y. same y c.in-Some.x.now) (sym c.index-es-k.is) ∙ e)
           ∙ ap (λ j. all_pass (map same (drop j c.args.es.now)) (drop j c.args.xs.now)) (sym (add-one c.items.k))));
       within = omega (arith, w);
     }

@@ -17,7 +17,7 @@ reads-returns-in-Cell t c =
 pub reads-returns-in_ok-parts-in-Call : goal.reads-returns-in_ok-parts-in-Call
 reads-returns-in_ok-parts-in-Call t c =
     let e : map plan_of c.in_ok-parts-in-Call.parts ≡ reads_of_all c.in-Call.arguments (setting_of c.args.s.now) =
-        c.in_ok-parts-in-Call.ensures ∙ ap (λ l. reads_of_all l (setting_of c.args.s.now)) c.as_slice.ensures in
+    c.in_ok-parts-in-Call.ensures ∙ ap (λ l. reads_of_all l (setting_of c.args.s.now)) c.as_slice.ensures in
     subst (λ (p : Plan Event). IfOk c.with_call.result (λ flow. plan_of flow ≡ p))
     (ap (λ l. in_order (l ++ wrong_where ((setting_of c.args.s.now).inside && (setting_of c.args.s.now).loops c.in-Call.function) 9 c.in-Call.at ∷ [])) e
     ∙ sym (ap (λ x. reads_of x (setting_of c.args.s.now)) c.in-Call.is
