@@ -99,6 +99,10 @@ for words in '' check serial run 'check --nodes=0 seven.c' 'check --nodes=17 sev
   wants 4 '' usage $words
 done
 
+# many words: they are read in a loop, and no stack grows with them
+mapfile -t many < <(yes x | head -n 190000)
+wants 4 '' usage check "${many[@]}" seven.c
+
 # files that can't be read; the verdict comes before the input is read
 wants 5 '' 'read fault' check nothing.c
 wants 5 '' 'read fault' check .

@@ -4,6 +4,7 @@ ghost use Rattle.xmp_base.specs.declared.refusal.Refusal.{Refusal};
 ghost use Rattle.xmp_base.specs.First.{IsFirst, first_of};
 
 use crate::Place;
+use std::alloc::{AllocError, AllocFailed};
 
 /// The phases of the compiler, in the order in which they judge a text.
 #[derive(Clone, Copy, Debug, PartialEq, Eq)]
@@ -11,10 +12,13 @@ pub enum Phase {
     Lex,
     Macro,
     Syntax,
+    Procedure,
+    Subset,
     Names,
     Mapping,
     Flow,
     Coarray,
+    Script,
 }
 
 /// A rule that a source text breaks: the rule's phase, its number within the phase, from 1, and the place.
@@ -29,11 +33,42 @@ pub struct Refusal {
 #[derive(Clone, Copy, Debug, PartialEq, Eq)]
 pub struct NoMemory;
 
+impl From<AllocError> for NoMemory {
+    ghost use Rattle.std.specs.Prelude.{◌≡◌};
+
+    ghost from_gives = { λ _ e. e ≡ record {} };
+
+    fn from(_refused: AllocError) -> NoMemory {
+        NoMemory
+    }
+}
+
+impl<T: Drop> From<AllocFailed<T>> for NoMemory {
+    ghost use Rattle.std.specs.Prelude.{◌≡◌};
+
+    ghost from_gives = { λ _ e. e ≡ record {} };
+
+    fn from(_refused: AllocFailed<T>) -> NoMemory {
+        NoMemory
+    }
+}
+
 /// Why a phase gave nothing: the text breaks a rule, or memory ran out.
 #[derive(Clone, Copy, Debug, PartialEq, Eq)]
 pub enum Fault {
     Refused(Refusal),
     NoMemory,
+}
+
+impl From<NoMemory> for Fault {
+    ghost use Rattle.std.specs.Prelude.{◌≡◌};
+    ghost use Rattle.xmp_base.specs.declared.refusal.Fault.TheVariants as fault;
+
+    ghost from_gives = { λ _ e. e ≡ fault.NoMemory };
+
+    fn from(_nothing: NoMemory) -> Fault {
+        Fault::NoMemory
+    }
 }
 
 /// Of two refusals of one phase, the one that stands first: by line, then column, then rule number.

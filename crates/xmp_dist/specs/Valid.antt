@@ -1,5 +1,6 @@
 -- Which sizes, nodes and forms make a dimension. These speak of the parts, and not of a `Dim`.
 use Rattle.std.specs.Prelude.{ℕ, Bool, true, ◌&&◌, ◌==◌, nat_le, sum, Option, Some, None, if◌then◌else◌}
+use Rattle.xmp_base.specs.Limits.{size_limit, node_limit}
 use Rattle.xmp_dist.specs.declared.form.Dist.{Dist}
 use Rattle.xmp_dist.specs.declared.form.Dist.TheVariants.{Whole, Cyclic, Gblock}
 use Rattle.xmp_dist.specs.declared.form.DimError.{DimError}
@@ -8,12 +9,12 @@ use Rattle.xmp_dist.specs.Table.{lengths_of}
 
 -- a size, and a width of a cyclic form: 1 to 4,194,304
 abbrev pub is_extent : ℕ → Bool
-is_extent n = nat_le 1 n && nat_le n 4194304
+is_extent n = nat_le 1 n && nat_le n size_limit
 
 -- 1 to 16 nodes, and one alone where the dimension is undistributed
 abbrev pub nodes_fit : Dist → ℕ → Bool
 nodes_fit Whole nodes = nodes == 1
-nodes_fit _ nodes = nat_le 1 nodes && nat_le nodes 16
+nodes_fit _ nodes = nat_le 1 nodes && nat_le nodes node_limit
 
 abbrev pub width_fits : Dist → Bool
 width_fits (Cyclic width) = is_extent width

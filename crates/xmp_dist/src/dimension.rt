@@ -4,7 +4,8 @@ ghost use Rattle.std.specs.Prelude.{IsTrue};
 ghost use Rattle.xmp_dist.specs.Valid.{is_dim};
 
 use crate::chunks::{chunk_of, total};
-use crate::form::{DimError, Dist, MAX_NODES, MAX_SIZE};
+use crate::form::{DimError, Dist};
+use xmp_base::{NODE_LIMIT, SIZE_LIMIT};
 
 /// `size` positions, from 0 on, over `nodes` nodes. A value of this type has parts that fit together.
 #[derive(Clone, Copy, PartialEq, Eq, Debug)]
@@ -29,7 +30,7 @@ impl Dim {
             (λ _. dim_fault size nodes dist ≡ None)
             (λ e. dim_fault size nodes dist ≡ Some e) }
     {
-        if size < 1 || size > MAX_SIZE || nodes < 1 || nodes > MAX_NODES {
+        if size < 1 || size > SIZE_LIMIT || nodes < 1 || nodes > NODE_LIMIT {
             return Err(DimError::BadSize);
         }
         match dist {
@@ -40,7 +41,7 @@ impl Dim {
             }
             Dist::Block => {}
             Dist::Cyclic(width) => {
-                if width < 1 || width > MAX_SIZE {
+                if width < 1 || width > SIZE_LIMIT {
                     return Err(DimError::BadChunk);
                 }
             }
@@ -55,14 +56,14 @@ impl Dim {
         Ok(Dim { size, nodes, dist })
     }
 
-    /// How many positions there are: 1 to `MAX_SIZE`.
+    /// How many positions there are: 1 to `SIZE_LIMIT`.
     pub fn size(&self) -> u32
         ensures { result ≡ self.now.size }
     {
         self.size
     }
 
-    /// How many nodes there are: 1 to `MAX_NODES`.
+    /// How many nodes there are: 1 to `NODE_LIMIT`.
     pub fn nodes(&self) -> u32
         ensures { result ≡ self.now.nodes }
     {

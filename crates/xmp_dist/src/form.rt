@@ -2,12 +2,6 @@
 
 use thiserror::Error;
 
-/// The greatest size of a dimension, and the greatest width of a cyclic form.
-pub const MAX_SIZE: u32 = 4_194_304;
-
-/// The greatest number of nodes.
-pub const MAX_NODES: u32 = 16;
-
 /// The lengths of the chunks of a `Gblock`, one for each node. The first `count` are meant.
 #[derive(Clone, Copy, PartialEq, Eq, Debug)]
 pub struct Lengths {

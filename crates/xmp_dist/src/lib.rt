@@ -8,7 +8,4 @@ mod dimension;
 mod form;
 
 pub use dimension::Dim;
-pub use form::{DimError, Dist, Lengths, MAX_NODES, MAX_SIZE};
-
-#[cfg(test)]
-mod tests;
+pub use form::{DimError, Dist, Lengths};

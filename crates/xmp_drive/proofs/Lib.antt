@@ -1,10 +1,9 @@
-mod OneBreak
 mod OneMap
 mod OneProgram
 mod OneRefusal
 mod OneTemplate
-mod Readings
 mod SameFields
+mod TreeVerdict
 mod Verdicts
 pub mod Faults
 pub mod NoCoarray

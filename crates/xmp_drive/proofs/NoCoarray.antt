@@ -1,26 +1,26 @@
 -- A program has a coarray where its kind is Coarray, and none where it is Global.
-use Rattle.std.proofs.Common.{◌≡◌, ◌∙◌, refl, sym, ap, subst, ℕ, ◌+◌, List, [], ◌∷◌, Bool, true, false, Option, Some, None}
+use Rattle.std.proofs.Common.{◌≡◌, ◌∙◌, refl, sym, ap, subst, ℕ, ◌+◌, List, [], ◌∷◌, Bool, true, false, Option, Some, None, inr}
 use Rattle.std.specs.Prelude.{◌||◌, if◌then◌else◌, option_map}
 use Rattle.std.specs.List.{list_any}
 use Rattle.std.proofs.lemmas.Option.{none-some}
-use Rattle.xmp_base.specs.declared.refusal.Refusal.{Refusal}
+use Rattle.xmp_base.specs.declared.place.Place.{Place}
 use Rattle.xmp_map.specs.declared.template.Template.{Template}
-use Rattle.xmp_tree.specs.declared.program.Tree.{Tree}
+use Rattle.xmp_syntax.specs.declared.program.Tree.{Tree}
 use Rattle.xmp_prog.specs.declared.parts.Home.{Home}
 use Rattle.xmp_prog.specs.declared.parts.Home.TheVariants as home
 use Rattle.xmp_prog.specs.declared.parts.Array as made_array
 use Rattle.xmp_prog.specs.declared.parts.ProgParts.{ProgParts}
 use Rattle.xmp_prog.specs.declared.statements.Stmt.{Stmt}
 use Rattle.xmp_prog.specs.Tests.{is_image}
-use Rattle.xmp_walk.specs.declared.mappings.Align.{Align}
-use Rattle.xmp_walk.specs.declared.names.Array.{Array}
-use Rattle.xmp_walk.specs.declared.world.World.{World}
-use Rattle.xmp_walk.specs.Walk.{Step, Gave}
-use Rattle.xmp_walk.specs.MappingRules.{align_of}
+use Rattle.xmp_names.specs.declared.mappings.Align.{Align}
+use Rattle.xmp_names.specs.declared.names.Array.{Array}
+use Rattle.xmp_names.specs.declared.world.World.{World}
+use Rattle.xmp_names.specs.Walk.{Step, Gave}
+use Rattle.xmp_mapping_rules.specs.MappingRules.{align_of}
 use Rattle.xmp_walk.specs.Program.{program_of}
-use Rattle.xmp_elab.specs.Parts.{EachMade, IsAligned, IsArray, IsHome, IsParts, MadeAfter}
-use Rattle.xmp_elab.specs.Verdict.{world_after, verdict}
-use Rattle.xmp_drive.specs.Verdict.{arrays_of, coarray_refusal, coarray_verdict, first_coarray, then_verdict, tree_verdict}
+use Rattle.xmp_parts.specs.Parts.{EachMade, IsAligned, IsArray, IsHome, IsParts, MadeAfter}
+use Rattle.xmp_parts.specs.Verdict.{IsVerdict, world_after}
+use Rattle.xmp_drive.specs.Verdict.{arrays_of, coarray_refusal, first_coarray, IsTreeVerdict}
 
 -- a home that is no image's own is that of no coarray
 not_coarray : (w : World) (ts : List Template) (k : ℕ) (extents : List ℕ) (coarray : Bool) (h : Home) → IsHome coarray w ts k extents h → is_image h ≡ false
@@ -51,14 +51,15 @@ none_made w ts k (a ∷ more) (m ∷ made) each e =
 none_after : (s : Step Stmt) (p : ProgParts) → MadeAfter s p → list_any (λ a. is_image a.home) p.arrays ≡ false → first_coarray (world_after s).names.arrays ≡ None
 none_after (Gave main w) p made e = none_made w p.templates 0 w.names.arrays p.arrays made.arrays e
 
-both_none : (a b : Option Refusal) → a ≡ None → b ≡ None → then_verdict a b ≡ None
-both_none a b first second = ap (λ x. then_verdict x b) first ∙ second
-
 -- where no rule of names or mappings breaks and no array is a coarray, no rule breaks
-pub unbroken : (t : Tree) (given : Option ℕ) (p : ProgParts) → verdict t given ≡ None → IsParts t given p → list_any (λ a. is_image a.home) p.arrays ≡ false
-    → tree_verdict t given ≡ None
-unbroken t given p ok made e =
-    both_none (verdict t given) (coarray_verdict t given) ok (ap (option_map coarray_refusal) (none_after (program_of t given) p made e))
+pub unbroken : (t : Tree) (given : Option ℕ) (p : ProgParts) → IsVerdict t given None → IsParts t given p → list_any (λ a. is_image a.home) p.arrays ≡ false
+    → IsTreeVerdict t given None
+unbroken t given p ok made e = (ok, ap (option_map coarray_refusal) (none_after (program_of t given) p made e))
+
+-- where none of them breaks and a coarray is declared, it is refused at the first
+pub at_coarray : (t : Tree) (given : Option ℕ) (at : Place) → IsVerdict t given None → first_coarray (arrays_of t given) ≡ Some at
+    → IsTreeVerdict t given (Some (coarray_refusal at))
+at_coarray t given at ok e = inr (ok, ap (option_map coarray_refusal) e)
 
 -- ---- where no coarray is declared, no array is one
 

@@ -5,11 +5,11 @@ use Rattle.xmp_map.specs.declared.template.Template.{Template}
 use Rattle.xmp_prog.specs.declared.parts.Home.{Home}
 use Rattle.xmp_prog.specs.declared.parts.Home.TheVariants.{Copy, Spread, Image}
 use Rattle.xmp_prog.specs.declared.parts.Array as made_array
-use Rattle.xmp_walk.specs.declared.names.Array.{Array}
-use Rattle.xmp_walk.specs.declared.mappings.Align.{Align}
-use Rattle.xmp_walk.specs.declared.world.World.{World}
-use Rattle.xmp_walk.specs.MappingRules.{align_of}
-use Rattle.xmp_elab.specs.Parts.{IsAligned, IsArray, IsHome, IsMapOver}
+use Rattle.xmp_names.specs.declared.names.Array.{Array}
+use Rattle.xmp_names.specs.declared.mappings.Align.{Align}
+use Rattle.xmp_names.specs.declared.world.World.{World}
+use Rattle.xmp_mapping_rules.specs.MappingRules.{align_of}
+use Rattle.xmp_parts.specs.Parts.{IsAligned, IsArray, IsHome, IsMapOver}
 use Rattle.xmp_drive.proofs.SameFields.{same_map}
 
 -- the first align and shadow of an array tell its map

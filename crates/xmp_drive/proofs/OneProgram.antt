@@ -2,13 +2,13 @@
 use Rattle.std.proofs.Common.{◌≡◌, ◌∙◌, refl, sym, subst, ap₂, ◌+◌, ℕ, List, [], ◌∷◌, Option}
 use Rattle.xmp_prog.specs.declared.parts.ProgParts.{ProgParts}
 use Rattle.xmp_prog.specs.declared.statements.Stmt.{Stmt}
-use Rattle.xmp_tree.specs.declared.program.Tree.{Tree}
+use Rattle.xmp_syntax.specs.declared.program.Tree.{Tree}
 use Rattle.xmp_source.specs.Source.{IsTreeOf}
-use Rattle.xmp_walk.specs.declared.world.World.{World}
-use Rattle.xmp_walk.specs.MappingRules.{forms_of, template_sizes}
+use Rattle.xmp_names.specs.declared.world.World.{World}
+use Rattle.xmp_mapping_rules.specs.MappingRules.{forms_of, template_sizes}
 use Rattle.xmp_walk.specs.Program.{program_of}
-use Rattle.xmp_walk.specs.Walk.{Gave, Step}
-use Rattle.xmp_elab.specs.Parts.{EachMade, IsArray, IsParts, IsTemplate, Made, MadeAfter}
+use Rattle.xmp_names.specs.Walk.{Gave, Step}
+use Rattle.xmp_parts.specs.Parts.{EachMade, IsArray, IsParts, IsTemplate, Made, MadeAfter}
 use Rattle.xmp_drive.specs.Verdict.{IsAccepted}
 use Rattle.xmp_drive.proofs.SameFields.{same_grid}
 use Rattle.xmp_drive.proofs.OneTemplate.{one_template}

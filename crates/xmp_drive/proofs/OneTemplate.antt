@@ -8,8 +8,8 @@ use Rattle.xmp_map.specs.declared.grid.Grid.{Grid}
 use Rattle.xmp_map.specs.declared.spread_dim.SpreadDim.{SpreadDim}
 use Rattle.xmp_map.specs.declared.template.Template.{Template}
 use Rattle.xmp_map.specs.Spread.{is_whole, lies_over, spread}
-use Rattle.xmp_walk.specs.declared.mappings.Form.{Form}
-use Rattle.xmp_elab.specs.Parts.{IsOf}
+use Rattle.xmp_names.specs.declared.mappings.Form.{Form}
+use Rattle.xmp_parts.specs.Parts.{IsOf}
 use Rattle.xmp_drive.proofs.SameFields.{same_dim, same_spread_dim, same_template}
 
 -- a distributed dimension has as many nodes as its axis, and a whole one has one

@@ -4,8 +4,8 @@ ghost use Rattle.std.specs.Prelude.{◌≡◌};
 use std::marker::Model;
 use xmp_prog::Prog;
 
-/// A program in which no rule breaks. Contracts see it as the parts of its typed program, which is of the kind Global: coarray programs are
-/// refused as yet.
+/// A program in which no rule of the text, its macros, the syntax, names or mappings breaks; whether it reads stale data isn't judged yet. Contracts
+/// see it as the parts of its typed program, which is of the kind Global: coarray programs are refused as yet.
 #[derive(Drop)]
 pub struct Accepted {
     prog: Prog,

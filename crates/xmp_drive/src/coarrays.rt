@@ -4,7 +4,7 @@ ghost use Rattle.xmp_drive.specs.Verdict.{arrays_of, first_coarray};
 
 use std::alloc::{AllocError, Global};
 use xmp_base::Place;
-use xmp_tree::Tree;
+use xmp_syntax::Tree;
 use xmp_walk::{Array, walk_program};
 
 // The name of the first coarray of these.
@@ -24,6 +24,8 @@ pub fn coarray_of(alloc: Global, t: &Tree, given: Option<u32>) -> Result<Option<
     ensures { IfOk result (λ at. at ≡ first_coarray (arrays_of t.now given)) }
 {
     let (body, world) = walk_program(alloc, t, given)?;
+    let found = first_coarray(world.names.arrays.as_slice());
     std::mem::drop(body);
-    Ok(first_coarray(world.names.arrays.as_slice()))
+    std::mem::drop(world);
+    Ok(found)
 }

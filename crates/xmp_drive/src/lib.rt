@@ -9,5 +9,5 @@ mod tests;
 mod verdict;
 
 pub use accepted::Accepted;
-pub use laws::{accepted_or_refused, one_program, one_refusal};
+pub use laws::{never_accepted_and_refused, one_program, one_refusal};
 pub use verdict::compile;

@@ -1,6 +1,6 @@
 // Texts, and the verdict on each: which phase speaks first, at which place, and by which rule.
 ghost use Rattle.std.specs.Prelude.{◌≡◌};
-ghost use Rattle.xmp_elab.specs.Narrow.{is_count};
+ghost use Rattle.xmp_parts.specs.Narrow.{is_count};
 
 use crate::accepted::Accepted;
 use crate::verdict::compile;
@@ -32,10 +32,13 @@ fn letter(phase: Phase) -> char {
         Phase::Lex => 'L',
         Phase::Macro => 'E',
         Phase::Syntax => 'S',
+        Phase::Procedure => 'Q',
+        Phase::Subset => 'P',
         Phase::Names => 'N',
         Phase::Mapping => 'M',
         Phase::Flow => 'F',
         Phase::Coarray => 'C',
+        Phase::Script => 'O',
     }
 }
 

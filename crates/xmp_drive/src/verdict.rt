@@ -4,27 +4,27 @@ ghost use Rattle.xmp_base.specs.declared.refusal.Refusal.{Refusal};
 ghost use Rattle.xmp_base.specs.declared.refusal.Fault.TheVariants as fault;
 ghost use Rattle.xmp_prog.specs.declared.parts.ProgParts.{ProgParts};
 ghost use Rattle.xmp_prog.specs.declared.parts.Kind.TheVariants.{Global};
-ghost use Rattle.xmp_elab.specs.Narrow.{is_count};
-ghost use Rattle.xmp_elab.specs.Parts.{IsParts, RefusedBy};
-ghost use Rattle.xmp_elab.specs.Verdict.{verdict};
+ghost use Rattle.xmp_parts.specs.Narrow.{is_count};
+ghost use Rattle.xmp_parts.specs.Parts.{IsParts};
+ghost use Rattle.xmp_parts.specs.Verdict.{IsVerdict};
 ghost use Rattle.xmp_fits.specs.NumbersLie.{tree_lies};
-ghost use Rattle.xmp_drive.specs.Verdict.{IsAccepted, IsRefused, IsVerdictFault, arrays_of, first_coarray, tree_verdict};
+ghost use Rattle.xmp_drive.specs.Verdict.{IsAccepted, IsRefused, IsTreeFault, IsTreeVerdict, IsVerdictFault, arrays_of, first_coarray};
 
 use crate::accepted::Accepted;
 use crate::coarrays::coarray_of;
-use crate::laws::{accepted_or_refused, one_refusal};
+use crate::laws::{never_accepted_and_refused, one_refusal};
 use std::alloc::Global;
 use xmp_base::{Fault, Phase, Refusal};
+use xmp_elab::{elaborate, text_numbers_lie};
 use xmp_prog::{Kind, Prog};
 use xmp_source::tree_of;
-use xmp_tree::Tree;
-use xmp_typed::{elaborate, text_numbers_lie};
+use xmp_syntax::Tree;
 
 // What the tree of a program with a coarray is refused for.
 fn coarray_fault(alloc: Global, t: &Tree, given: Option<u32>) -> Fault
-    requires named { verdict t.now given ≡ None }
+    requires named { IsVerdict t.now given None }
     requires coarray { first_coarray (arrays_of t.now given) ≢ None }
-    ensures { RefusedBy (tree_verdict t.now given) result }
+    ensures { IsTreeFault t.now given result }
 {
     match coarray_of(alloc, t, given) {
         Ok(Some(at)) => Fault::Refused(Refusal {
@@ -41,14 +41,17 @@ fn coarray_fault(alloc: Global, t: &Tree, given: Option<u32>) -> Fault
 fn judged_tree(alloc: Global, t: &Tree, given: Option<u32>) -> Result<Accepted, Fault>
     requires count { IsTrue (is_count given) }
     requires numbers { tree_lies t.now ≡ true }
-    ensures accepted { IfOk result (λ p. tree_verdict t.now given ≡ None) }
+    ensures accepted { IfOk result (λ p. IsTreeVerdict t.now given None) }
     ensures program { IfOk result (λ p. IsParts t.now given p) }
-    ensures refused { IfErr result (λ e. RefusedBy (tree_verdict t.now given) e) }
+    ensures refused { IfErr result (λ e. IsTreeFault t.now given e) }
 {
     let prog = elaborate(alloc, t, given)?;
     match prog.kind() {
         Kind::Global => Ok(Accepted::new(prog)),
-        Kind::Coarray => Err(coarray_fault(alloc, t, given)),
+        Kind::Coarray => {
+            std::mem::drop(prog);
+            Err(coarray_fault(alloc, t, given))
+        }
     }
 }
 
@@ -67,6 +70,9 @@ fn judged(alloc: Global, text: &[u8], given: Option<u32>) -> Result<Accepted, Fa
 /// The verdict on a source text, for a number of nodes or none: the program, or its refusal by the first rule that it breaks. Want of memory may
 /// be answered at any time.
 ///
+/// A program is accepted where no rule of the text, its macros, the syntax, names or mappings breaks and it declares no coarray: programs with
+/// coarrays are refused as yet, by the rule 9 of coarrays. Whether a program reads stale data isn't judged yet.
+///
 /// A text has at most 1,048,576 bytes, a number of nodes is 1 to 16. Time and memory grow with the text, and with what its macros come to.
 pub fn compile(alloc: Global, text: &[u8], nodes: Option<u32>) -> Result<Accepted, Fault>
     requires size { length text.now ≤ 1048576 }
@@ -77,7 +83,7 @@ pub fn compile(alloc: Global, text: &[u8], nodes: Option<u32>) -> Result<Accepte
     ensures refused_alone { (r : Refusal) → IsRefused text.now nodes r
         → OnOk result ⊥ × IfErr result (λ e. (e ≡ fault.Refused r) ⊎ (e ≡ fault.NoMemory)) }
 {
-    accepted_or_refused();
+    never_accepted_and_refused();
     one_refusal();
     judged(alloc, text, nodes)
 }

@@ -1,13 +1,19 @@
-//! From the tree of a program to the parts of the typed program, or to the rule that it is refused for: the first rule of names
-//! that it breaks, or, where it breaks none, the first rule of mappings.
-//!
-//! The walk over the tree is below, in xmp_walk. Here are the verdict, and the grid, the templates and the maps that are made where no rule breaks.
+//! The typed program of a tree: a `Prog`, or the rule that the tree is refused for, the first rule of names that it breaks, or, where it breaks
+//! none, the first rule of mappings.
 #![tactic(auto)]
 
-mod elaborated;
-mod grids;
-mod homes;
-mod verdict;
+mod laws;
+#[cfg(test)]
+mod mapping_texts;
+#[cfg(test)]
+mod name_texts;
+#[cfg(test)]
+mod tests;
+#[cfg(test)]
+mod texts;
+mod typed;
+#[cfg(test)]
+mod value_texts;
 
-pub use elaborated::elaborate_parts;
-pub use verdict::{first_in, refusal_of, verdict_of};
+pub use laws::text_numbers_lie;
+pub use typed::elaborate;

@@ -15,8 +15,8 @@ use Rattle.xmp_dist.specs.Table.{owner_by, chunk_start, chunk_end}
 use Rattle.xmp_dist.specs.Count.{count_below}
 use Rattle.xmp_dist.specs.Owner.{owner_inside, count}
 use Rattle.xmp_dist.proofs.Spans.{block_test, div_ceil_covers, div_ceil_pos}
-use Rattle.xmp_serial.specs.FirstGrammar.{Sum}
-use Rattle.xmp_serial.specs.FirstMeaning.{cell_value, total}
+use Rattle.xmp_first.specs.FirstGrammar.{Sum}
+use Rattle.xmp_first.specs.FirstMeaning.{cell_value, total}
 use Rattle.xmp_first.specs.Nodes.{tabulate, word_of, turns_of}
 use Rattle.xmp_first.specs.Blocks.{IsBlocks, cells_from, block_of, summed}
 use Rattle.xmp_first.proofs.Tables.{length-tabulate, slice_get-tabulate, tabulate-more}

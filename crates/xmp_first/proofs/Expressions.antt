@@ -5,9 +5,9 @@ use Rattle.std.proofs.lemmas.Fmt.{decimal_nonempty, digits_decimal, decimal_inje
 use borrow.Author.Tests.{ltb-true}
 use Rattle.xmp_num.specs.declared.types.BinOp.{BinOp}
 use Rattle.xmp_num.specs.declared.types.BinOp.TheVariants.{Add, Sub, Mul}
-use Rattle.xmp_serial.specs.declared.first_item.Item.{Item}
-use Rattle.xmp_serial.specs.declared.first_item.Item.TheVariants.{Index, Number, Op}
-use Rattle.xmp_serial.specs.First.{is_operator, is_operand, is_tail}
+use Rattle.xmp_first.specs.declared.first_item.Item.{Item}
+use Rattle.xmp_first.specs.declared.first_item.Item.TheVariants.{Index, Number, Op}
+use Rattle.xmp_first.specs.First.{is_operator, is_operand, is_tail}
 use Rattle.xmp_first.specs.Layout.{operator_text, item_text, value_text}
 use Rattle.xmp_first.specs.Reading.{NoDigit, NoMore, IsOperandAt, IsTailAt}
 use Rattle.xmp_first.proofs.Digits.{own, one_split, both_true}

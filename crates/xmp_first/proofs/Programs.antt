@@ -4,9 +4,9 @@ use Rattle.std.proofs.lemmas.Fmt.{digits_decimal, decimal_injective}
 use borrow.Author.Tests.{leb-true}
 use Rattle.xmp_num.specs.declared.types.BinOp.{BinOp}
 use Rattle.xmp_num.specs.declared.types.BinOp.TheVariants.{Add, Sub, Mul}
-use Rattle.xmp_serial.specs.declared.first_item.Item.{Item}
-use Rattle.xmp_serial.specs.declared.first_item.Item.TheVariants.{Index, Number, Op}
-use Rattle.xmp_serial.specs.First.{is_operator, is_operand, is_tail, is_expression}
+use Rattle.xmp_first.specs.declared.first_item.Item.{Item}
+use Rattle.xmp_first.specs.declared.first_item.Item.TheVariants.{Index, Number, Op}
+use Rattle.xmp_first.specs.First.{is_operator, is_operand, is_tail, is_expression}
 use Rattle.xmp_first.specs.Reading.{NoMore, IsNumberAt, IsOperandAt}
 use Rattle.xmp_first.specs.Layout.{operator_text, item_text, value_text, middle, foot, IsProgram, Spells}
 use Rattle.xmp_first.specs.declared.layout.TheConstants.{HEAD, TO_NODES}

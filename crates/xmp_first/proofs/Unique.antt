@@ -1,9 +1,9 @@
 -- A text is that of at most one program, and so has at most one output.
 use Rattle.std.proofs.Common.{◌≡◌, ◌∙◌, ◌++◌, ℕ, List, refl, sym, ap, subst}
 use Rattle.std.specs.Fmt.{decimal}
-use Rattle.xmp_serial.specs.declared.first_item.Item.{Item}
-use Rattle.xmp_serial.specs.FirstMeaning.{IsPrinted}
-use Rattle.xmp_serial.proofs.FirstTrees.{prints_one}
+use Rattle.xmp_first.specs.declared.first_item.Item.{Item}
+use Rattle.xmp_first.specs.FirstMeaning.{IsPrinted}
+use Rattle.xmp_first.proofs.FirstTrees.{prints_one}
 use Rattle.xmp_first.specs.declared.layout.TheConstants.{TO_NODES}
 use Rattle.xmp_first.specs.Layout.{value_text, middle, foot, Spells}
 use Rattle.xmp_first.specs.Accepts.{Accepts}

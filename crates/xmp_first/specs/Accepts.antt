@@ -2,8 +2,8 @@ use Rattle.std.specs.Prelude.{ℕ, List}
 use Rattle.xmp_base.specs.declared.refusal.Fault.{Fault}
 use Rattle.xmp_base.specs.declared.refusal.Fault.TheVariants.{Refused}
 use Rattle.xmp_base.specs.declared.refusal.Phase.TheVariants.{Syntax}
-use Rattle.xmp_serial.specs.declared.first_item.Item.{Item}
-use Rattle.xmp_serial.specs.FirstMeaning.{IsPrinted}
+use Rattle.xmp_first.specs.declared.first_item.Item.{Item}
+use Rattle.xmp_first.specs.FirstMeaning.{IsPrinted}
 use Rattle.xmp_first.specs.Layout.{Spells}
 
 -- The text is a program of the form, and this is what the program prints with its directives erased.

@@ -5,8 +5,8 @@ use Rattle.xmp_num.specs.Arithmetic.{wrap}
 use Rattle.xmp_dist.specs.declared.dimension.Dim.{Dim}
 use Rattle.xmp_dist.specs.declared.form.Dist.TheVariants.{Block}
 use Rattle.xmp_dist.specs.Table.{chunk_start, chunk_end}
-use Rattle.xmp_serial.specs.FirstGrammar.{Sum}
-use Rattle.xmp_serial.specs.FirstMeaning.{cell_value}
+use Rattle.xmp_first.specs.FirstGrammar.{Sum}
+use Rattle.xmp_first.specs.FirstMeaning.{cell_value}
 use Rattle.xmp_first.specs.Nodes.{tabulate}
 
 -- The dimension spreads so many cells over so many nodes in blocks.

@@ -3,9 +3,9 @@ use Rattle.std.specs.Prelude.{◌≡◌, ℕ, ◌≤◌, List, [], ◌∷◌, �
 use Rattle.std.specs.Fmt.{decimal, signed_decimal}
 use Rattle.xmp_num.specs.declared.types.BinOp.{BinOp}
 use Rattle.xmp_num.specs.declared.types.BinOp.TheVariants.{Add, Sub, Mul}
-use Rattle.xmp_serial.specs.declared.first_item.Item.{Item}
-use Rattle.xmp_serial.specs.declared.first_item.Item.TheVariants.{Index, Number, Op}
-use Rattle.xmp_serial.specs.First.{is_expression}
+use Rattle.xmp_first.specs.declared.first_item.Item.{Item}
+use Rattle.xmp_first.specs.declared.first_item.Item.TheVariants.{Index, Number, Op}
+use Rattle.xmp_first.specs.First.{is_expression}
 use Rattle.xmp_first.specs.declared.layout.TheConstants.{HEAD, TO_NODES, TO_TEMPLATE, TO_FIRST_LOOP, TO_VALUE, TO_SECOND_LOOP, FOOT}
 
 -- an operator stands between spaces

@@ -1,5 +1,10 @@
 pub mod Accepts
 pub mod Blocks
+pub mod First
+pub mod FirstGrammar
+pub mod FirstMeaning
+pub mod FirstRunning
+pub mod FirstTree
 pub mod Layout
 pub mod Nodes
 pub mod Numeral
@@ -8,6 +13,3 @@ pub mod World
 pub use Rattle.xmp_dist.specs.Count
 pub use Rattle.xmp_dist.specs.Table
 pub use Rattle.xmp_num.specs.Arithmetic
-pub use Rattle.xmp_serial.specs.First
-pub use Rattle.xmp_serial.specs.FirstGrammar
-pub use Rattle.xmp_serial.specs.FirstMeaning

@@ -3,9 +3,9 @@ use Rattle.std.specs.Prelude.{◌≡◌, ℕ, zero, suc, ℤ, pos, ◌*◌, ◌=
 use Rattle.xmp_dist.specs.declared.form.Dist.TheVariants.{Block}
 use Rattle.xmp_dist.specs.Table.{owner_by}
 use Rattle.xmp_dist.specs.Count.{count_below}
-use Rattle.xmp_serial.specs.declared.first_item.Item.{Item}
-use Rattle.xmp_serial.specs.FirstGrammar.{Sum, sum_items}
-use Rattle.xmp_serial.specs.FirstMeaning.{cell_value, total, printed}
+use Rattle.xmp_first.specs.declared.first_item.Item.{Item}
+use Rattle.xmp_first.specs.FirstGrammar.{Sum, sum_items}
+use Rattle.xmp_first.specs.FirstMeaning.{cell_value, total, printed}
 use Rattle.xmp_first.specs.World.{World}
 
 -- the list of f 0, f 1, .. as far as f (n - 1)

@@ -2,8 +2,8 @@
 use Rattle.std.specs.Prelude.{◌≡◌, ℕ, ◌<◌, ◌≤◌, ◌*◌, true, false, List, [], ◌∷◌, ◌++◌, length}
 use Rattle.std.specs.Fmt.{decimal}
 use Rattle.std.specs.Char.{is_ascii_digit}
-use Rattle.xmp_serial.specs.declared.first_item.Item.{Item}
-use Rattle.xmp_serial.specs.First.{is_tail, is_operand}
+use Rattle.xmp_first.specs.declared.first_item.Item.{Item}
+use Rattle.xmp_first.specs.First.{is_tail, is_operand}
 use Rattle.xmp_first.specs.Layout.{value_text, item_text}
 
 -- No digit stands at the front.

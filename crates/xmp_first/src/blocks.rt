@@ -1,13 +1,13 @@
 // A node's block of the cells.
 ghost use Rattle.std.specs.Prelude.{◌≡◌, ◌≤◌, ◌-◌, pos, nat_le, slice_get, unwrap_or, if◌then◌else◌, IfOk};
-ghost use Rattle.xmp_serial.specs.FirstTree.{tree_of};
+ghost use Rattle.xmp_first.specs.FirstTree.{tree_of};
 ghost use Rattle.xmp_first.specs.Blocks.{IsBlocks, cells_from, summed};
 
+use crate::first::First;
 use crate::sum::added;
 use std::alloc::Global;
 use xmp_base::{NoMemory, Words};
 use xmp_dist::{Dim, Dist};
-use xmp_serial::First;
 
 /// How the cells are spread.
 pub fn blocks_of(p: &First) -> Dim

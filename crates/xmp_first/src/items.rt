@@ -1,16 +1,17 @@
 // The items of an expression at the front of a text.
 ghost use Rattle.std.specs.Prelude.{◌≡◌, ◌<◌, ◌≤◌, ◌++◌, ℕ, List, [], ◌∷◌, true, false, length, IfOk, IfSome, IfNone};
 ghost use Rattle.xmp_num.specs.declared.types.BinOp.{BinOp};
-ghost use Rattle.xmp_serial.specs.declared.first_item.Item.{Item};
-ghost use Rattle.xmp_serial.specs.First.{is_operator};
+ghost use Rattle.xmp_first.specs.declared.first_item.Item.{Item};
+ghost use Rattle.xmp_first.specs.First.{is_operator};
 ghost use Rattle.xmp_first.specs.Layout.{operator_text};
 ghost use Rattle.xmp_first.specs.Reading.{NoDigit, NoMore, IsOperandAt, IsTailAt};
 
+use crate::first_item::Item;
+use crate::first_items::Items;
 use crate::numbers::number_at;
 use std::alloc::Global;
 use xmp_base::NoMemory;
 use xmp_num::BinOp;
-use xmp_serial::{Item, Items};
 
 /// Whether a digit stands at the front.
 fn starts_with_digit(text: &[u8]) -> bool

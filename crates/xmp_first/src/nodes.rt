@@ -1,19 +1,19 @@
 // The run of a program on its nodes.
 ghost use Rattle.std.specs.Prelude.{◌≡◌, ◌<◌, ◌++◌, ◌∷◌, [], length, slice_get, IfOk, IfSome};
 ghost use Rattle.std.specs.Fmt.{signed_decimal};
-ghost use Rattle.xmp_serial.specs.FirstMeaning.{total};
-ghost use Rattle.xmp_serial.specs.FirstTree.{tree_of};
+ghost use Rattle.xmp_first.specs.FirstMeaning.{total};
+ghost use Rattle.xmp_first.specs.FirstTree.{tree_of};
 ghost use Rattle.xmp_first.specs.Nodes.{Ran, tabulate, store_of, turns_of};
 ghost use Rattle.xmp_first.specs.Blocks.{IsBlocks, block_of};
 
 use crate::blocks::{blocks_of, first_loop, second_loop, word_at};
+use crate::first::First;
 use crate::sum::added;
 use crate::world::FirstWorld;
 use std::alloc::Global;
 use xmp_base::{Bytes, NoMemory, Table, Words};
 use xmp_dist::Dim;
 use xmp_num::render;
-use xmp_serial::First;
 
 /// The two loops on all nodes: each node's block of the cells, and the sum that the reduction at
 /// the second loop's end makes of the nodes' parts. Node 0's part begins at the old value of `s`

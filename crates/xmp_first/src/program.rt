@@ -1,18 +1,19 @@
 // The whole text.
 ghost use Rattle.std.specs.Prelude.{◌≡◌, ◌<◌, ◌≤◌, ◌++◌, ℕ, List, true, length, IfOk, IfSome, IfNone};
 ghost use Rattle.std.specs.Fmt.{decimal};
-ghost use Rattle.xmp_serial.specs.declared.first_item.Item.{Item};
-ghost use Rattle.xmp_serial.specs.First.{is_expression};
+ghost use Rattle.xmp_first.specs.declared.first_item.Item.{Item};
+ghost use Rattle.xmp_first.specs.First.{is_expression};
 ghost use Rattle.xmp_first.specs.Reading.{NoMore};
 ghost use Rattle.xmp_first.specs.Layout.{value_text, middle, foot, Spells, IsNoProgram};
 
+use crate::first::First;
+use crate::first_items::Items;
 use crate::items::{after, operand_at, tail_at};
 use crate::layout::{FOOT, HEAD, TO_FIRST_LOOP, TO_NODES, TO_SECOND_LOOP, TO_TEMPLATE, TO_VALUE};
 use crate::numbers::number_at;
 use std::alloc::Global;
 use xmp_base::{Bytes, NoMemory};
 use xmp_num::render;
-use xmp_serial::{First, Items};
 
 const MOST_CELLS: u32 = 4_194_304;
 

@@ -3,10 +3,10 @@ ghost use Rattle.std.specs.Prelude.{◌≡◌, ◌⊎◌, IfOk, IfErr};
 ghost use Rattle.xmp_first.specs.Layout.{Spells, IsNoProgram};
 ghost use Rattle.xmp_first.specs.Accepts.{refused_at_start};
 
+use crate::first::First;
 use crate::program::program_at;
 use std::alloc::Global;
 use xmp_base::{Fault, NoMemory, Phase, Place, Refusal};
-use xmp_serial::First;
 
 /// The program that a text is. A text that no program has is refused at its first byte.
 pub fn read_first(alloc: Global, text: &[u8]) -> Result<First, Fault>

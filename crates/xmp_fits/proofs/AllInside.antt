@@ -14,7 +14,7 @@ use Rattle.xmp_prog.specs.declared.statements.Stmt.TheFolds.{fold-Task}
 use Rattle.xmp_prog.specs.declared.statements.Task.{Task, fold-roll-Task}
 use Rattle.xmp_prog.specs.Statements.{Statement, Walked, WalkedTask, statements_of, walk_step, walk_task, walked, writes_of}
 use Rattle.xmp_prog.proofs.Rolls.{at_block, at_counted, at_if, at_loop, at_plain, at_tasks, at_while}
-use Rattle.xmp_walk.specs.Directives.{made_task}
+use Rattle.xmp_directives.specs.Directives.{made_task}
 
 module _ (P : Statement → Type 0) where
   abbrev pub AllIn : Stmt → Type 0

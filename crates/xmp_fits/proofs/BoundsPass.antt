@@ -14,7 +14,7 @@ use Rattle.xmp_prog.specs.Counted.{is_bound_operator, is_bound_term}
 use Rattle.xmp_prog.specs.Numbers.{is_in}
 use Rattle.xmp_prog.specs.Terms.{Term, Typed, access_step, slots_of_term, slots_of_terms, terms_of, typed, typed_step}
 use Rattle.xmp_walk.specs.Counted.{access_reads, bound_step, is_bound, is_int, reads, reads_access, reads_step}
-use Rattle.xmp_elab.proofs.Unbroken.{both_true, left_true, right_true}
+use Rattle.xmp_parts.proofs.Unbroken.{both_true, left_true, right_true}
 
 or_false : (b : Bool) → b ≡ (b || false)
 or_false true = refl

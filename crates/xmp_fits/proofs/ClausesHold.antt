@@ -10,7 +10,7 @@ use Rattle.xmp_prog.specs.Terms.{Term, terms_of, slots_of_term, slots_of_terms}
 use Rattle.xmp_prog.specs.Statements.{Statement, statements_of, terms_in, terms_of_stmt, slots_in, slots_beside, slots_of_stmt}
 use Rattle.xmp_prog.specs.Tests.{constant_fits, operands_fit, choice_fits, element_fits, image_fits, is_no_element, asks_no_node, calls_below, arguments_fit, is_constant, assignment_fits, is_no_sync, stands_in_function}
 use Rattle.xmp_prog.specs.Fits.{has_coarrays, PrintFits, statements_of_program, terms_of_program, slots_of_function, slots_of_main, slots_of_starts, all_terms, all_statements, ExpressionsFit}
-use Rattle.xmp_elab.proofs.Unbroken.{left_true, right_true}
+use Rattle.xmp_parts.proofs.Unbroken.{left_true, right_true}
 use Rattle.xmp_fits.proofs.TermsFit.{all_append}
 use Rattle.xmp_fits.proofs.TermTests.{TermPasses, StatementPasses, is_slot, all_map, all_true}
 

@@ -10,43 +10,44 @@ use Rattle.xmp_prog.specs.declared.statements.Stmt as made
 use Rattle.xmp_prog.specs.declared.statements.Stmt.TheVariants as m
 use Rattle.xmp_prog.specs.declared.statements.Plain.TheVariants as p
 use Rattle.xmp_prog.specs.declared.statements.Task.{Task}
-use Rattle.xmp_tree.specs.declared.parts.Name as named
-use Rattle.xmp_tree.specs.declared.expression.Expr.{Expr}
-use Rattle.xmp_tree.specs.declared.declaration.Declarator.{Declarator}
-use Rattle.xmp_tree.specs.declared.declaration.Declarator.TheVariants as declarator
-use Rattle.xmp_tree.specs.declared.directive.DirectiveLine.{DirectiveLine}
-use Rattle.xmp_tree.specs.declared.directive.LoopLine.{LoopLine}
-use Rattle.xmp_tree.specs.declared.directive.TaskLine.{TaskLine}
-use Rattle.xmp_tree.specs.declared.statement.ForHead.{ForHead}
-use Rattle.xmp_tree.specs.declared.statement.BlockItem.{BlockItem}
-use Rattle.xmp_tree.specs.declared.statement.BlockItem.TheVariants as b
-use Rattle.xmp_tree.specs.declared.statement.Stmt.{Stmt, fold-roll-Stmt}
-use Rattle.xmp_tree.specs.declared.statement.Stmt.TheOpen.{Stmt-F}
-use Rattle.xmp_tree.specs.declared.statement.Stmt.TheVariants as s
-use Rattle.xmp_walk.specs.declared.names.Array.{Array}
+use Rattle.xmp_syntax.specs.declared.parts.Name as named
+use Rattle.xmp_syntax.specs.declared.expression.Expr.{Expr}
+use Rattle.xmp_syntax.specs.declared.declaration.Declarator.{Declarator}
+use Rattle.xmp_syntax.specs.declared.declaration.Declarator.TheVariants as declarator
+use Rattle.xmp_syntax.specs.declared.directive.DirectiveLine.{DirectiveLine}
+use Rattle.xmp_syntax.specs.declared.directive.LoopLine.{LoopLine}
+use Rattle.xmp_syntax.specs.declared.directive.TaskLine.{TaskLine}
+use Rattle.xmp_syntax.specs.declared.statement.ForHead.{ForHead}
+use Rattle.xmp_syntax.specs.declared.statement.BlockItem.{BlockItem}
+use Rattle.xmp_syntax.specs.declared.statement.BlockItem.TheVariants as b
+use Rattle.xmp_syntax.specs.declared.statement.Stmt.{Stmt, fold-roll-Stmt}
+use Rattle.xmp_syntax.specs.declared.statement.Stmt.TheOpen.{Stmt-F}
+use Rattle.xmp_syntax.specs.declared.statement.Stmt.TheVariants as s
+use Rattle.xmp_names.specs.declared.names.Array.{Array}
 use Rattle.xmp_walk.specs.declared.loops.ForParts.{ForParts}
-use Rattle.xmp_walk.specs.declared.rules.Rule.TheVariants.{N8}
-use Rattle.xmp_walk.specs.declared.typed.Operand.{Operand}
-use Rattle.xmp_walk.specs.declared.world.World.{World}
-use Rattle.xmp_walk.specs.Walk as walk
-use Rattle.xmp_walk.specs.Walk.{Step, Gave, Run, and_then}
-use Rattle.xmp_walk.specs.declared.names.Meaning.TheVariants as meaning
+use Rattle.xmp_names.specs.declared.rules.Rule.TheVariants.{N8}
+use Rattle.xmp_names.specs.declared.typed.Operand.{Operand}
+use Rattle.xmp_names.specs.declared.world.World.{World}
+use Rattle.xmp_names.specs.Walk as walk
+use Rattle.xmp_names.specs.Walk.{Step, Gave, Run, and_then}
+use Rattle.xmp_names.specs.declared.names.Meaning.TheVariants as meaning
 use Rattle.xmp_walk.specs.Declarations as declarations
-use Rattle.xmp_walk.specs.Declarations.{declare_array, extent_of, extent_right, file_declarator, inner, listed, local_declarator, local_declarators, start_of, type_of}
-use Rattle.xmp_walk.specs.Directives.{loop_directive, loop_line, lone_task, made_task, nest_of, task_line, tasks_in, tasks_of}
-use Rattle.xmp_walk.specs.MappingLines.{mapping_of}
-use Rattle.xmp_walk.specs.Program.{block_of, coarray_declarator, coarray_in, coarray_step, coarray_stmt, inside_item, item_of, items_of, plain_of, stmt_of, task_step}
+use Rattle.xmp_walk.specs.Declarations.{declare_array, extent_of, extent_right, file_declarator, local_declarator, local_declarators, start_of, type_of}
+use Rattle.xmp_names.specs.Lists.{inner, listed}
+use Rattle.xmp_walk.specs.Program.{loop_directive, block_of, coarray_declarator, coarray_in, coarray_step, coarray_stmt, inside_item, item_of, items_of, plain_of, stmt_of, task_step}
+use Rattle.xmp_directives.specs.Directives.{loop_line, lone_task, made_task, nest_of, task_line, tasks_in, tasks_of}
+use Rattle.xmp_directives.specs.MappingLines.{mapping_of}
 use Rattle.xmp_walk.specs.Statements.{for_of, for_parts, if_of, while_of}
-use Rattle.xmp_fits.proofs.Coarrays.{block_has, tasks_have}
-use Rattle.xmp_fits.proofs.KeptRuns.{Ends, ends_then, ends_map}
+use Rattle.xmp_walk.proofs.Coarrays.{block_has, tasks_have}
+use Rattle.xmp_fits.proofs.QuietRuns.{Goes, Kept, Going, goes_refl, quiet, quiet_scalars}
+use Rattle.xmp_fits.proofs.Respected.{Ends, ends_then, ends_map, ◌>>=◌, pure}
+use Rattle.xmp_fits.proofs.RespectedSteps as quiet_steps
+use Rattle.xmp_fits.proofs.Respected as quiet_runs
+use Rattle.xmp_fits.proofs.RespectedMappings as quiet_mappings
+use Rattle.xmp_fits.proofs.RespectedLines as quiet_lines
+use Rattle.xmp_fits.proofs.RespectedDirectives as quiet
 use Rattle.xmp_fits.proofs.KeptStatements as kept
-use Rattle.xmp_fits.proofs.QuietDirectives as quiet
-use Rattle.xmp_fits.proofs.QuietLines as quiet_lines
-use Rattle.xmp_fits.proofs.QuietMappings as quiet_mappings
-use Rattle.xmp_fits.proofs.QuietRuns as quiet_runs
-use Rattle.xmp_fits.proofs.QuietRuns.{Goes, Kept, Going, goes_refl, ◌>>=◌, pure}
-use Rattle.xmp_fits.proofs.QuietSteps as quiet_steps
-use Rattle.xmp_fits.proofs.Seen.{seen_block, seen_for, seen_if, seen_loop, seen_plain, seen_task, seen_tasks, seen_while}
+use Rattle.xmp_walk.proofs.Seen.{seen_block, seen_for, seen_if, seen_loop, seen_plain, seen_task, seen_tasks, seen_while}
 use Rattle.xmp_fits.proofs.TreeInduction.{Cases, ItemIs, each_item, each_stmt}
 
 -- ---- runs that declare coarrays
@@ -118,21 +119,21 @@ new_declares ty extents coarray n = record {
 
 abbrev judged : List Operand → List Expr → named.Name → Going ⊤
 judged values extents n = do
-  _ ← quiet_steps.judge (list_all (λ t. extent_right t.value) values && nat_le (length extents) 3) N8 n.at
-  _ ← quiet_steps.stands_outermost n.at
-  quiet_steps.not_in_function n.at
+  _ ← quiet_steps.judge quiet (list_all (λ t. extent_right t.value) values && nat_le (length extents) 3) N8 n.at
+  _ ← quiet_steps.stands_outermost quiet n.at
+  quiet_steps.not_in_function quiet n.at
 
 array_declares : (ty : Ty) (n : named.Name) (extents : List Expr) (coarray : Bool) → Declares (declare_array ty n extents coarray) coarray
 array_declares ty n extents coarray =
-    behind_quiet (walk.each walk.typed_constant extents) _ coarray (quiet_runs.each quiet_steps.typed_constant extents).kept (λ values.
+    behind_quiet (walk.each walk.typed_constant extents) _ coarray (quiet_runs.each quiet (quiet_steps.typed_constant quiet) extents).kept (λ values.
     before_quiet (walk.◌>>=◌ (declarations.new_array ty (map (λ t. extent_of t.value) values) coarray n.at) (λ number. walk.declare n (meaning.Array number))) (λ _. (judged values extents n).run) coarray
     (new_declares ty (map (λ t. extent_of t.value) values) coarray n) (λ _. (judged values extents n).kept))
 
 declarator_declares : (ty : Ty) (d : Declarator) → Declares (local_declarator ty d) (coarray_declarator d)
 declarator_declares ty (declarator.Scalar n value) = quiet_run (local_declarator ty (declarator.Scalar n value)) (do
-  slot ← quiet_steps.declare_scalar n ty
-  first ← quiet_lines.initialiser value
-  pure (m.Plain (p.Declare slot first n.at) ∷ [])).kept
+  slot ← quiet_steps.declare_scalar quiet quiet_scalars n ty
+  first ← quiet_lines.initialiser quiet value
+  pure quiet (m.Plain (p.Declare slot first n.at) ∷ [])).kept
 declarator_declares ty (declarator.Array n extents image) =
     before_quiet (declare_array ty n (inner extents) (is_some image)) (λ _. walk.pure []) (is_some image) (array_declares ty n (inner extents) (is_some image)) (λ _. still [])
 
@@ -147,7 +148,7 @@ start_quiet slot (Some x) = record { at = λ w. record { arrays = refl; coarray 
 
 file_declares : (ty : Ty) (d : Declarator) → Declares (file_declarator ty d) (coarray_declarator d)
 file_declares ty (declarator.Scalar n value) = quiet_run (file_declarator ty (declarator.Scalar n value)) (do
-  slot ← quiet_steps.declare_scalar n ty
+  slot ← quiet_steps.declare_scalar quiet quiet_scalars n ty
   record { run = start_of slot value; kept = start_quiet slot value }).kept
 file_declares ty (declarator.Array n extents image) = array_declares ty n (inner extents) (is_some image)
 
@@ -163,8 +164,8 @@ Stated x = Declares (stmt_of x) (coarray_stmt x)
 
 pub item_declares : (done : List made.Stmt) (x : BlockItem Stmt) → ItemIs Stated x → Declares (item_of done (inside_item x)) (coarray_in x)
 item_declares done (b.Mapping x) h = quiet_run (item_of done (b.Mapping x)) (do
-  _ ← record { run = mapping_of x; kept = quiet_mappings.mapping_kept x }
-  pure done).kept
+  _ ← record { run = mapping_of x; kept = quiet_mappings.mapping_kept quiet x }
+  pure quiet done).kept
 item_declares done (b.Declaration d) h = declarators_declare (type_of d.ty) done (listed d.items)
 item_declares done (b.Stmt x) h = before_quiet (stmt_of x) (λ one. walk.pure (done ++ one ∷ [])) (coarray_stmt x) h (λ one. still (done ++ one ∷ []))
 
@@ -180,19 +181,19 @@ block_declares xs h =
     (λ all. record { at = λ w. record { arrays = refl; coarray = refl } }))
 
 if_declares : (x : Expr) (a : Run made.Stmt) (c : Bool) → Declares a c → Declares (if_of x a None) c
-if_declares x a c h = behind_quiet (walk.typed x) _ c (quiet_steps.typed x).kept (λ t. before_quiet a _ c h (λ y. still (m.If t.made y (m.Block []))))
+if_declares x a c h = behind_quiet (walk.typed x) _ c (quiet_steps.typed quiet x).kept (λ t. before_quiet a _ c h (λ y. still (m.If t.made y (m.Block []))))
 
 else_declares : (x : Expr) (a : Run made.Stmt) (at : Place) (other : Run made.Stmt) (c d : Bool) → Declares a c → Declares other d → Declares (if_of x a (Some (at, other))) (c || d)
 else_declares x a at other c d h k =
-    behind_quiet (walk.typed x) _ (c || d) (quiet_steps.typed x).kept (λ t. then_declares a _ c d h (λ y. before_quiet other _ d k (λ z. still (m.If t.made y z))))
+    behind_quiet (walk.typed x) _ (c || d) (quiet_steps.typed quiet x).kept (λ t. then_declares a _ c d h (λ y. before_quiet other _ d k (λ z. still (m.If t.made y z))))
 
 while_declares : (at : Place) (x : Expr) (a : Run made.Stmt) (c : Bool) → Declares a c → Declares (while_of at x a) c
-while_declares at x a c h = behind_quiet (walk.typed x) _ c (quiet_steps.typed x).kept (λ t. before_quiet a _ c h (λ y. still (m.While t.made y at)))
+while_declares at x a c h = behind_quiet (walk.typed x) _ c (quiet_steps.typed quiet x).kept (λ t. before_quiet a _ c h (λ y. still (m.While t.made y at)))
 
 parts_quiet : (h : ForHead) → Kept (for_parts h)
 parts_quiet h = record {
   at = λ w.
-      ends_map (λ (a : ForParts) v. Goes (kept.opened w) v) (λ (a : ForParts) v. Goes w v) ((quiet.head_parts h).run (kept.opened w)) ((quiet.head_parts h).kept.at (kept.opened w))
+      ends_map (λ (a : ForParts) v. Goes (kept.opened w) v) (λ (a : ForParts) v. Goes w v) ((quiet.head_parts quiet quiet_scalars h).run (kept.opened w)) ((quiet.head_parts quiet quiet_scalars h).kept.at (kept.opened w))
       (λ a v g. record { arrays = g.arrays; coarray = g.coarray });
 }
 
@@ -201,21 +202,21 @@ for_declares h a c k = behind_quiet (for_parts h) _ c (parts_quiet h) (λ parts.
 
 loop_declares : (l : LoopLine) (h : ForHead) (a : Run made.Stmt) (c : Bool) → Declares a c → Declares (loop_directive l h a) c
 loop_declares l h a c k =
-    behind_quiet (loop_line l) _ c (quiet.line_kept l) (λ parts. before_quiet (for_of h a) _ c (for_declares h a c k) (λ x. quiet.loop_kept l.line.word parts (nest_of (length parts.names) x)))
+    behind_quiet (loop_line l) _ c (quiet.line_kept quiet l) (λ parts. before_quiet (for_of h a) _ c (for_declares h a c k) (λ x. quiet.loop_kept quiet l.line.word parts (nest_of (length parts.names) x)))
 
 task_declares : (l : TaskLine) (a : Run made.Stmt) (c : Bool) → Declares a c → Declares (lone_task l a) c
 task_declares l a c k =
-    behind_quiet (task_line [] l) _ c (quiet.task_line_kept [] l) (λ nodes. before_quiet a _ c k (λ x. still (m.Tasks (made_task nodes x l.line.word ∷ []) l.line.word)))
+    behind_quiet (task_line [] l) _ c (quiet.task_line_kept quiet [] l) (λ nodes. before_quiet a _ c k (λ x. still (m.Tasks (made_task nodes x l.line.word ∷ []) l.line.word)))
 
 tasks_declare : (before : List NodeSet) (done : List Task) (xs : List (TaskLine × Stmt)) → AllByRecursion (λ t. Stated t.1) xs → Declares (tasks_in before done (map task_step xs)) (list_any (λ x. coarray_stmt x.1) xs)
 tasks_declare before done [] h = quiet_run (tasks_in before done []) (still done)
 tasks_declare before done (x ∷ xs) h =
-    behind_quiet (task_line before x.0) _ (coarray_stmt x.1 || list_any (λ x. coarray_stmt x.1) xs) (quiet.task_line_kept before x.0) (λ nodes.
+    behind_quiet (task_line before x.0) _ (coarray_stmt x.1 || list_any (λ x. coarray_stmt x.1) xs) (quiet.task_line_kept quiet before x.0) (λ nodes.
     then_declares (stmt_of x.1) _ (coarray_stmt x.1) (list_any (λ x. coarray_stmt x.1) xs) h.0 (λ y. tasks_declare (before ++ nodes ∷ []) (done ++ made_task nodes y x.0.line.word ∷ []) xs h.1))
 
 all_tasks_declare : (l : DirectiveLine) (xs : List (TaskLine × Stmt)) → AllByRecursion (λ t. Stated t.1) xs → Declares (tasks_of l (map task_step xs)) (list_any (λ x. coarray_stmt x.1) xs)
 all_tasks_declare l xs h =
-    behind_quiet (walk.directive_at l.word) _ (list_any (λ x. coarray_stmt x.1) xs) (quiet_steps.directive_at l.word).kept (λ _.
+    behind_quiet (walk.directive_at l.word) _ (list_any (λ x. coarray_stmt x.1) xs) (quiet_steps.directive_at quiet l.word).kept (λ _.
     before_quiet (tasks_in [] [] (map task_step xs)) _ (list_any (λ x. coarray_stmt x.1) xs) (tasks_declare [] [] xs h) (λ all. still (m.Tasks all l.word)))
 
 -- ---- whether a statement of a form declares a coarray
@@ -225,7 +226,7 @@ stated_as x run c e f h = subst (λ r. Declares r (coarray_stmt x)) (sym e) (sub
 
 stmt_cases : Cases Stated
 stmt_cases = record {
-  plain = λ x. stated_as (s.Plain x) (plain_of x) false (seen_plain x) (ap coarray_stmt (sym (s.rolls-Plain x)) ∙ fold-roll-Stmt Bool coarray_step (Stmt-F.Plain x)) (quiet_run (plain_of x) (quiet.plain_kept x));
+  plain = λ x. stated_as (s.Plain x) (plain_of x) false (seen_plain x) (ap coarray_stmt (sym (s.rolls-Plain x)) ∙ fold-roll-Stmt Bool coarray_step (Stmt-F.Plain x)) (quiet_run (plain_of x) (quiet.plain_kept quiet x));
   block = λ o xs c h. stated_as _ (block_of (map inside_item xs)) (list_any coarray_in xs) (seen_block o xs c) (block_has o xs c) (block_declares xs h);
   if_then = λ q e x h. stated_as (s.If q e x None) _ (coarray_stmt x || false) (seen_if q e x None) (ap coarray_stmt (sym (s.rolls-If q e x None)) ∙ fold-roll-Stmt Bool coarray_step (Stmt-F.If q e x None))
       (declares_as (if_of e.item (stmt_of x) None) (coarray_stmt x) (coarray_stmt x || false) (or_false (coarray_stmt x)) (if_declares e.item (stmt_of x) (coarray_stmt x) h));

@@ -5,37 +5,38 @@ use Rattle.std.specs.List.{list_any}
 use Rattle.xmp_base.specs.declared.place.Place.{Place}
 use Rattle.xmp_prog.specs.declared.statements.Stmt as made
 use Rattle.xmp_prog.specs.declared.statements.Stmt.TheVariants as m
-use Rattle.xmp_tree.specs.declared.parts.Name as named
-use Rattle.xmp_tree.specs.declared.parts.TypeWords.{TypeWords}
-use Rattle.xmp_tree.specs.declared.expression.Expr.{Expr}
-use Rattle.xmp_tree.specs.declared.program.Function.{Function}
-use Rattle.xmp_tree.specs.declared.program.TopItem.{TopItem}
-use Rattle.xmp_tree.specs.declared.program.TopItem.TheVariants as top
-use Rattle.xmp_tree.specs.declared.program.Tree.{Tree}
-use Rattle.xmp_tree.specs.declared.statement.Plain.TheVariants as plain
-use Rattle.xmp_tree.specs.declared.statement.BlockItem.{BlockItem}
-use Rattle.xmp_tree.specs.declared.statement.BlockItem.TheVariants as b
-use Rattle.xmp_tree.specs.declared.statement.Stmt.{Stmt, fold-roll-Stmt, out-Stmt}
-use Rattle.xmp_tree.specs.declared.statement.Stmt.TheOpen.{Stmt-F}
-use Rattle.xmp_tree.specs.declared.statement.Stmt.TheViews.{roll-Stmt, roll-out-Stmt}
-use Rattle.xmp_walk.specs.declared.names.Region.{Region}
-use Rattle.xmp_walk.specs.declared.names.Region.TheVariants as region
-use Rattle.xmp_walk.specs.declared.rules.Rule.TheVariants.{N7}
-use Rattle.xmp_walk.specs.declared.world.World.{World}
-use Rattle.xmp_walk.specs.Walk as walk
-use Rattle.xmp_walk.specs.Walk.{Step, Gave, Run}
-use Rattle.xmp_walk.specs.Declarations.{file_declaration, listed, type_of}
-use Rattle.xmp_walk.specs.MappingLines.{mapping_of}
+use Rattle.xmp_syntax.specs.declared.parts.Name as named
+use Rattle.xmp_syntax.specs.declared.parts.TypeWords.{TypeWords}
+use Rattle.xmp_syntax.specs.declared.expression.Expr.{Expr}
+use Rattle.xmp_syntax.specs.declared.program.Function.{Function}
+use Rattle.xmp_syntax.specs.declared.program.TopItem.{TopItem}
+use Rattle.xmp_syntax.specs.declared.program.TopItem.TheVariants as top
+use Rattle.xmp_syntax.specs.declared.program.Tree.{Tree}
+use Rattle.xmp_syntax.specs.declared.statement.Plain.TheVariants as plain
+use Rattle.xmp_syntax.specs.declared.statement.BlockItem.{BlockItem}
+use Rattle.xmp_syntax.specs.declared.statement.BlockItem.TheVariants as b
+use Rattle.xmp_syntax.specs.declared.statement.Stmt.{Stmt, fold-roll-Stmt, out-Stmt}
+use Rattle.xmp_syntax.specs.declared.statement.Stmt.TheOpen.{Stmt-F}
+use Rattle.xmp_syntax.specs.declared.statement.Stmt.TheViews.{roll-Stmt, roll-out-Stmt}
+use Rattle.xmp_names.specs.declared.names.Region.{Region}
+use Rattle.xmp_names.specs.declared.names.Region.TheVariants as region
+use Rattle.xmp_names.specs.declared.rules.Rule.TheVariants.{N7}
+use Rattle.xmp_names.specs.declared.world.World.{World}
+use Rattle.xmp_names.specs.Walk as walk
+use Rattle.xmp_names.specs.Walk.{Step, Gave, Run}
+use Rattle.xmp_walk.specs.Declarations.{file_declaration, type_of}
+use Rattle.xmp_names.specs.Lists.{listed}
+use Rattle.xmp_directives.specs.MappingLines.{mapping_of}
 use Rattle.xmp_walk.specs.Program.{coarray_in, coarray_step, coarray_stmt, coarray_top, function_of, head_of, inside_item, is_main_head, item_of, items_of, keep_function, last_in, last_item, last_top, leave, main_items, main_of, parameter_of, parameters_in, program_of, start_world, top_of, tops_of, with_count}
 use Rattle.xmp_walk.specs.Statements.{return_of}
 use Rattle.xmp_fits.proofs.CoarraysDeclared.{Adds, Declares, before_quiet, behind_quiet, body_declares, all_declare, declares_as, images, item_declares, quiet_run, stmt_declares, then_declares, or_false, still}
 use Rattle.xmp_fits.proofs.Endings.{ends_at}
-use Rattle.xmp_fits.proofs.KeptRuns.{Ends}
-use Rattle.xmp_fits.proofs.QuietDirectives as quiet
-use Rattle.xmp_fits.proofs.QuietMappings as quiet_mappings
-use Rattle.xmp_fits.proofs.QuietRuns as quiet_runs
-use Rattle.xmp_fits.proofs.QuietRuns.{Kept, Going, goes_refl, ◌>>=◌, pure}
-use Rattle.xmp_fits.proofs.QuietSteps as quiet_steps
+use Rattle.xmp_fits.proofs.QuietRuns.{Kept, quiet, quiet_scalars}
+use Rattle.xmp_fits.proofs.Respected.{Ends, ◌>>=◌, pure}
+use Rattle.xmp_fits.proofs.RespectedSteps as quiet_steps
+use Rattle.xmp_fits.proofs.Respected as quiet_runs
+use Rattle.xmp_fits.proofs.RespectedMappings as quiet_mappings
+use Rattle.xmp_fits.proofs.RespectedDirectives as quiet
 
 -- ---- functions
 
@@ -43,7 +44,7 @@ head_quiet : (r : Region) (f : Function) → Kept (head_of r f)
 head_quiet r f = record { at = λ w. record { arrays = refl; coarray = refl } }
 
 parameters_quiet : (ps : List (TypeWords × named.Name)) → Kept (walk.each parameter_of ps)
-parameters_quiet ps = (quiet_runs.each (λ x. quiet_steps.declare_scalar x.1 (type_of x.0)) ps).kept
+parameters_quiet ps = (quiet_runs.each quiet (λ x. quiet_steps.declare_scalar quiet quiet_scalars x.1 (type_of x.0)) ps).kept
 
 -- What a function does behind its body.
 abbrev ends_function : Function → ℕ → List ℕ → List made.Stmt → Run ⊤
@@ -62,7 +63,7 @@ return_declares : (x : Stmt) (at end : Place) (value : Expr) → out-Stmt x ≡ 
 return_declares x at end value e =
     declares_as (return_of true at value) false (coarray_stmt x)
     (sym (ap coarray_stmt (sym (roll-out-Stmt x) ∙ ap roll-Stmt e) ∙ fold-roll-Stmt Bool coarray_step (Stmt-F.Plain (plain.Return at value end))))
-    (quiet_run (return_of true at value) (quiet.return_kept true at value))
+    (quiet_run (return_of true at value) (quiet.return_kept quiet true at value))
 
 last_declares : (x : Stmt) (o : Stmt-F Stmt) → out-Stmt x ≡ o → Declares (last_in x o) (coarray_stmt x)
 last_declares x (Stmt-F.Plain (plain.Return at value end)) e = return_declares x at end value e
@@ -105,14 +106,14 @@ ends_main k body = walk.◌>>=◌ walk.close_scope (λ _. walk.◌>>=◌ (leave 
 main_declares : (f : Function) → Declares (main_of f) (list_any coarray_in f.body.item)
 main_declares f =
     behind_quiet (head_of region.Main f) _ (list_any coarray_in f.body.item) (head_quiet region.Main f) (λ k.
-    behind_quiet (walk.judge (is_main_head f) N7 f.name.at) _ (list_any coarray_in f.body.item) (quiet_steps.judge (is_main_head f) N7 f.name.at).kept (λ _.
+    behind_quiet (walk.judge (is_main_head f) N7 f.name.at) _ (list_any coarray_in f.body.item) (quiet_steps.judge quiet (is_main_head f) N7 f.name.at).kept (λ _.
     behind_quiet (walk.each parameter_of (parameters_in f.parameters.item)) _ (list_any coarray_in f.body.item) (parameters_quiet (parameters_in f.parameters.item)) (λ slots.
     before_quiet (items_of [] (main_items f.body.item)) (ends_main k) (list_any coarray_in f.body.item) (main_declare [] f.body.item) (λ body. record { at = λ w. record { arrays = refl; coarray = refl } }))))
 
 -- ---- the program
 
 top_declares : (x : TopItem) → Declares (top_of x) (coarray_top x)
-top_declares (top.Mapping x) = quiet_run (mapping_of x) (quiet_mappings.mapping_kept x)
+top_declares (top.Mapping x) = quiet_run (mapping_of x) (quiet_mappings.mapping_kept quiet x)
 top_declares (top.Declaration d) = all_declare (type_of d.ty) (listed d.items)
 top_declares (top.Function f) = function_declares f
 

@@ -14,7 +14,7 @@ use Rattle.xmp_prog.specs.Statements.{writes_of}
 use Rattle.xmp_prog.specs.Terms.{slots_of_terms, terms_of, type_of}
 use Rattle.xmp_walk.specs.Counted.{is_bound, is_counted, is_kept, reads, writes_any}
 use Rattle.xmp_fits.proofs.BoundsPass.{BoundFits, bound_fits}
-use Rattle.xmp_elab.proofs.Unbroken.{both_true, left_true, right_true}
+use Rattle.xmp_parts.proofs.Unbroken.{both_true, left_true, right_true}
 use Rattle.xmp_fits.proofs.WritesSeen.{writes_seen}
 
 -- ---- scalars that are kept

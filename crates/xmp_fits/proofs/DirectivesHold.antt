@@ -5,17 +5,17 @@ use Rattle.xmp_map.specs.declared.grid.NodeSet.{NodeSet}
 use Rattle.xmp_prog.specs.declared.parts.ProgParts.{ProgParts}
 use Rattle.xmp_prog.specs.declared.statements.Stmt as made
 use Rattle.xmp_prog.specs.declared.statements.Task.{Task}
-use Rattle.xmp_tree.specs.declared.statement.ForFirst.{ForFirst}
-use Rattle.xmp_tree.specs.declared.statement.ForFirst.TheVariants as for_first
-use Rattle.xmp_tree.specs.declared.statement.ForHead.{ForHead}
+use Rattle.xmp_syntax.specs.declared.statement.ForFirst.{ForFirst}
+use Rattle.xmp_syntax.specs.declared.statement.ForFirst.TheVariants as for_first
+use Rattle.xmp_syntax.specs.declared.statement.ForHead.{ForHead}
 use Rattle.xmp_walk.specs.declared.loops.First.{First}
-use Rattle.xmp_walk.specs.declared.world.World.{World}
+use Rattle.xmp_names.specs.declared.world.World.{World}
 use Rattle.xmp_walk.specs.Declarations.{local_declarator}
-use Rattle.xmp_walk.specs.Directives.{judged_loop, loop_line, nest_of, task_line}
+use Rattle.xmp_directives.specs.Directives.{judged_loop, loop_line, nest_of, task_line}
 use Rattle.xmp_walk.specs.Program.{plain_of}
 use Rattle.xmp_walk.specs.Statements.{first_of, set, simple_of}
-use Rattle.xmp_walk.specs.Walk as walk
-use Rattle.xmp_walk.specs.Walk.{Step, Gave}
+use Rattle.xmp_names.specs.Walk as walk
+use Rattle.xmp_names.specs.Walk.{Step, Gave}
 use Rattle.xmp_fits.proofs.DirectiveCases.{AllMade, counted_made, declarator_made, plain_made, declare_passes}
 use Rattle.xmp_fits.proofs.DirectivesPass.{StmtFits, StmtMade, block_fits, if_fits, plain_fits, while_fits}
 use Rattle.xmp_fits.proofs.Endings.{Ending, earlier, ends_at}
@@ -23,7 +23,7 @@ use Rattle.xmp_fits.proofs.GoodSteps.{Stays}
 use Rattle.xmp_fits.proofs.GoodWorlds.{Own}
 use Rattle.xmp_fits.proofs.HeadsKnown.{FirstKnown, OperandMade, first_known, typed_known}
 use Rattle.xmp_fits.proofs.Holding.{Holds, Unbroken}
-use Rattle.xmp_fits.proofs.KeptRuns.{Ends}
+use Rattle.xmp_fits.proofs.Respected.{Ends}
 use Rattle.xmp_fits.proofs.LoopsEnd.{LineMade, line_made, loop_made}
 use Rattle.xmp_fits.specs.NumbersLie.{first_lies}
 use Rattle.xmp_fits.proofs.OneWorld.{Cases, FirstFits, LastMade, Tests}

@@ -20,11 +20,12 @@ use Rattle.xmp_prog.specs.Fits.{DirectivesFit, all_statements, statements_of_pro
 use Rattle.xmp_prog.specs.Statements.{Statement, Walked, WalkedTask, arrays_beside, statements_of, walk_step, walk_task, walked, writes_of}
 use Rattle.xmp_prog.specs.Tests.{counted_fits}
 use Rattle.xmp_prog.proofs.Rolls.{at_block, at_counted, at_if, at_loop, at_plain, at_tasks, at_while}
-use Rattle.xmp_walk.specs.declared.world.World.{World}
-use Rattle.xmp_walk.specs.Walk.{Run}
+use Rattle.xmp_names.specs.declared.world.World.{World}
+use Rattle.xmp_names.specs.Walk.{Run}
 use Rattle.xmp_fits.proofs.Endings.{Ending}
 use Rattle.xmp_fits.proofs.GoodWorlds.{Good, Own}
-use Rattle.xmp_fits.proofs.KeptRuns.{Ends, Kept}
+use Rattle.xmp_fits.proofs.KeptRuns.{Kept}
+use Rattle.xmp_fits.proofs.Respected.{Ends}
 use Rattle.xmp_fits.proofs.MapsPass.{all_pass_of}
 
 -- ---- one statement

@@ -12,16 +12,16 @@ use Rattle.xmp_prog.specs.declared.statements.Stmt.TheVariants as s
 use Rattle.xmp_prog.specs.Fits.{DirectivesFit, MappingsFit, all_statements, has_coarrays, statements_of_program}
 use Rattle.xmp_prog.specs.Statements.{statements_of}
 use Rattle.xmp_prog.specs.Tests.{counted_fits, is_image, is_spread}
-use Rattle.xmp_tree.specs.declared.expression.Expr.{Expr}
-use Rattle.xmp_tree.specs.declared.program.Tree.{Tree}
-use Rattle.xmp_walk.specs.declared.world.World.{World}
-use Rattle.xmp_walk.specs.MappingRules.{mapping_rules}
-use Rattle.xmp_elab.specs.Narrow.{is_count}
-use Rattle.xmp_elab.specs.Parts.{Made}
+use Rattle.xmp_syntax.specs.declared.expression.Expr.{Expr}
+use Rattle.xmp_syntax.specs.declared.program.Tree.{Tree}
+use Rattle.xmp_names.specs.declared.world.World.{World}
+use Rattle.xmp_mapping_rules.specs.MappingRules.{mapping_rules}
+use Rattle.xmp_parts.specs.Narrow.{is_count}
+use Rattle.xmp_parts.specs.Parts.{Made}
 use Rattle.xmp_walk.specs.Program.{program_of}
 use Rattle.xmp_walk.specs.Statements.{return_of}
-use Rattle.xmp_walk.specs.Walk as walk
-use Rattle.xmp_walk.specs.Walk.{Step, Gave}
+use Rattle.xmp_names.specs.Walk as walk
+use Rattle.xmp_names.specs.Walk.{Step, Gave}
 use Rattle.xmp_fits.proofs.CoarraysFound.{coarray_known}
 use Rattle.xmp_fits.proofs.DirectiveCases.{return_made}
 use Rattle.xmp_fits.proofs.DirectivesHold.{directive_cases, directive_tests, each_made}
@@ -30,17 +30,16 @@ use Rattle.xmp_fits.proofs.Endings.{Ending, earlier, ends_at}
 use Rattle.xmp_fits.proofs.FitPrinciple.{Facts, Forms}
 use Rattle.xmp_fits.proofs.GoodWorlds.{Good, Own}
 use Rattle.xmp_fits.proofs.Holding.{Unbroken}
-use Rattle.xmp_fits.proofs.KeptDirectives.{return_kept}
-use Rattle.xmp_fits.proofs.KeptRuns.{Goes}
+use Rattle.xmp_fits.proofs.KeptRuns.{Goes, going}
+use Rattle.xmp_fits.proofs.RespectedDirectives.{return_kept}
 use Rattle.xmp_fits.proofs.KindsPass.{coarrays_fit, spread_fits}
 use Rattle.xmp_fits.proofs.Laters.{Later, later_refl}
 use Rattle.xmp_fits.proofs.MapsPass.{mappings_fit}
-use Rattle.xmp_fits.specs.NumbersLie.{tree_lies}
+use Rattle.xmp_fits.specs.NumbersLie.{tree_lies, numbers_lie}
 use Rattle.xmp_fits.proofs.OneWorld.{facts_of, forms_of}
 use Rattle.xmp_fits.proofs.ProgramFits.{Ended, program_fits}
 use Rattle.xmp_fits.proofs.ProgramWalk.{FunctionOf, MainOf, Starts}
 use Rattle.xmp_fits.proofs.SetsEnd.{all_more}
-use Rattle.xmp_fits.specs.NumbersLie.{numbers_lie}
 
 abbrev facts : Own → Facts
 facts own = facts_of directive_tests
@@ -59,7 +58,7 @@ later_made v u l (x ∷ xs) h = (λ p e. h.0 p (earlier v u p l e), later_made v
 last_made : (own : Own) (at : Place) (x : Expr) → numbers_lie x ≡ true → (w v : World) (done : List made.Stmt) → Goes w v → Good own v → AllByRecursion (λ y. StmtMade y v) done →
     Unbroken (λ u one. AllByRecursion (λ y. StmtMade y u) (done ++ one ∷ [])) (return_of true at x v)
 last_made own at x n w v done o g h = λ e.
-    all_more (λ y. StmtMade y _) done _ (later_made v _ ((return_kept true at x).at v).onward.later done h) (return_made true at x v)
+    all_more (λ y. StmtMade y _) done _ (later_made v _ ((return_kept going true at x).at v).onward.later done h) (return_made true at x v)
 
 -- Of an initialiser at file scope nothing is asked.
 abbrev Anything : World → Start → Type 0

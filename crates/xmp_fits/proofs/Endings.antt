@@ -8,30 +8,32 @@ use Rattle.xmp_base.specs.declared.place.Place.{Place}
 use Rattle.xmp_prog.specs.declared.parts.Array as made_array
 use Rattle.xmp_prog.specs.declared.parts.ProgParts.{ProgParts}
 use Rattle.xmp_prog.specs.declared.statements.Stmt.{Stmt}
-use Rattle.xmp_tree.specs.declared.parts.Name as named
+use Rattle.xmp_syntax.specs.declared.parts.Name as named
 use Rattle.xmp_scopes.specs.Names as scope
-use Rattle.xmp_walk.specs.declared.mappings.NodesLine.{NodesLine}
-use Rattle.xmp_walk.specs.declared.names.Array as array
-use Rattle.xmp_walk.specs.declared.names.Meaning.{Meaning}
-use Rattle.xmp_walk.specs.declared.names.Meaning.TheVariants.{Scalar, Array, Nodes, Template, Function}
-use Rattle.xmp_walk.specs.declared.rules.Rule.{Rule}
-use Rattle.xmp_walk.specs.declared.rules.Rule.TheVariants.{N1, N3, N5, M1}
-use Rattle.xmp_walk.specs.declared.rules.Broken.{Broken}
-use Rattle.xmp_walk.specs.declared.world.World.{World}
-use Rattle.xmp_walk.specs.Rules.{unless}
-use Rattle.xmp_walk.specs.Expressions.{is_function}
-use Rattle.xmp_walk.specs.Directives.{given_or_one, line_sizes, sizes_in}
-use Rattle.xmp_walk.specs.MappingRules.{mapping_rules, has_nodes, nodes_of, nodes_right, nodes_rule, nodes_rules, sizes_or_row}
-use Rattle.xmp_elab.specs.Narrow.{is_count}
-use Rattle.xmp_elab.specs.Parts.{IsArray, Made}
-use Rattle.xmp_walk.specs.Walk.{Step, Gave, Run, and_then, first_of_two, a_nodes, a_template, an_array, name_of, of_kind}
+use Rattle.xmp_names.specs.declared.mappings.NodesLine.{NodesLine}
+use Rattle.xmp_names.specs.declared.names.Array as array
+use Rattle.xmp_names.specs.declared.names.Meaning.{Meaning}
+use Rattle.xmp_names.specs.declared.names.Meaning.TheVariants.{Scalar, Array, Nodes, Template, Function}
+use Rattle.xmp_names.specs.declared.rules.Rule.{Rule}
+use Rattle.xmp_names.specs.declared.rules.Rule.TheVariants.{N1, N3, N5, M1}
+use Rattle.xmp_names.specs.declared.rules.Broken.{Broken}
+use Rattle.xmp_names.specs.declared.world.World.{World}
+use Rattle.xmp_names.specs.Rules.{unless}
+use Rattle.xmp_names.specs.Expressions.{is_function}
+use Rattle.xmp_names.specs.Sizes.{given_or_one, line_sizes}
+use Rattle.xmp_directives.specs.Directives.{sizes_in}
+use Rattle.xmp_mapping_rules.specs.MappingRules.{mapping_rules, has_nodes, nodes_of, nodes_right, nodes_rule, nodes_rules, sizes_or_row}
+use Rattle.xmp_parts.specs.Narrow.{is_count}
+use Rattle.xmp_parts.specs.Parts.{IsArray, Made}
+use Rattle.xmp_names.specs.Walk.{Step, Gave, Run, and_then, first_of_two, a_nodes, a_template, an_array, name_of, of_kind}
 use Rattle.xmp_fits.proofs.GoodSteps.{begins_get, true_name}
 use Rattle.xmp_fits.proofs.GoodWorlds.{Good, Own}
-use Rattle.xmp_fits.proofs.KeptRuns.{Ends, Goes, Kept}
-use Rattle.xmp_fits.proofs.KeptSteps.{directive_at, goes_noted}
+use Rattle.xmp_fits.proofs.KeptRuns.{Goes, Kept, goes_noted, going}
+use Rattle.xmp_fits.proofs.Respected.{Ends}
+use Rattle.xmp_fits.proofs.RespectedSteps.{directive_at}
 use Rattle.xmp_fits.proofs.Laters.{Later, later_trans, unbroken_before}
-use Rattle.xmp_elab.proofs.MadeLists.{made_here}
-use Rattle.xmp_elab.proofs.Unbroken.{holds, left_none, left_true, none_here, right_none}
+use Rattle.xmp_parts.proofs.MadeLists.{made_here}
+use Rattle.xmp_parts.proofs.Unbroken.{holds, left_none, left_true, none_here, right_none}
 
 -- ---- steps, opened
 
@@ -83,7 +85,7 @@ directed at w = record w {
 }
 
 pub goes_directed : (at : Place) (w : World) → Goes w (directed at w)
-goes_directed at w = (directive_at at).kept.at w
+goes_directed at w = (directive_at going at).kept.at w
 
 -- What a step made.
 abbrev value_in : {A : Type 0} → Step A → A

@@ -15,20 +15,21 @@ use Rattle.xmp_prog.specs.declared.parts.ProgParts.{ProgParts}
 use Rattle.xmp_prog.specs.Numbers.{is_in}
 use Rattle.xmp_prog.specs.Statements.{slots_of_stmt}
 use Rattle.xmp_prog.specs.Scopes.{declared_in, scalars_fit, in_function}
-use Rattle.xmp_tree.specs.declared.parts.Name as named
-use Rattle.xmp_tree.specs.declared.parts.TypeWords.{TypeWords}
-use Rattle.xmp_walk.specs.declared.names.Region.TheVariants as region
-use Rattle.xmp_walk.specs.declared.names.Meaning.{Meaning}
-use Rattle.xmp_walk.specs.declared.names.Meaning.TheVariants.{Scalar}
-use Rattle.xmp_walk.specs.declared.world.World.{World}
-use Rattle.xmp_walk.specs.Expressions.{is_first}
-use Rattle.xmp_walk.specs.Walk as walk
+use Rattle.xmp_syntax.specs.declared.parts.Name as named
+use Rattle.xmp_syntax.specs.declared.parts.TypeWords.{TypeWords}
+use Rattle.xmp_names.specs.declared.names.Region.TheVariants as region
+use Rattle.xmp_names.specs.declared.names.Meaning.{Meaning}
+use Rattle.xmp_names.specs.declared.names.Meaning.TheVariants.{Scalar}
+use Rattle.xmp_names.specs.declared.world.World.{World}
+use Rattle.xmp_names.specs.Expressions.{is_first}
+use Rattle.xmp_names.specs.Walk as walk
 use Rattle.xmp_walk.specs.Program.{parameter_of}
 use Rattle.xmp_walk.specs.Declarations.{type_of}
 use Rattle.xmp_fits.proofs.Laters.{Scopes}
-use Rattle.xmp_fits.proofs.KeptRuns.{Ends, Goes}
-use Rattle.xmp_fits.proofs.TermsFit.{Seen}
+use Rattle.xmp_fits.proofs.KeptRuns.{Goes}
+use Rattle.xmp_fits.proofs.Respected.{Ends}
 use Rattle.xmp_fits.proofs.SameRuns.{may_see, declared_means, seen_declared, Same, IsNoScalar, no_scalar}
+use Rattle.xmp_fits.proofs.TermsFit.{Seen}
 use Rattle.xmp_fits.proofs.ScopedForms.{Rising, rising_ends, rising_both, declared_block, block_right}
 use Rattle.xmp_fits.proofs.ScopedFits.{Lawful, longer, ItemsFit}
 use Rattle.xmp_fits.proofs.NamedSlots.{named_slots}

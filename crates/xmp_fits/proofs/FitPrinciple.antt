@@ -9,48 +9,49 @@ use Rattle.xmp_map.specs.declared.grid.NodeSet.{NodeSet}
 use Rattle.xmp_prog.specs.declared.statements.Stmt as made
 use Rattle.xmp_prog.specs.declared.statements.Stmt.TheVariants as s
 use Rattle.xmp_prog.specs.declared.statements.Task.{Task}
-use Rattle.xmp_tree.specs.declared.declaration.Declarator.{Declarator}
-use Rattle.xmp_tree.specs.declared.directive.DirectiveLine.{DirectiveLine}
-use Rattle.xmp_tree.specs.declared.directive.LoopLine.{LoopLine}
-use Rattle.xmp_tree.specs.declared.directive.Mapping.{Mapping}
-use Rattle.xmp_tree.specs.declared.directive.TaskLine.{TaskLine}
-use Rattle.xmp_tree.specs.declared.expression.Expr.{Expr}
-use Rattle.xmp_tree.specs.declared.statement.ForHead.{ForHead}
-use Rattle.xmp_tree.specs.declared.statement.Plain.{Plain}
-use Rattle.xmp_tree.specs.declared.statement.Plain.TheVariants as plain
-use Rattle.xmp_tree.specs.declared.statement.BlockItem.{BlockItem}
-use Rattle.xmp_tree.specs.declared.statement.BlockItem.TheVariants as b
-use Rattle.xmp_tree.specs.declared.statement.Stmt.{Stmt, out-Stmt, roll-Stmt, roll-out-Stmt}
-use Rattle.xmp_tree.specs.declared.statement.Stmt.TheOpen.{Stmt-F}
-use Rattle.xmp_tree.specs.declared.statement.Stmt.TheVariants as t
+use Rattle.xmp_syntax.specs.declared.declaration.Declarator.{Declarator}
+use Rattle.xmp_syntax.specs.declared.directive.DirectiveLine.{DirectiveLine}
+use Rattle.xmp_syntax.specs.declared.directive.LoopLine.{LoopLine}
+use Rattle.xmp_syntax.specs.declared.directive.Mapping.{Mapping}
+use Rattle.xmp_syntax.specs.declared.directive.TaskLine.{TaskLine}
+use Rattle.xmp_syntax.specs.declared.expression.Expr.{Expr}
+use Rattle.xmp_syntax.specs.declared.statement.ForHead.{ForHead}
+use Rattle.xmp_syntax.specs.declared.statement.Plain.{Plain}
+use Rattle.xmp_syntax.specs.declared.statement.Plain.TheVariants as plain
+use Rattle.xmp_syntax.specs.declared.statement.BlockItem.{BlockItem}
+use Rattle.xmp_syntax.specs.declared.statement.BlockItem.TheVariants as b
+use Rattle.xmp_syntax.specs.declared.statement.Stmt.{Stmt, out-Stmt, roll-Stmt, roll-out-Stmt}
+use Rattle.xmp_syntax.specs.declared.statement.Stmt.TheOpen.{Stmt-F}
+use Rattle.xmp_syntax.specs.declared.statement.Stmt.TheVariants as t
 use Rattle.xmp_walk.specs.declared.loops.ForParts.{ForParts}
-use Rattle.xmp_walk.specs.declared.loop_lines.LoopParts.{LoopParts}
-use Rattle.xmp_walk.specs.declared.typed.Operand.{Operand}
-use Rattle.xmp_walk.specs.declared.world.World.{World}
-use Rattle.xmp_walk.specs.Walk as walk
-use Rattle.xmp_walk.specs.Walk.{Step, Gave, Run, and_then}
-use Rattle.xmp_walk.specs.Declarations.{local_declarator, local_declarators, type_of, listed}
-use Rattle.xmp_walk.specs.MappingLines.{mapping_of}
+use Rattle.xmp_directives.specs.declared.loop_lines.LoopParts.{LoopParts}
+use Rattle.xmp_names.specs.declared.typed.Operand.{Operand}
+use Rattle.xmp_names.specs.declared.world.World.{World}
+use Rattle.xmp_names.specs.Walk as walk
+use Rattle.xmp_names.specs.Walk.{Step, Gave, Run, and_then}
+use Rattle.xmp_walk.specs.Declarations.{local_declarator, local_declarators, type_of}
+use Rattle.xmp_names.specs.Lists.{listed}
+use Rattle.xmp_directives.specs.MappingLines.{mapping_of}
 use Rattle.xmp_walk.specs.Statements.{return_of, if_of, while_of, for_of, loop_of}
-use Rattle.xmp_walk.specs.Directives.{loop_line, judged_loop, loop_directive, nest_of, task_line, lone_task, tasks_in, tasks_of, made_task}
-use Rattle.xmp_walk.specs.Program.{plain_of, item_of, items_of, block_of, stmt_of, inside_item, task_step, last_in, main_items}
-use Rattle.xmp_walk.specs.declared.rules.Rule.TheVariants.{N5}
-use Rattle.xmp_walk.specs.Rules.{unless}
-use Rattle.xmp_walk.specs.Expressions.{is_function}
-use Rattle.xmp_elab.proofs.Unbroken.{left_true, right_true, right_none, holds}
-use Rattle.xmp_fits.specs.NumbersLie.{numbers_lie}
-use Rattle.xmp_fits.specs.NumbersLie.{mapping_lies, declarator_lies, declaration_lies, loop_line_lies, task_line_lies, head_lies, plain_lies, stmt_lies, item_lies, items_lie, task_lies, tasks_lie}
+use Rattle.xmp_directives.specs.Directives.{loop_line, judged_loop, nest_of, task_line, lone_task, tasks_in, tasks_of, made_task}
+use Rattle.xmp_walk.specs.Program.{loop_directive, plain_of, item_of, items_of, block_of, stmt_of, inside_item, task_step, last_in, main_items}
+use Rattle.xmp_names.specs.declared.rules.Rule.TheVariants.{N5}
+use Rattle.xmp_names.specs.Rules.{unless}
+use Rattle.xmp_names.specs.Expressions.{is_function}
+use Rattle.xmp_parts.proofs.Unbroken.{left_true, right_true, right_none, holds}
+use Rattle.xmp_fits.specs.NumbersLie.{numbers_lie, mapping_lies, declarator_lies, declaration_lies, loop_line_lies, task_line_lies, head_lies, plain_lies, stmt_lies, item_lies, items_lie, task_lies, tasks_lie}
 use Rattle.xmp_fits.proofs.NumbersLie as lie
 use Rattle.xmp_fits.proofs.Laters.{unbroken_before}
 use Rattle.xmp_fits.proofs.GoodWorlds.{Own, Good}
 use Rattle.xmp_fits.proofs.GoodSteps.{good_opened}
-use Rattle.xmp_fits.proofs.KeptRuns.{Ends, Goes, goes_refl, goes_trans, goes_then, GoesOn, Kept}
-use Rattle.xmp_fits.proofs.KeptSteps.{typed, directive_at}
-use Rattle.xmp_fits.proofs.KeptLines.{declarator_kept, declarators_kept}
-use Rattle.xmp_fits.proofs.KeptMappings.{mapping_kept}
-use Rattle.xmp_fits.proofs.KeptDirectives.{head_parts, line_kept, loop_kept, task_line_kept}
+use Rattle.xmp_fits.proofs.KeptRuns.{Goes, goes_refl, goes_trans, goes_then, GoesOn, Kept, going, going_scalars, going_arrays}
+use Rattle.xmp_fits.proofs.Respected.{Ends}
+use Rattle.xmp_fits.proofs.RespectedDirectives.{head_parts, line_kept, loop_kept, task_line_kept}
+use Rattle.xmp_fits.proofs.RespectedLines.{declarator_kept, declarators_kept}
+use Rattle.xmp_fits.proofs.RespectedMappings.{mapping_kept}
+use Rattle.xmp_fits.proofs.RespectedSteps.{typed, directive_at}
 use Rattle.xmp_fits.proofs.KeptStatements.{opened, closed, stays_opened, item_kept, items_kept, tasks_in_kept, stmt_kept, for_kept, main_kept}
-use Rattle.xmp_fits.proofs.Seen.{seen_plain, seen_if, seen_while, seen_for, seen_loop, seen_task, seen_tasks, seen_block}
+use Rattle.xmp_walk.proofs.Seen.{seen_plain, seen_if, seen_while, seen_for, seen_loop, seen_task, seen_tasks, seen_block}
 use Rattle.xmp_fits.proofs.TreeInduction.{ItemIs, Cases, each_stmt, each_item}
 use Rattle.xmp_fits.proofs.Holding.{Unbroken, Holds, unbroken_then, unbroken_next, unbroken_map, unbroken_goes, same_holds}
 
@@ -74,7 +75,7 @@ pub record Forms (own : Own) (f : Facts) : Type 0 where
   pub if_of : (w v u t : World) (x : Operand) (a c : made.Stmt) → Good own w → Goes w v → Goes v u → Goes u t → f.Reads w v x → f.Fit v u a → f.Fit u t c → f.Fit w t (s.If x.made a c)
   pub while_of : (w v u : World) (x : Operand) (a : made.Stmt) (at : Place) → Good own w → Goes w v → Goes v u → f.Reads w v x → f.Fit v u a → f.Fit w u (s.While x.made a at)
   -- in the scope that a `for` opens
-  pub head : (h : ForHead) → head_lies h ≡ true → Holds own (f.Heads h) (head_parts h).run
+  pub head : (h : ForHead) → head_lies h ≡ true → Holds own (f.Heads h) (head_parts going going_scalars h).run
   pub for_of : (h : ForHead) (w v u : World) (parts : ForParts) (x : made.Stmt) → Good own w → Goes (opened w) v → Goes v u → f.Heads h (opened w) v parts → f.Fit v u x → f.Fit w (closed u) (loop_of h parts x)
   pub line : (l : LoopLine) → loop_line_lies l ≡ true → Holds own f.Lines (loop_line l)
   pub loop : (l : LoopLine) (w v u : World) (parts : LoopParts) (x : made.Stmt) → Good own w → Goes w v → Goes v u → f.Lines w v parts → f.Fit v u x →
@@ -119,12 +120,12 @@ module _ (own : Own) (f : Facts) (forms : Forms own f) where
   declarators_hold ty w v done [] n g h i = λ e. i
   declarators_hold ty w v done (d ∷ ds) n g h i =
       unbroken_then (λ u more. f.Items w u (done ++ more)) (f.Items w) v (local_declarator ty d v) (λ more. local_declarators ty (done ++ more) ds)
-      ((declarator_kept ty d).at v) (forms.declarator ty d (left_true (declarator_lies d) (list_all declarator_lies ds) n) w v done g h i) (λ more. declarators_kept ty (done ++ more) ds)
+      ((declarator_kept going going_scalars going_arrays ty d).at v) (forms.declarator ty d (left_true (declarator_lies d) (list_all declarator_lies ds) n) w v done g h i) (λ more. declarators_kept going going_scalars going_arrays ty (done ++ more) ds)
       (λ more u o j. declarators_hold ty w u (done ++ more) ds (right_true (declarator_lies d) (list_all declarator_lies ds) n) (goes_trans g o) (o.good own h) j)
 
   item_holds : (w v : World) (done : List made.Stmt) (x : BlockItem (Run made.Stmt)) → ItemSound x → Goes w v → Good own v → f.Items w v done → Unbroken (f.Items w) (item_of done x v)
   item_holds w v done (b.Mapping x) k g h i =
-      unbroken_then (λ u _. f.Items w u done) (f.Items w) v (mapping_of x v) (λ _. walk.pure done) ((mapping_kept x).at v) (forms.mapping x k w v done g h i) (λ _. record { at = goes_refl }) (λ _ u o j e. j)
+      unbroken_then (λ u _. f.Items w u done) (f.Items w) v (mapping_of x v) (λ _. walk.pure done) ((mapping_kept going x).at v) (forms.mapping x k w v done g h i) (λ _. record { at = goes_refl }) (λ _ u o j e. j)
   item_holds w v done (b.Declaration d) k g h i = declarators_hold (type_of d.ty) w v done (listed d.items) k g h i
   item_holds w v done (b.Stmt body) k g h i =
       unbroken_then (f.Fit v) (f.Items w) v (body v) (λ one. walk.pure (done ++ one ∷ [])) (k.kept.at v) (k.holds.at v h) (λ one. record { at = goes_refl })
@@ -160,7 +161,7 @@ module _ (own : Own) (f : Facts) (forms : Forms own f) where
   if_holds : (x : Expr) (a : Run made.Stmt) → numbers_lie x ≡ true → Sound own f a → Holds own f.Fit (if_of x a None)
   if_holds x a num k = record {
     at = λ w g.
-        unbroken_then (f.Reads w) (f.Fit w) w (walk.typed x w) (λ t. walk.◌>>=◌ a (λ y. walk.pure (s.If t.made y (s.Block [])))) ((typed x).kept.at w) ((forms.test x num).at w g)
+        unbroken_then (f.Reads w) (f.Fit w) w (walk.typed x w) (λ t. walk.◌>>=◌ a (λ y. walk.pure (s.If t.made y (s.Block [])))) ((typed going x).kept.at w) ((forms.test x num).at w g)
         (λ t. record { at = λ v. goes_then v (a v) (λ y. walk.pure (s.If t.made y (s.Block []))) (k.kept.at v) (λ y. record { at = goes_refl }) })
         (λ t v o r. unbroken_then (f.Fit v) (f.Fit w) v (a v) (λ y. walk.pure (s.If t.made y (s.Block []))) (k.kept.at v) (k.holds.at v (o.good own g)) (λ y. record { at = goes_refl })
         (λ y u q i e. forms.if_of w v u u t y (s.Block []) g o q (goes_refl u) r i (forms.no_else u (q.good own (o.good own g)))));
@@ -169,7 +170,7 @@ module _ (own : Own) (f : Facts) (forms : Forms own f) where
   else_holds : (x : Expr) (a : Run made.Stmt) (at : Place) (c : Run made.Stmt) → numbers_lie x ≡ true → Sound own f a → Sound own f c → Holds own f.Fit (if_of x a (Some (at, c)))
   else_holds x a at c num k l = record {
     at = λ w g.
-        unbroken_then (f.Reads w) (f.Fit w) w (walk.typed x w) (λ t. walk.◌>>=◌ a (λ y. walk.◌>>=◌ c (λ z. walk.pure (s.If t.made y z)))) ((typed x).kept.at w) ((forms.test x num).at w g)
+        unbroken_then (f.Reads w) (f.Fit w) w (walk.typed x w) (λ t. walk.◌>>=◌ a (λ y. walk.◌>>=◌ c (λ z. walk.pure (s.If t.made y z)))) ((typed going x).kept.at w) ((forms.test x num).at w g)
         (λ t. record {
           at = λ v. goes_then v (a v) (λ y. walk.◌>>=◌ c (λ z. walk.pure (s.If t.made y z))) (k.kept.at v)
               (λ y. record { at = λ u. goes_then u (c u) (λ z. walk.pure (s.If t.made y z)) (l.kept.at u) (λ z. record { at = goes_refl }) });
@@ -183,7 +184,7 @@ module _ (own : Own) (f : Facts) (forms : Forms own f) where
   while_holds : (at : Place) (x : Expr) (a : Run made.Stmt) → numbers_lie x ≡ true → Sound own f a → Holds own f.Fit (while_of at x a)
   while_holds at x a num k = record {
     at = λ w g.
-        unbroken_then (f.Reads w) (f.Fit w) w (walk.typed x w) (λ t. walk.◌>>=◌ a (λ y. walk.pure (s.While t.made y at))) ((typed x).kept.at w) ((forms.test x num).at w g)
+        unbroken_then (f.Reads w) (f.Fit w) w (walk.typed x w) (λ t. walk.◌>>=◌ a (λ y. walk.pure (s.While t.made y at))) ((typed going x).kept.at w) ((forms.test x num).at w g)
         (λ t. record { at = λ v. goes_then v (a v) (λ y. walk.pure (s.While t.made y at)) (k.kept.at v) (λ y. record { at = goes_refl }) })
         (λ t v o r. unbroken_then (f.Fit v) (f.Fit w) v (a v) (λ y. walk.pure (s.While t.made y at)) (k.kept.at v) (k.holds.at v (o.good own g)) (λ y. record { at = goes_refl })
         (λ y u q i e. forms.while_of w v u t y at g o q r i));
@@ -199,8 +200,8 @@ module _ (own : Own) (f : Facts) (forms : Forms own f) where
   for_holds h a num k = record {
     at = λ w g.
         let j : Good own (opened w) = good_opened own w (opened w) (stays_opened w) refl g in
-        unbroken_next (f.Heads h (opened w)) (f.Fit w) (opened w) ((head_parts h).run (opened w)) (λ parts. walk.◌>>=◌ a (λ x. λ v. Gave (loop_of h parts x) (closed v)))
-        ((head_parts h).kept.at (opened w)) ((forms.head h num).at (opened w) j) (λ parts v o. closes h a k.kept parts v)
+        unbroken_next (f.Heads h (opened w)) (f.Fit w) (opened w) ((head_parts going going_scalars h).run (opened w)) (λ parts. walk.◌>>=◌ a (λ x. λ v. Gave (loop_of h parts x) (closed v)))
+        ((head_parts going going_scalars h).kept.at (opened w)) ((forms.head h num).at (opened w) j) (λ parts v o. closes h a k.kept parts v)
         (λ parts v o i. unbroken_next (f.Fit v) (f.Fit w) v (a v) (λ x. λ u. Gave (loop_of h parts x) (closed u)) (k.kept.at v) (k.holds.at v (o.good own j)) (λ x u q e. e)
         (λ x u q r e. forms.for_of h w v u parts x g o q i r));
   }
@@ -210,16 +211,16 @@ module _ (own : Own) (f : Facts) (forms : Forms own f) where
   loop_holds : (l : LoopLine) (h : ForHead) (a : Run made.Stmt) → loop_line_lies l ≡ true → head_lies h ≡ true → Sound own f a → Holds own f.Fit (loop_directive l h a)
   loop_holds l h a line num k = record {
     at = λ w g.
-        unbroken_then (f.Lines w) (f.Fit w) w (loop_line l w) (λ parts. walk.◌>>=◌ (for_of h a) (λ x. judged_loop l.line.word parts (nest_of (length parts.names) x))) ((line_kept l).at w) ((forms.line l line).at w g)
-        (λ parts. record { at = λ v. goes_then v (for_of h a v) (λ x. judged_loop l.line.word parts (nest_of (length parts.names) x)) ((for_kept h a k.kept).at v) (λ x. loop_kept l.line.word parts (nest_of (length parts.names) x)) })
+        unbroken_then (f.Lines w) (f.Fit w) w (loop_line l w) (λ parts. walk.◌>>=◌ (for_of h a) (λ x. judged_loop l.line.word parts (nest_of (length parts.names) x))) ((line_kept going l).at w) ((forms.line l line).at w g)
+        (λ parts. record { at = λ v. goes_then v (for_of h a v) (λ x. judged_loop l.line.word parts (nest_of (length parts.names) x)) ((for_kept h a k.kept).at v) (λ x. loop_kept going l.line.word parts (nest_of (length parts.names) x)) })
         (λ parts v o i. unbroken_then (f.Fit v) (f.Fit w) v (for_of h a v) (λ x. judged_loop l.line.word parts (nest_of (length parts.names) x)) ((for_kept h a k.kept).at v) ((for_holds h a num k).at v (o.good own g))
-        (λ x. loop_kept l.line.word parts (nest_of (length parts.names) x)) (λ x u q j. forms.loop l w v u parts x g o q i j));
+        (λ x. loop_kept going l.line.word parts (nest_of (length parts.names) x)) (λ x u q j. forms.loop l w v u parts x g o q i j));
   }
 
   lone_holds : (l : TaskLine) (a : Run made.Stmt) → task_line_lies l ≡ true → Sound own f a → Holds own f.Fit (lone_task l a)
   lone_holds l a num k = record {
     at = λ w g.
-        unbroken_then (f.Sets [] w) (f.Fit w) w (task_line [] l w) (λ nodes. walk.◌>>=◌ a (λ x. walk.pure (s.Tasks (made_task nodes x l.line.word ∷ []) l.line.word))) ((task_line_kept [] l).at w) ((forms.set [] l num).at w g)
+        unbroken_then (f.Sets [] w) (f.Fit w) w (task_line [] l w) (λ nodes. walk.◌>>=◌ a (λ x. walk.pure (s.Tasks (made_task nodes x l.line.word ∷ []) l.line.word))) ((task_line_kept going [] l).at w) ((forms.set [] l num).at w g)
         (λ nodes. record { at = λ v. goes_then v (a v) (λ x. walk.pure (s.Tasks (made_task nodes x l.line.word ∷ []) l.line.word)) (k.kept.at v) (λ x. record { at = goes_refl }) })
         (λ nodes v o i. unbroken_then (f.Fit v) (f.Fit w) v (a v) (λ x. walk.pure (s.Tasks (made_task nodes x l.line.word ∷ []) l.line.word)) (k.kept.at v) (k.holds.at v (o.good own g)) (λ x. record { at = goes_refl })
         (λ x u q j e. forms.tasks w w u (nodes ∷ []) (made_task nodes x l.line.word ∷ []) l.line.word (λ n. absurd (cc)) g refl (goes_refl w) (goes_trans o q)
@@ -232,7 +233,7 @@ module _ (own : Own) (f : Facts) (forms : Forms own f) where
   sets_hold w v before done (x ∷ xs) k g h i =
       unbroken_then (f.Sets before v) (λ u all. (sets : List NodeSet) × f.Sharing w u sets all) v (task_line before x.0 v)
       (λ nodes. walk.◌>>=◌ x.1 (λ y. tasks_in (before ++ nodes ∷ []) (done ++ made_task nodes y x.0.line.word ∷ []) xs))
-      ((task_line_kept before x.0).at v) ((forms.set before x.0 k.0.0).at v h) (λ nodes. record {
+      ((task_line_kept going before x.0).at v) ((forms.set before x.0 k.0.0).at v h) (λ nodes. record {
         at = λ u. goes_then u (x.1 u) (λ y. tasks_in (before ++ nodes ∷ []) (done ++ made_task nodes y x.0.line.word ∷ []) xs) (k.0.1.kept.at u)
             (λ y. tasks_in_kept (before ++ nodes ∷ []) (done ++ made_task nodes y x.0.line.word ∷ []) xs (bodies_kept xs k.1));
       })
@@ -249,7 +250,7 @@ module _ (own : Own) (f : Facts) (forms : Forms own f) where
   tasks_hold l xs k = record {
     at = λ w g.
         let v : World = after (walk.directive_at l.word w) in
-        let o : Goes w v = (directive_at l.word).kept.at w in
+        let o : Goes w v = (directive_at going l.word).kept.at w in
         unbroken_then (λ u all. (sets : List NodeSet) × f.Sharing v u sets all) (f.Fit w) v (tasks_in [] [] xs v) (λ all. walk.pure (s.Tasks all l.word))
         ((tasks_in_kept [] [] xs (bodies_kept xs k)).at v) (sets_hold v v [] [] xs k (goes_refl v) (o.good own g) (forms.no_task v)) (λ all. record { at = goes_refl })
         (λ all u q i e. forms.tasks w v u i.0 all l.word (λ n. untrue (is_function w.names.region) (holds (not (is_function w.names.region)) N5 l.word (right_none w.broken (unless (not (is_function w.names.region)) N5 l.word) (unbroken_before v u q.onward.later e)))) g refl o q i.1);

@@ -31,35 +31,36 @@ use Rattle.xmp_prog.specs.Statements.{terms_of_plain, terms_of_target, terms_of_
 use Rattle.xmp_prog.specs.Scopes.{declared_by_plain}
 use Rattle.xmp_prog.specs.Directives.{sections_in}
 use Rattle.xmp_prog.proofs.Rolls as rolls
-use Rattle.xmp_tree.specs.declared.parts.Name as named
-use Rattle.xmp_tree.specs.declared.parts.CommaList.{CommaList}
-use Rattle.xmp_tree.specs.declared.parts.Format.{Format}
-use Rattle.xmp_tree.specs.declared.parts.Next.{Next}
-use Rattle.xmp_tree.specs.declared.parts.Reference.{Reference}
-use Rattle.xmp_tree.specs.declared.expression.Expr.{Expr}
-use Rattle.xmp_tree.specs.declared.directive.DirectiveLine.{DirectiveLine}
-use Rattle.xmp_tree.specs.declared.directive.TaskLine.{TaskLine}
-use Rattle.xmp_tree.specs.declared.directive.Section.{Section}
-use Rattle.xmp_tree.specs.declared.directive.Section.TheVariants as section
-use Rattle.xmp_tree.specs.declared.directive.Sections.{Sections}
-use Rattle.xmp_tree.specs.declared.statement.Simple.{Simple}
-use Rattle.xmp_tree.specs.declared.statement.Simple.TheVariants as simple
-use Rattle.xmp_tree.specs.declared.statement.Plain.{Plain}
-use Rattle.xmp_tree.specs.declared.statement.Plain.TheVariants as plain
-use Rattle.xmp_walk.specs.declared.names.Meaning.{Meaning}
-use Rattle.xmp_walk.specs.declared.names.Meaning.TheVariants as meaning
-use Rattle.xmp_walk.specs.declared.names.Environment.{Environment}
-use Rattle.xmp_walk.specs.declared.operators.Operator.{Operator}
-use Rattle.xmp_walk.specs.declared.operators.Operator.TheVariants.{Arithmetic, Compare, Shift, Both, Either}
-use Rattle.xmp_walk.specs.declared.rules.Rule.TheVariants.{N1, N3, N4, N5, N6, N7, M8, M9}
-use Rattle.xmp_walk.specs.declared.typed.Operand.{Operand}
-use Rattle.xmp_walk.specs.Expressions.{is_function, is_nothing}
-use Rattle.xmp_walk.specs.Formats.{fits_format, is_scan_format}
-use Rattle.xmp_walk.specs.Declarations.{listed, inner}
-use Rattle.xmp_walk.specs.Walk as walk
-use Rattle.xmp_walk.specs.Walk.{Gave, Run, a_scalar, a_nodes, an_array, first_place, is_known, is_main}
+use Rattle.xmp_syntax.specs.declared.parts.Name as named
+use Rattle.xmp_syntax.specs.declared.parts.CommaList.{CommaList}
+use Rattle.xmp_syntax.specs.declared.parts.Format.{Format}
+use Rattle.xmp_syntax.specs.declared.parts.Next.{Next}
+use Rattle.xmp_syntax.specs.declared.parts.Reference.{Reference}
+use Rattle.xmp_syntax.specs.declared.expression.Expr.{Expr}
+use Rattle.xmp_syntax.specs.declared.directive.DirectiveLine.{DirectiveLine}
+use Rattle.xmp_syntax.specs.declared.directive.TaskLine.{TaskLine}
+use Rattle.xmp_syntax.specs.declared.directive.Section.{Section}
+use Rattle.xmp_syntax.specs.declared.directive.Section.TheVariants as section
+use Rattle.xmp_syntax.specs.declared.directive.Sections.{Sections}
+use Rattle.xmp_syntax.specs.declared.statement.Simple.{Simple}
+use Rattle.xmp_syntax.specs.declared.statement.Simple.TheVariants as simple
+use Rattle.xmp_syntax.specs.declared.statement.Plain.{Plain}
+use Rattle.xmp_syntax.specs.declared.statement.Plain.TheVariants as plain
+use Rattle.xmp_names.specs.declared.names.Meaning.{Meaning}
+use Rattle.xmp_names.specs.declared.names.Meaning.TheVariants as meaning
+use Rattle.xmp_names.specs.declared.names.Environment.{Environment}
+use Rattle.xmp_names.specs.declared.operators.Operator.{Operator}
+use Rattle.xmp_names.specs.declared.operators.Operator.TheVariants.{Arithmetic, Compare, Shift, Both, Either}
+use Rattle.xmp_names.specs.declared.rules.Rule.TheVariants.{N1, N3, N4, N5, N6, N7, M8, M9}
+use Rattle.xmp_names.specs.declared.typed.Operand.{Operand}
+use Rattle.xmp_names.specs.Expressions.{is_function, is_nothing}
+use Rattle.xmp_names.specs.Formats.{fits_format, is_scan_format}
+use Rattle.xmp_names.specs.Lists.{listed, inner}
+use Rattle.xmp_names.specs.Walk as walk
+use Rattle.xmp_names.specs.Walk.{Gave, Run, a_scalar, a_nodes, an_array, first_place, is_known, is_main}
 use Rattle.xmp_walk.specs.Statements.{target_in, target_of, compound_of, set, one, call_in, call_statement, is_scalar_target, target_name, simple_of, returned, return_of, print_of, scan_of, has_coarray, sync_of}
-use Rattle.xmp_walk.specs.Directives.{slot_or_zero, scalar_name, array_name, count_of, set_part, nodes_sizes, ranges, ranges_right, is_one, box_of, set_of, share, task_line, reflect_of, barrier_of, bcast_of, number_of, unwritten, step_of, part_with, part_of, parts_in, first_extent, extents_in, no_side, side_as, side_of, sections_match, gmove_of}
+use Rattle.xmp_directives.specs.Directives.{slot_or_zero, scalar_name, array_name, count_of, set_part, nodes_sizes, ranges, ranges_right, is_one, box_of, set_of, share, task_line, reflect_of, barrier_of, bcast_of, number_of, unwritten, step_of, part_with, part_of, parts_in, first_extent, no_side, side_as, side_of, sections_match, gmove_of}
+use Rattle.xmp_names.specs.Sizes.{extents_in}
 use Rattle.xmp_walk.specs.Program.{plain_of}
 use Rattle.xmp_fits.proofs.TermsFit.{Seen}
 use Rattle.xmp_fits.proofs.StepsFit.{IsPlace}

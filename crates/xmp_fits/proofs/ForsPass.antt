@@ -29,17 +29,17 @@ use Rattle.xmp_prog.specs.Counted.{most_counted}
 use Rattle.xmp_prog.specs.Statements.{writes_of}
 use Rattle.xmp_prog.specs.Terms.{type_of}
 use Rattle.xmp_prog.specs.Tests.{is_shift}
-use Rattle.xmp_tree.specs.declared.statement.ForHead.{ForHead}
-use Rattle.xmp_walk.specs.declared.typed.Operand.{Operand}
-use Rattle.xmp_walk.specs.declared.operators.Operator.{Operator}
-use Rattle.xmp_walk.specs.declared.operators.Operator.TheVariants as operator
+use Rattle.xmp_syntax.specs.declared.statement.ForHead.{ForHead}
+use Rattle.xmp_names.specs.declared.typed.Operand.{Operand}
+use Rattle.xmp_names.specs.declared.operators.Operator.{Operator}
+use Rattle.xmp_names.specs.declared.operators.Operator.TheVariants as operator
 use Rattle.xmp_walk.specs.declared.loops.First.{First}
 use Rattle.xmp_walk.specs.declared.loops.Shape.{Shape}
-use Rattle.xmp_walk.specs.Typing.{is_of, operand}
+use Rattle.xmp_names.specs.Typing.{is_of, operand}
 use Rattle.xmp_walk.specs.Counted.{added_to, bound_of, is_counted, is_scalar, step_size}
 use Rattle.xmp_walk.specs.Statements.{added_by, added_plain, compared_at, is_add, is_bump, one, right_side, set, shape_at, shape_by, shape_of, target_of}
 use Rattle.xmp_fits.proofs.CountedPass.{counted_head}
-use Rattle.xmp_elab.proofs.Unbroken.{both_true}
+use Rattle.xmp_parts.proofs.Unbroken.{both_true}
 
 no : {A B : Type 0} (x : A) → None ≡ Some x → B
 no x e = absurd (none-some x e)

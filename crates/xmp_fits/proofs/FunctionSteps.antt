@@ -7,16 +7,16 @@ use Rattle.std.proofs.lemmas.List.{map-append}
 use Rattle.xmp_num.specs.declared.types.Ty.{Ty}
 use Rattle.xmp_scopes.specs.Names as scope
 use Rattle.xmp_prog.specs.declared.parts.Function as made_function
-use Rattle.xmp_tree.specs.declared.program.Function.{Function}
-use Rattle.xmp_walk.specs.declared.names.Region.{Region}
-use Rattle.xmp_walk.specs.declared.names.Region.TheVariants as region
-use Rattle.xmp_walk.specs.declared.names.Meaning.{Meaning}
-use Rattle.xmp_walk.specs.declared.names.Meaning.TheVariants as meaning
-use Rattle.xmp_walk.specs.declared.names.Signature.{Signature}
-use Rattle.xmp_walk.specs.declared.rules.Rule.TheVariants.{N2}
-use Rattle.xmp_walk.specs.declared.world.World.{World}
-use Rattle.xmp_walk.specs.Rules.{unless, deeper}
-use Rattle.xmp_walk.specs.Walk.{is_reserved, is_main}
+use Rattle.xmp_syntax.specs.declared.program.Function.{Function}
+use Rattle.xmp_names.specs.declared.names.Region.{Region}
+use Rattle.xmp_names.specs.declared.names.Region.TheVariants as region
+use Rattle.xmp_names.specs.declared.names.Meaning.{Meaning}
+use Rattle.xmp_names.specs.declared.names.Meaning.TheVariants as meaning
+use Rattle.xmp_names.specs.declared.names.Signature.{Signature}
+use Rattle.xmp_names.specs.declared.rules.Rule.TheVariants.{N2}
+use Rattle.xmp_names.specs.declared.world.World.{World}
+use Rattle.xmp_names.specs.Rules.{unless, deeper}
+use Rattle.xmp_names.specs.Walk.{is_reserved, is_main}
 use Rattle.xmp_walk.specs.Declarations.{type_of}
 use Rattle.xmp_walk.specs.Program.{parameters_in, with_depth}
 use Rattle.xmp_fits.proofs.Laters.{Begins, begins_refl, begins_with, mappings_refl, Later, Scopes, Widened}

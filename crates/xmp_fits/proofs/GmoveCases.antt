@@ -24,37 +24,36 @@ use Rattle.xmp_prog.specs.Terms.{terms_of}
 use Rattle.xmp_prog.specs.Statements.{terms_of_part, terms_of_side, slots_of_side}
 use Rattle.xmp_prog.specs.Fits.{has_coarrays}
 use Rattle.xmp_prog.specs.Directives.{sections_in}
-use Rattle.xmp_tree.specs.declared.parts.Inside.{Inside}
-use Rattle.xmp_tree.specs.declared.expression.Expr.{Expr}
-use Rattle.xmp_tree.specs.declared.directive.DirectiveLine.{DirectiveLine}
-use Rattle.xmp_tree.specs.declared.directive.Section.{Section}
-use Rattle.xmp_tree.specs.declared.directive.Section.TheVariants as section
-use Rattle.xmp_tree.specs.declared.directive.Sections.{Sections}
-use Rattle.xmp_walk.specs.declared.names.Meaning.{Meaning}
-use Rattle.xmp_walk.specs.declared.names.Meaning.TheVariants.{Scalar, Array, Nodes, Template, Function}
-use Rattle.xmp_walk.specs.declared.names.Array as array
-use Rattle.xmp_walk.specs.declared.rules.Rule.TheVariants.{N3}
-use Rattle.xmp_walk.specs.declared.rules.Broken.{Broken}
-use Rattle.xmp_walk.specs.declared.world.World.{World}
-use Rattle.xmp_walk.specs.Rules.{unless}
-use Rattle.xmp_walk.specs.Expressions.{is_function}
-use Rattle.xmp_walk.specs.Walk as walk
-use Rattle.xmp_walk.specs.Walk.{Step, Gave, Run}
-use Rattle.xmp_walk.specs.Declarations.{inner}
-use Rattle.xmp_walk.specs.Directives as directives
-use Rattle.xmp_walk.specs.Directives.{unwritten, first_extent, extents_in, no_side}
-use Rattle.xmp_elab.proofs.Unbroken.{left_true, right_true}
+use Rattle.xmp_syntax.specs.declared.parts.Inside.{Inside}
+use Rattle.xmp_syntax.specs.declared.expression.Expr.{Expr}
+use Rattle.xmp_syntax.specs.declared.directive.DirectiveLine.{DirectiveLine}
+use Rattle.xmp_syntax.specs.declared.directive.Section.{Section}
+use Rattle.xmp_syntax.specs.declared.directive.Section.TheVariants as section
+use Rattle.xmp_syntax.specs.declared.directive.Sections.{Sections}
+use Rattle.xmp_names.specs.declared.names.Meaning.{Meaning}
+use Rattle.xmp_names.specs.declared.names.Meaning.TheVariants.{Scalar, Array, Nodes, Template, Function}
+use Rattle.xmp_names.specs.declared.names.Array as array
+use Rattle.xmp_names.specs.declared.rules.Rule.TheVariants.{N3}
+use Rattle.xmp_names.specs.declared.rules.Broken.{Broken}
+use Rattle.xmp_names.specs.declared.world.World.{World}
+use Rattle.xmp_names.specs.Rules.{unless}
+use Rattle.xmp_names.specs.Expressions.{is_function}
+use Rattle.xmp_names.specs.Walk as walk
+use Rattle.xmp_names.specs.Walk.{Step, Gave, Run}
+use Rattle.xmp_names.specs.Lists.{inner}
+use Rattle.xmp_directives.specs.Directives as directives
+use Rattle.xmp_directives.specs.Directives.{unwritten, first_extent, no_side}
+use Rattle.xmp_names.specs.Sizes.{extents_in}
+use Rattle.xmp_parts.proofs.Unbroken.{left_true, right_true}
 use Rattle.xmp_fits.proofs.GoodWorlds.{Own, Good}
 use Rattle.xmp_fits.proofs.GoodSteps.{Stays, onward_stays, true_name}
-use Rattle.xmp_fits.proofs.KeptRuns.{Ends, Goes, goes_refl, goes_trans, GoesOn, Kept}
-use Rattle.xmp_fits.proofs.KeptSteps as kept_steps
-use Rattle.xmp_fits.proofs.KeptDirectives as kept
-use Rattle.xmp_fits.proofs.KeptRuns as kept_runs
+use Rattle.xmp_fits.proofs.KeptRuns.{Goes, goes_refl, goes_trans, going, goes_then}
+use Rattle.xmp_fits.proofs.RespectedDirectives as kept
+use Rattle.xmp_fits.proofs.RespectedSteps as kept_steps
 use Rattle.xmp_fits.proofs.Laters.{unbroken_before}
 use Rattle.xmp_fits.proofs.Endings.{opened, later_at, directed, goes_directed}
 use Rattle.xmp_fits.proofs.Holding.{Unbroken, Holds, unbroken_then}
-use Rattle.xmp_fits.specs.NumbersLie.{numbers_lie}
-use Rattle.xmp_fits.specs.NumbersLie.{there_lies, second_lies, section_lies, sections_lie}
+use Rattle.xmp_fits.specs.NumbersLie.{numbers_lie, there_lies, second_lies, section_lies, sections_lie}
 use Rattle.xmp_fits.proofs.NamesFit.{full}
 use Rattle.xmp_fits.proofs.TermsFit.{or_true, all_append}
 use Rattle.xmp_fits.proofs.TermTests.{TermPasses, is_slot, all_map, all_true}
@@ -93,7 +92,7 @@ many_good v a b c f g h p r =
 
 module _ (own : Own) where
   number_holds : (x : Expr) → numbers_lie x ≡ true → Holds own (λ w v x. NumberGood v x) (directives.number_of x)
-  number_holds x n = made_holds own OperandGood NumberGood (walk.typed x) (λ t. record { value = t.made; at = walk.first_place x }) (kept_steps.typed x).kept (test_good own x n) (λ v t h p r. (h p r).terms)
+  number_holds x n = made_holds own OperandGood NumberGood (walk.typed x) (λ t. record { value = t.made; at = walk.first_place x }) (kept_steps.typed going x).kept (test_good own x n) (λ v t h p r. (h p r).terms)
 
   step_holds : (at : Place) (x : Option (Place × Expr)) → there_lies second_lies x ≡ true → Holds own (λ w v x. NumberGood v x) (directives.step_of at x)
   step_holds at None n = record { at = λ w g e. unwritten_good w 1 at (λ p r. refl) }
@@ -102,16 +101,16 @@ module _ (own : Own) where
   with_holds : (at : Place) (base : Number) (many step : Option (Place × Expr)) → there_lies second_lies many ≡ true → there_lies second_lies step ≡ true → (w : World) → Good own w → NumberGood w base → Unbroken PartGood (directives.part_with at base many step w)
   with_holds at base None step n k w g h = λ e p r. h p r
   with_holds at base (Some x) step n k w g h =
-      unbroken_then NumberGood PartGood w (directives.number_of x.1 w) (λ many. walk.◌>>=◌ (directives.step_of at step) (λ by. walk.pure (part.Many base many by))) ((kept.number_of x.1).kept.at w) ((number_holds x.1 n).at w g)
-      (λ many. record { at = λ v. kept_runs.goes_then v (directives.step_of at step v) (λ by. walk.pure (part.Many base many by)) ((kept.step_kept at step).at v) (λ by. record { at = goes_refl }) })
-      (λ many v o f. unbroken_then NumberGood PartGood v (directives.step_of at step v) (λ by. walk.pure (part.Many base many by)) ((kept.step_kept at step).at v) ((step_holds at step k).at v (o.good own g)) (λ by. record { at = goes_refl })
+      unbroken_then NumberGood PartGood w (directives.number_of x.1 w) (λ many. walk.◌>>=◌ (directives.step_of at step) (λ by. walk.pure (part.Many base many by))) ((kept.number_of going x.1).kept.at w) ((number_holds x.1 n).at w g)
+      (λ many. record { at = λ v. goes_then v (directives.step_of at step v) (λ by. walk.pure (part.Many base many by)) ((kept.step_kept going at step).at v) (λ by. record { at = goes_refl }) })
+      (λ many v o f. unbroken_then NumberGood PartGood v (directives.step_of at step v) (λ by. walk.pure (part.Many base many by)) ((kept.step_kept going at step).at v) ((step_holds at step k).at v (o.good own g)) (λ by. record { at = goes_refl })
       (λ by u q b e. many_good u base many by (number_so w u base (onward_stays (goes_trans o q).onward) h) (number_so v u many (onward_stays q.onward) f) b))
 
   part_holds : (extent : ℕ) (at : Place) (x : Section) → section_lies x ≡ true → (w : World) → Good own w → ExtentGood w extent → Unbroken PartGood (directives.part_of extent at x w)
   part_holds extent at (section.All colon) n w g h = λ e. many_good w (unwritten 0 at) (unwritten extent at) (unwritten 1 at) (unwritten_good w 0 at (λ p r. refl)) (unwritten_good w extent at h) (unwritten_good w 1 at (λ p r. refl))
   part_holds extent at (section.Numbers first many step) n w g h =
       let rest = right_true (numbers_lie first) _ n in
-      unbroken_then NumberGood PartGood w (directives.number_of first w) (λ base. directives.part_with at base many step) ((kept.number_of first).kept.at w) ((number_holds first (left_true (numbers_lie first) _ n)).at w g) (λ base. kept.with_kept at base many step)
+      unbroken_then NumberGood PartGood w (directives.number_of first w) (λ base. directives.part_with at base many step) ((kept.number_of going first).kept.at w) ((number_holds first (left_true (numbers_lie first) _ n)).at w g) (λ base. kept.with_kept going at base many step)
       (λ base v o f. with_holds at base many step (left_true (there_lies second_lies many) _ rest) (right_true (there_lies second_lies many) _ rest) v (o.good own g) f)
 
   abbrev ExtentsGood : World → List ℕ → Type 0
@@ -129,8 +128,8 @@ module _ (own : Own) where
       Unbroken (λ v all. AllByRecursion (PartGood v) all) (directives.parts_in at done extents xs w)
   parts_hold at done extents [] n w g h k = λ e. k
   parts_hold at done extents (x ∷ xs) n w g h k =
-      unbroken_then PartGood (λ v all. AllByRecursion (PartGood v) all) w (directives.part_of (first_extent extents) at x w) (λ one. directives.parts_in at (done ++ one ∷ []) (drop 1 extents) xs) ((kept.part_kept (first_extent extents) at x).at w)
-      (part_holds (first_extent extents) at x (left_true (section_lies x) (list_all section_lies xs) n) w g (first_one w extents h)) (λ one. kept.parts_kept at (done ++ one ∷ []) (drop 1 extents) xs)
+      unbroken_then PartGood (λ v all. AllByRecursion (PartGood v) all) w (directives.part_of (first_extent extents) at x w) (λ one. directives.parts_in at (done ++ one ∷ []) (drop 1 extents) xs) ((kept.part_kept going (first_extent extents) at x).at w)
+      (part_holds (first_extent extents) at x (left_true (section_lies x) (list_all section_lies xs) n) w g (first_one w extents h)) (λ one. kept.parts_kept going at (done ++ one ∷ []) (drop 1 extents) xs)
       (λ one v o f. parts_hold at (done ++ one ∷ []) (drop 1 extents) xs (right_true (section_lies x) (list_all section_lies xs) n) v (o.good own g) (λ p r. others w extents h p (back p w v (onward_stays o.onward) r))
       (all_append (PartGood v) done (one ∷ []) (all_map (PartGood w) (PartGood v) (λ y. part_so w v y (onward_stays o.onward)) done k) (f, tt)))
 
@@ -180,9 +179,9 @@ module _ (own : Own) where
       let extents : List ℕ = extents_in (slice_get w.names.arrays k) in
       let test : Bool = length x.sections == length extents in
       let v : World = record w { broken = w.broken ++ unless test N3 x.name.at } in
-      let o : Goes w v = (kept_steps.judge test N3 x.name.at).kept.at w in
+      let o : Goes w v = (kept_steps.judge going test N3 x.name.at).kept.at w in
       unbroken_then (λ u all. AllByRecursion (PartGood u) all) SideGood v (directives.parts_in x.name.at [] extents (inner x.sections) v) (λ parts. walk.pure (side.Array (record { number = k; at = x.name.at }) parts))
-      ((kept.parts_kept x.name.at [] extents (inner x.sections)).at v)
+      ((kept.parts_kept going x.name.at [] extents (inner x.sections)).at v)
       (parts_hold x.name.at [] extents (inner x.sections) (inner_lie x.sections n) v (o.good own g) (extents_good v k (slice_get w.names.arrays k) refl) tt) (λ parts. record { at = goes_refl })
       (λ parts u q f h. record { terms = flat_good u parts f; slots = λ p r. tt })
   side_as_holds x n w g (Some (Nodes k)) e = λ none. no_side_here _ _ _ none
@@ -191,7 +190,7 @@ module _ (own : Own) where
   side_as_holds x n w g None e = λ none. no_side_here _ _ _ none
 
   side_holds : (x : Sections) → sections_lie x ≡ true → Holds own (λ w v x. SideGood v x) (directives.side_of x)
-  side_holds x n = record { at = λ w g. side_as_holds x n _ (((kept_steps.meaning_of x.name).kept.at w).good own g) (nearest x.name.text w.names.scopes) refl }
+  side_holds x n = record { at = λ w g. side_as_holds x n _ (((kept_steps.meaning_of going x.name).kept.at w).good own g) (nearest x.name.text w.names.scopes) refl }
 
   -- ---- the line
 
@@ -212,9 +211,9 @@ module _ (own : Own) where
         let g0 : Good own u = (goes_directed line.word w).good own g in
         opened (directives.side_of target u) _ (λ x v. v.broken ≡ [] → StmtGood v x) (λ a v1 e1.
         opened (directives.side_of source v1) _ (λ x v. v.broken ≡ [] → StmtGood v x) (λ b v2 e2. λ none.
-        let l1 = later_at (directives.side_of target) u a v1 (kept.side_of target).kept e1 in
-        let l2 = later_at (directives.side_of source) v1 b v2 (kept.side_of source).kept e2 in
-        let l3 = (kept_steps.judge (directives.sections_match (sections_in a) (sections_in b)) N3 target.name.at).kept.at v2 in
+        let l1 = later_at (directives.side_of target) u a v1 (kept.side_of going target).kept e1 in
+        let l2 = later_at (directives.side_of source) v1 b v2 (kept.side_of going source).kept e2 in
+        let l3 = (kept_steps.judge going (directives.sections_match (sections_in a) (sections_in b)) N3 target.name.at).kept.at v2 in
         let n2 = unbroken_before v2 _ l3.onward.later none in
         let n1 = unbroken_before v1 v2 l2.onward.later n2 in
         let n0 = unbroken_before u v1 l1.onward.later n1 in

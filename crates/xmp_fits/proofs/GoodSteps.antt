@@ -5,11 +5,11 @@ use Rattle.std.specs.List.{AllByRecursion}
 use Rattle.std.specs.Option.{option_or}
 use Rattle.std.proofs.lemmas.Option.{same_Some, none-some}
 use Rattle.xmp_scopes.specs.Names as scope
-use Rattle.xmp_walk.specs.declared.names.Meaning.{Meaning}
-use Rattle.xmp_walk.specs.declared.names.Meaning.TheVariants.{Scalar, Array, Nodes, Template, Function}
-use Rattle.xmp_walk.specs.declared.world.World.{World}
-use Rattle.xmp_walk.specs.Walk.{is_main}
-use Rattle.xmp_walk.specs.Expressions.{is_function, is_first}
+use Rattle.xmp_names.specs.declared.names.Meaning.{Meaning}
+use Rattle.xmp_names.specs.declared.names.Meaning.TheVariants.{Scalar, Array, Nodes, Template, Function}
+use Rattle.xmp_names.specs.declared.world.World.{World}
+use Rattle.xmp_names.specs.Walk.{is_main}
+use Rattle.xmp_names.specs.Expressions.{is_function, is_first}
 use Rattle.xmp_fits.proofs.Laters.{Begins, Later, Onward, Scopes, unbroken_before}
 use Rattle.xmp_fits.proofs.GoodWorlds.{Own, in_file, IsTrueIn, TrueScope, NoArray, NoneInside, Good, being_read}
 

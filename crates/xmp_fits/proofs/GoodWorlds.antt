@@ -9,15 +9,15 @@ use Rattle.xmp_prog.specs.declared.parts.Array as made_array
 use Rattle.xmp_prog.specs.declared.parts.ProgParts.{ProgParts}
 use Rattle.xmp_prog.specs.Tests.{is_image}
 use Rattle.xmp_prog.specs.Fits.{has_coarrays}
-use Rattle.xmp_walk.specs.declared.names.Region.{Region}
-use Rattle.xmp_walk.specs.declared.names.Region.TheVariants as region
-use Rattle.xmp_walk.specs.declared.names.Meaning.{Meaning}
-use Rattle.xmp_walk.specs.declared.names.Meaning.TheVariants.{Scalar, Array, Nodes, Template, Function}
-use Rattle.xmp_walk.specs.declared.names.Array as array
-use Rattle.xmp_walk.specs.declared.names.Signature.{Signature}
-use Rattle.xmp_walk.specs.declared.world.World.{World}
-use Rattle.xmp_walk.specs.Expressions.{is_function}
-use Rattle.xmp_walk.specs.Walk.{is_main}
+use Rattle.xmp_names.specs.declared.names.Region.{Region}
+use Rattle.xmp_names.specs.declared.names.Region.TheVariants as region
+use Rattle.xmp_names.specs.declared.names.Meaning.{Meaning}
+use Rattle.xmp_names.specs.declared.names.Meaning.TheVariants.{Scalar, Array, Nodes, Template, Function}
+use Rattle.xmp_names.specs.declared.names.Array as array
+use Rattle.xmp_names.specs.declared.names.Signature.{Signature}
+use Rattle.xmp_names.specs.declared.world.World.{World}
+use Rattle.xmp_names.specs.Expressions.{is_function}
+use Rattle.xmp_names.specs.Walk.{is_main}
 use Rattle.xmp_fits.proofs.Laters.{Begins, Scopes}
 
 -- ---- names

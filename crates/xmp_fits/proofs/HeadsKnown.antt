@@ -3,37 +3,35 @@ use Rattle.std.proofs.Common.{◌≡◌, ◌∙◌, refl, ◌++◌, ℕ, true, L
 use Rattle.std.specs.Prelude.{slice_get}
 use Rattle.xmp_num.specs.declared.types.Ty.TheVariants.{Int}
 use Rattle.xmp_prog.specs.declared.parts.ProgParts.{ProgParts}
-use Rattle.xmp_tree.specs.declared.parts.Reference.{Reference}
-use Rattle.xmp_tree.specs.declared.expression.Expr.{Expr}
-use Rattle.xmp_tree.specs.declared.statement.ForFirst.{ForFirst}
-use Rattle.xmp_tree.specs.declared.statement.ForFirst.TheVariants as for_first
+use Rattle.xmp_syntax.specs.declared.parts.Reference.{Reference}
+use Rattle.xmp_syntax.specs.declared.expression.Expr.{Expr}
+use Rattle.xmp_syntax.specs.declared.statement.ForFirst.{ForFirst}
+use Rattle.xmp_syntax.specs.declared.statement.ForFirst.TheVariants as for_first
 use Rattle.xmp_walk.specs.declared.loops.First.{First}
-use Rattle.xmp_walk.specs.declared.names.Array as array
-use Rattle.xmp_walk.specs.declared.typed.Operand.{Operand}
-use Rattle.xmp_walk.specs.declared.typed.Typed.{Typed}
-use Rattle.xmp_walk.specs.declared.world.World.{World}
-use Rattle.xmp_walk.specs.Rules.{greater}
-use Rattle.xmp_walk.specs.Expressions.{expr_of, reference_of}
-use Rattle.xmp_elab.specs.Parts.{IsArray}
+use Rattle.xmp_names.specs.declared.names.Array as array
+use Rattle.xmp_names.specs.declared.typed.Operand.{Operand}
+use Rattle.xmp_names.specs.declared.typed.Typed.{Typed}
+use Rattle.xmp_names.specs.declared.world.World.{World}
+use Rattle.xmp_names.specs.Rules.{greater}
+use Rattle.xmp_names.specs.Expressions.{expr_of, reference_of}
+use Rattle.xmp_parts.specs.Parts.{IsArray}
 use Rattle.xmp_walk.specs.Statements.{first_of, index_of}
-use Rattle.xmp_walk.specs.Typing.{operand_of}
-use Rattle.xmp_walk.specs.Walk.{typed}
+use Rattle.xmp_names.specs.Walk.{typed}
 use Rattle.xmp_fits.proofs.Endings.{Ending, before_noted, no_broken}
 use Rattle.xmp_fits.proofs.GoodSteps.{begins_get}
 use Rattle.xmp_fits.proofs.GoodWorlds.{ArrayOf, Extends, Good, Own}
-use Rattle.xmp_fits.proofs.KeptRuns.{Ends, Goes}
-use Rattle.xmp_fits.proofs.KeptSteps.{goes_noted, scalar_goes}
+use Rattle.xmp_fits.proofs.KeptRuns.{Goes, goes_noted, scalar_goes}
+use Rattle.xmp_fits.proofs.Respected.{Ends}
 use Rattle.xmp_fits.proofs.KindsPass.{made_image, made_kind}
 use Rattle.xmp_fits.proofs.Laters.{Begins}
-use Rattle.xmp_elab.proofs.MadeLists.{made_here}
+use Rattle.xmp_parts.proofs.MadeLists.{made_here}
 use Rattle.xmp_fits.proofs.NamesFit.{Tells}
-use Rattle.xmp_fits.specs.NumbersLie.{first_lies}
+use Rattle.xmp_fits.specs.NumbersLie.{first_lies, numbers_lie, reference_lies}
 use Rattle.xmp_fits.proofs.OperandsFit.{Fits}
 use Rattle.xmp_fits.proofs.OperandsKnown.{KnownOperand, operand_known}
 use Rattle.xmp_fits.proofs.StepsFit.{reference_fits, typed_fits}
 use Rattle.xmp_fits.proofs.TellsTrue.{tells}
-use Rattle.xmp_fits.specs.NumbersLie.{numbers_lie, reference_lies}
-use Rattle.xmp_elab.proofs.Unbroken.{left_true, right_true}
+use Rattle.xmp_parts.proofs.Unbroken.{left_true, right_true}
 
 -- ---- the program extends the worlds of its walk
 
@@ -72,12 +70,12 @@ module _ (own : Own) where
   before : (w : World) (t : Typed) (p : ProgParts) → Ending (behind w t) p → Ending w p
   before w t p e = before_noted w (greater w.deepest t.notes.deepest) t.notes.broken p e
 
-  expr_known : (w : World) → Good own w → (x : Expr) → numbers_lie x ≡ true → OperandMade (operand_of (expr_of w.names x)) (behind w (expr_of w.names x))
-  expr_known w g x h = λ p e. known_from w g p (before w (expr_of w.names x) p e) (operand_of (expr_of w.names x)) (λ t. typed_fits p w t x h (no_broken (behind w (expr_of w.names x)) p e))
+  expr_known : (w : World) → Good own w → (x : Expr) → numbers_lie x ≡ true → OperandMade (expr_of w.names x).operand (behind w (expr_of w.names x))
+  expr_known w g x h = λ p e. known_from w g p (before w (expr_of w.names x) p e) (expr_of w.names x).operand (λ t. typed_fits p w t x h (no_broken (behind w (expr_of w.names x)) p e))
 
-  reference_known : (w : World) → Good own w → (r : Reference Expr) → reference_lies r ≡ true → OperandMade (operand_of (reference_of w.names r)) (behind w (reference_of w.names r))
+  reference_known : (w : World) → Good own w → (r : Reference Expr) → reference_lies r ≡ true → OperandMade (reference_of w.names r).operand (behind w (reference_of w.names r))
   reference_known w g r h = λ p e.
-      known_from w g p (before w (reference_of w.names r) p e) (operand_of (reference_of w.names r)) (λ t. (reference_fits p w t r h (no_broken (behind w (reference_of w.names r)) p e)).0)
+      known_from w g p (before w (reference_of w.names r) p e) (reference_of w.names r).operand (λ t. (reference_fits p w t r h (no_broken (behind w (reference_of w.names r)) p e)).0)
 
   pub typed_known : (w : World) → Good own w → (x : Expr) → numbers_lie x ≡ true → Ends OperandMade (typed x w)
   typed_known w g x h = expr_known w g x h
@@ -94,7 +92,7 @@ module _ (own : Own) where
 
   both_known : (w : World) → Good own w → (r : Reference Expr) (x : Expr) → reference_lies r ≡ true → numbers_lie x ≡ true →
       let v : World = behind w (reference_of w.names r) in
-      OperandMade (operand_of (reference_of w.names r)) (behind v (expr_of v.names x)) × OperandMade (operand_of (expr_of v.names x)) (behind v (expr_of v.names x))
+      OperandMade (reference_of w.names r).operand (behind v (expr_of v.names x)) × OperandMade (expr_of v.names x).operand (behind v (expr_of v.names x))
   both_known w g r x h k =
       let v : World = behind w (reference_of w.names r) in (
         λ p e. reference_known w g r h p (before v (expr_of v.names x) p e),

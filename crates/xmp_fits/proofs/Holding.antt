@@ -3,15 +3,16 @@ use Rattle.std.proofs.Common.{◌≡◌, refl, sym, subst, ◌++◌, ◌∷◌, 
 use Rattle.std.specs.Prelude.{⊤}
 use Rattle.std.specs.List.{AllByRecursion}
 use Rattle.xmp_base.specs.declared.place.Place.{Place}
-use Rattle.xmp_walk.specs.declared.rules.Rule.{Rule}
-use Rattle.xmp_walk.specs.declared.world.World.{World}
-use Rattle.xmp_walk.specs.Rules.{unless}
-use Rattle.xmp_walk.specs.Walk as walk
-use Rattle.xmp_walk.specs.Walk.{Step, Gave, Run, and_then}
-use Rattle.xmp_elab.proofs.Unbroken.{right_none, holds}
+use Rattle.xmp_names.specs.declared.rules.Rule.{Rule}
+use Rattle.xmp_names.specs.declared.world.World.{World}
+use Rattle.xmp_names.specs.Rules.{unless}
+use Rattle.xmp_names.specs.Walk as walk
+use Rattle.xmp_names.specs.Walk.{Step, Gave, Run, and_then}
+use Rattle.xmp_parts.proofs.Unbroken.{right_none, holds}
 use Rattle.xmp_fits.proofs.Laters.{unbroken_before}
 use Rattle.xmp_fits.proofs.GoodWorlds.{Own, Good}
-use Rattle.xmp_fits.proofs.KeptRuns.{Ends, Goes, goes_refl, GoesOn, Kept, Going, each_after}
+use Rattle.xmp_fits.proofs.KeptRuns.{Goes, goes_refl, GoesOn, Kept, Going, going}
+use Rattle.xmp_fits.proofs.Respected.{Ends, each_after}
 
 -- Where no rule is broken at the end of a step.
 abbrev pub Unbroken : {A : Type 0} → (World → A → Type 0) → Step A → Type 0
@@ -90,7 +91,7 @@ module _ (own : Own) {B : Type 0} (P : World → B → Type 0) where
     each_after_holds f h v done [] g all = λ e. all
     each_after_holds f h v done (x ∷ xs) g all =
         unbroken_then P (λ u bs. AllByRecursion (P u) bs) v ((f x).run v) (λ y. walk.each_after (λ x. (f x).run) (done ++ y ∷ []) xs)
-        ((f x).kept.at v) ((h x).at v g) (λ y. each_after f (done ++ y ∷ []) xs)
+        ((f x).kept.at v) ((h x).at v g) (λ y. each_after going f (done ++ y ∷ []) xs)
         (λ y u o i. each_after_holds f h u (done ++ y ∷ []) xs (o.good own g) (one_more u done y (all_stay v u o done all) i))
 
     pub each_holds : {A : Type 0} (f : A → Going B) → ((x : A) → Holds own (λ w v b. P v b) (f x).run) → (xs : List A) → Holds own (λ w v bs. AllByRecursion (P v) bs) (walk.each (λ x. (f x).run) xs)

@@ -7,32 +7,33 @@ use Rattle.xmp_map.specs.declared.grid.NodeSet.{NodeSet}
 use Rattle.xmp_prog.specs.declared.statements.Stmt as made
 use Rattle.xmp_prog.specs.declared.statements.Stmt.TheVariants as s
 use Rattle.xmp_prog.specs.declared.statements.Task.{Task}
-use Rattle.xmp_tree.specs.declared.directive.DirectiveLine.{DirectiveLine}
-use Rattle.xmp_tree.specs.declared.directive.LoopLine.{LoopLine}
-use Rattle.xmp_tree.specs.declared.directive.TaskLine.{TaskLine}
-use Rattle.xmp_tree.specs.declared.expression.Expr.{Expr}
-use Rattle.xmp_tree.specs.declared.statement.ForHead.{ForHead}
-use Rattle.xmp_tree.specs.declared.statement.Plain.TheVariants as plain
-use Rattle.xmp_tree.specs.declared.statement.BlockItem.{BlockItem}
-use Rattle.xmp_tree.specs.declared.statement.BlockItem.TheVariants as b
-use Rattle.xmp_tree.specs.declared.statement.Stmt.{Stmt, out-Stmt}
-use Rattle.xmp_tree.specs.declared.statement.Stmt.TheOpen.{Stmt-F}
+use Rattle.xmp_syntax.specs.declared.directive.DirectiveLine.{DirectiveLine}
+use Rattle.xmp_syntax.specs.declared.directive.LoopLine.{LoopLine}
+use Rattle.xmp_syntax.specs.declared.directive.TaskLine.{TaskLine}
+use Rattle.xmp_syntax.specs.declared.expression.Expr.{Expr}
+use Rattle.xmp_syntax.specs.declared.statement.ForHead.{ForHead}
+use Rattle.xmp_syntax.specs.declared.statement.Plain.TheVariants as plain
+use Rattle.xmp_syntax.specs.declared.statement.BlockItem.{BlockItem}
+use Rattle.xmp_syntax.specs.declared.statement.BlockItem.TheVariants as b
+use Rattle.xmp_syntax.specs.declared.statement.Stmt.{Stmt, out-Stmt}
+use Rattle.xmp_syntax.specs.declared.statement.Stmt.TheOpen.{Stmt-F}
 use Rattle.xmp_walk.specs.declared.loops.ForParts.{ForParts}
-use Rattle.xmp_walk.specs.declared.world.World.{World}
-use Rattle.xmp_walk.specs.Walk as walk
-use Rattle.xmp_walk.specs.Walk.{Step, Gave, Run, and_then}
+use Rattle.xmp_names.specs.declared.world.World.{World}
+use Rattle.xmp_names.specs.Walk as walk
+use Rattle.xmp_names.specs.Walk.{Step, Gave, Run, and_then}
 use Rattle.xmp_walk.specs.Statements.{if_of, while_of, for_of, loop_of}
-use Rattle.xmp_walk.specs.Directives.{loop_line, judged_loop, loop_directive, nest_of, task_line, lone_task, tasks_in, tasks_of, made_task}
-use Rattle.xmp_walk.specs.Program.{item_of, items_of, block_of, stmt_of, inside_item, task_step, last_in, main_items}
+use Rattle.xmp_directives.specs.Directives.{loop_line, judged_loop, nest_of, task_line, lone_task, tasks_in, tasks_of, made_task}
+use Rattle.xmp_walk.specs.Program.{loop_directive, item_of, items_of, block_of, stmt_of, inside_item, task_step, last_in, main_items}
 use Rattle.xmp_fits.proofs.Laters.{begins_refl, mappings_refl, Later, Scopes, Widened, widened_refl}
 use Rattle.xmp_fits.proofs.GoodSteps.{Stays, good_opened, good_closed}
-use Rattle.xmp_walk.specs.MappingLines.{mapping_of}
-use Rattle.xmp_fits.proofs.KeptRuns.{ends_then, Goes, goes_refl, goes_trans, goes_then, GoesOn, Kept, Going, ◌>>=◌, pure}
-use Rattle.xmp_fits.proofs.KeptSteps.{typed, directive_at}
-use Rattle.xmp_fits.proofs.KeptLines.{declaration_kept}
-use Rattle.xmp_fits.proofs.KeptMappings.{mapping_kept}
-use Rattle.xmp_fits.proofs.KeptDirectives.{head_parts, plain_kept, return_kept, line_kept, loop_kept, task_line_kept}
-use Rattle.xmp_fits.proofs.Seen.{seen_plain, seen_if, seen_while, seen_for, seen_loop, seen_task, seen_tasks, seen_block}
+use Rattle.xmp_directives.specs.MappingLines.{mapping_of}
+use Rattle.xmp_fits.proofs.KeptRuns.{Goes, goes_refl, goes_trans, goes_then, GoesOn, Kept, Going, going, going_scalars, going_arrays}
+use Rattle.xmp_fits.proofs.Respected.{ends_then, ◌>>=◌, known, pure}
+use Rattle.xmp_fits.proofs.RespectedDirectives.{head_parts, plain_kept, return_kept, line_kept, loop_kept, task_line_kept}
+use Rattle.xmp_fits.proofs.RespectedLines.{declaration_kept}
+use Rattle.xmp_fits.proofs.RespectedMappings.{mapping_kept}
+use Rattle.xmp_fits.proofs.RespectedSteps.{typed, directive_at}
+use Rattle.xmp_walk.proofs.Seen.{seen_plain, seen_if, seen_while, seen_for, seen_loop, seen_task, seen_tasks, seen_block}
 use Rattle.xmp_fits.proofs.TreeInduction.{ItemIs, Cases, each_stmt, each_item}
 
 -- ---- scopes
@@ -106,12 +107,12 @@ goes_scoped w v g =
 
 pub item_kept : (done : List made.Stmt) (x : BlockItem (Run made.Stmt)) → ItemIs Kept x → Kept (item_of done x)
 item_kept done (b.Mapping x) h = (do
-  _ ← record { run = mapping_of x; kept = mapping_kept x }
-  pure done).kept
-item_kept done (b.Declaration d) h = declaration_kept done d
+  _ ← record { run = mapping_of x; kept = mapping_kept going x }
+  pure going done).kept
+item_kept done (b.Declaration d) h = declaration_kept going going_scalars going_arrays done d
 item_kept done (b.Stmt body) h = (do
   one ← record { run = body; kept = h }
-  pure (done ++ one ∷ [])).kept
+  pure going (done ++ one ∷ [])).kept
 
 pub items_kept : (done : List made.Stmt) (xs : List (BlockItem (Run made.Stmt))) → AllByRecursion (ItemIs Kept) xs → Kept (items_of done xs)
 items_kept done [] h = record { at = goes_refl }
@@ -128,63 +129,63 @@ block_kept xs h = record { at = λ w. goes_block w (items_of [] xs (opened w)) s
 
 pub if_kept : (x : Expr) (a : Run made.Stmt) → Kept a → Kept (if_of x a None)
 if_kept x a h = (do
-  test ← typed x
+  test ← typed going x
   y ← record { run = a; kept = h }
-  pure (s.If test.made y (s.Block []))).kept
+  pure going (s.If test.made y (s.Block []))).kept
 
 pub else_kept : (x : Expr) (a : Run made.Stmt) (at : Place) (c : Run made.Stmt) → Kept a → Kept c → Kept (if_of x a (Some (at, c)))
 else_kept x a at c h k = (do
-  test ← typed x
+  test ← typed going x
   y ← record { run = a; kept = h }
   z ← record { run = c; kept = k }
-  pure (s.If test.made y z)).kept
+  pure going (s.If test.made y z)).kept
 
 pub while_kept : (at : Place) (x : Expr) (a : Run made.Stmt) → Kept a → Kept (while_of at x a)
 while_kept at x a h = (do
-  test ← typed x
+  test ← typed going x
   y ← record { run = a; kept = h }
-  pure (s.While test.made y at)).kept
+  pure going (s.While test.made y at)).kept
 
 -- The parts of a `for` and its body, in the scope that it opens.
 abbrev pub for_inside : ForHead → (body : Run made.Stmt) → Kept body → Going made.Stmt
 for_inside h body k = do
-  parts ← head_parts h
+  parts ← head_parts going going_scalars h
   x ← record { run = body; kept = k }
-  pure (loop_of h parts x)
+  pure going (loop_of h parts x)
 
 pub for_kept : (h : ForHead) (a : Run made.Stmt) → Kept a → Kept (for_of h a)
 for_kept h a k = record {
   at = λ w.
-      ends_then (λ (p : ForParts) v. Goes (opened w) v) (λ (x : made.Stmt) v. Goes w v) ((head_parts h).run (opened w)) (λ parts. walk.◌>>=◌ a (λ x. λ v. Gave (loop_of h parts x) (closed v)))
-      ((head_parts h).kept.at (opened w))
+      ends_then (λ (p : ForParts) v. Goes (opened w) v) (λ (x : made.Stmt) v. Goes w v) ((head_parts going going_scalars h).run (opened w)) (λ parts. walk.◌>>=◌ a (λ x. λ v. Gave (loop_of h parts x) (closed v)))
+      ((head_parts going going_scalars h).kept.at (opened w))
       (λ parts v g. ends_then (λ (x : made.Stmt) u. Goes v u) (λ (x : made.Stmt) u. Goes w u) (a v) (λ x. λ u. Gave (loop_of h parts x) (closed u)) (k.at v)
       (λ x u e. goes_scoped w u (goes_trans g e)));
 }
 
 pub loop_directive_kept : (l : LoopLine) (h : ForHead) (a : Run made.Stmt) → Kept a → Kept (loop_directive l h a)
 loop_directive_kept l h a k = (do
-  parts ← record { run = loop_line l; kept = line_kept l }
+  parts ← known going (loop_line l) (line_kept going l)
   loop ← record { run = for_of h a; kept = for_kept h a k }
-  record { run = judged_loop l.line.word parts (nest_of (length parts.names) loop); kept = loop_kept l.line.word parts (nest_of (length parts.names) loop) }).kept
+  record { run = judged_loop l.line.word parts (nest_of (length parts.names) loop); kept = loop_kept going l.line.word parts (nest_of (length parts.names) loop) }).kept
 
 pub lone_kept : (l : TaskLine) (a : Run made.Stmt) → Kept a → Kept (lone_task l a)
 lone_kept l a k = (do
-  nodes ← record { run = task_line [] l; kept = task_line_kept [] l }
+  nodes ← record { run = task_line [] l; kept = task_line_kept going [] l }
   x ← record { run = a; kept = k }
-  pure (s.Tasks (made_task nodes x l.line.word ∷ []) l.line.word)).kept
+  pure going (s.Tasks (made_task nodes x l.line.word ∷ []) l.line.word)).kept
 
 pub tasks_in_kept : (before : List NodeSet) (done : List Task) (xs : List (TaskLine × Run made.Stmt)) → AllByRecursion (λ t. Kept t.1) xs → Kept (tasks_in before done xs)
 tasks_in_kept before done [] h = record { at = goes_refl }
 tasks_in_kept before done (x ∷ xs) h = (do
-  nodes ← record { run = task_line before x.0; kept = task_line_kept before x.0 }
+  nodes ← known going (task_line before x.0) (task_line_kept going before x.0)
   y ← record { run = x.1; kept = h.0 }
   record { run = tasks_in (before ++ nodes ∷ []) (done ++ made_task nodes y x.0.line.word ∷ []) xs; kept = tasks_in_kept (before ++ nodes ∷ []) (done ++ made_task nodes y x.0.line.word ∷ []) xs h.1 }).kept
 
 pub tasks_kept : (l : DirectiveLine) (xs : List (TaskLine × Run made.Stmt)) → AllByRecursion (λ t. Kept t.1) xs → Kept (tasks_of l xs)
 tasks_kept l xs h = (do
-  _ ← directive_at l.word
+  _ ← directive_at going l.word
   tasks ← record { run = tasks_in [] [] xs; kept = tasks_in_kept [] [] xs h }
-  pure (s.Tasks tasks l.word)).kept
+  pure going (s.Tasks tasks l.word)).kept
 
 -- ---- all statements
 
@@ -206,7 +207,7 @@ same_run a c e h = subst (λ r. Kept r) (sym e) h
 
 stmt_cases : Cases StmtKept
 stmt_cases = record {
-  plain = λ x. same_run _ _ (seen_plain x) (plain_kept x);
+  plain = λ x. same_run _ _ (seen_plain x) (plain_kept going x);
   block = λ o xs c h. same_run _ _ (seen_block o xs c) (block_kept (map inside_item xs) (runs_kept xs h));
   if_then = λ p e x h. same_run _ _ (seen_if p e x None) (if_kept e.item (stmt_of x) h);
   if_else = λ p e x q y h k. same_run _ _ (seen_if p e x (Some (q, y))) (else_kept e.item (stmt_of x) q (stmt_of y) h k);
@@ -228,7 +229,7 @@ body_kept done xs = items_kept done (map inside_item xs) (runs_kept xs (each_ite
 last_kept : (x : Stmt) (o : Stmt-F Stmt) → Kept (last_in x o)
 last_kept x (Stmt-F.Plain (plain.Empty at)) = stmt_kept x
 last_kept x (Stmt-F.Plain (plain.Simple y at)) = stmt_kept x
-last_kept x (Stmt-F.Plain (plain.Return at value end)) = return_kept true at value
+last_kept x (Stmt-F.Plain (plain.Return at value end)) = return_kept going true at value
 last_kept x _ = stmt_kept x
 
 pub main_kept : (xs : List (BlockItem Stmt)) → AllByRecursion (ItemIs Kept) (main_items xs)

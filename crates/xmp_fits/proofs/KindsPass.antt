@@ -9,13 +9,13 @@ use Rattle.xmp_prog.specs.declared.parts.ProgParts.{ProgParts}
 use Rattle.xmp_prog.specs.declared.statements.Stmt.{Stmt}
 use Rattle.xmp_prog.specs.Fits.{has_coarrays}
 use Rattle.xmp_prog.specs.Tests.{is_image, is_spread}
-use Rattle.xmp_walk.specs.declared.names.Array.{Array}
-use Rattle.xmp_walk.specs.declared.mappings.Align.{Align}
-use Rattle.xmp_walk.specs.declared.world.World.{World}
-use Rattle.xmp_walk.specs.MappingRules.{align_of, mapping_rules}
-use Rattle.xmp_elab.specs.Parts.{EachMade, IsAligned, IsArray, IsHome, Made, kind_of}
+use Rattle.xmp_names.specs.declared.names.Array.{Array}
+use Rattle.xmp_names.specs.declared.mappings.Align.{Align}
+use Rattle.xmp_names.specs.declared.world.World.{World}
+use Rattle.xmp_mapping_rules.specs.MappingRules.{align_of, mapping_rules}
+use Rattle.xmp_parts.specs.Parts.{EachMade, IsAligned, IsArray, IsHome, Made, kind_of}
 use Rattle.xmp_fits.proofs.MapsPass.{all_pass_of, each_here}
-use Rattle.xmp_elab.proofs.Unbroken.{align_at}
+use Rattle.xmp_parts.proofs.Unbroken.{align_at}
 
 -- ---- which arrays are coarrays
 

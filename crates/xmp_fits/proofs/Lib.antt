@@ -1,7 +1,6 @@
 mod AllInside
 mod BoundsPass
 mod ClausesHold
-mod Coarrays
 mod CoarraysDeclared
 mod CoarraysFound
 mod CountedPass
@@ -21,12 +20,8 @@ mod GoodWorlds
 mod HeadCases
 mod HeadsKnown
 mod Holding
-mod KeptDirectives
-mod KeptLines
-mod KeptMappings
 mod KeptRuns
 mod KeptStatements
-mod KeptSteps
 mod KindsPass
 mod Laters
 mod Looking
@@ -38,7 +33,6 @@ mod MovesEnd
 mod NameSlots
 mod NamedSlots
 mod NamesFit
-mod Nests
 mod NestsPass
 mod NumbersLie
 mod OneWorld
@@ -53,29 +47,24 @@ mod ProgramFits
 mod ProgramSites
 mod ProgramTerms
 mod ProgramWalk
-mod QuietDirectives
-mod QuietLines
-mod QuietMappings
 mod QuietRuns
-mod QuietSteps
+mod Respected
+mod RespectedDirectives
+mod RespectedLines
+mod RespectedMappings
+mod RespectedSteps
 mod ReturnsLast
-mod RulesLeft
 mod RunsFit
-mod SameLines
-mod SameMappings
 mod SameRuns
-mod SameSteps
 mod ScalarClauses
 mod ScopedFits
 mod ScopedForms
 mod ScopedFors
 mod ScopedSteps
 mod ScopesFit
-mod Seen
 mod SetsEnd
 mod SetsPass
 mod SlotsSeen
-pub mod SpelledNumbers
 mod StepsFit
 mod StmtsPass
 mod TellsTrue
@@ -89,3 +78,4 @@ mod TreeNumbers
 mod ValuesLie
 mod VerdictRight
 mod WritesSeen
+pub mod SpelledNumbers

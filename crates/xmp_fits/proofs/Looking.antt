@@ -4,23 +4,23 @@ use Rattle.std.specs.Prelude.{⊤, not, is_some}
 use Rattle.std.specs.List.{AllByRecursion}
 use Rattle.xmp_base.specs.declared.place.Place.{Place}
 use Rattle.xmp_prog.specs.declared.parts.ProgParts.{ProgParts}
-use Rattle.xmp_tree.specs.declared.parts.Name as named
-use Rattle.xmp_tree.specs.declared.parts.Call.{Call}
-use Rattle.xmp_tree.specs.declared.parts.Next.{Next}
-use Rattle.xmp_tree.specs.declared.parts.Reference.{Reference}
-use Rattle.xmp_tree.specs.declared.expression.Expr.{Expr}
+use Rattle.xmp_syntax.specs.declared.parts.Name as named
+use Rattle.xmp_syntax.specs.declared.parts.Call.{Call}
+use Rattle.xmp_syntax.specs.declared.parts.Next.{Next}
+use Rattle.xmp_syntax.specs.declared.parts.Reference.{Reference}
+use Rattle.xmp_syntax.specs.declared.expression.Expr.{Expr}
 use Rattle.xmp_scopes.specs.Names as scope
-use Rattle.xmp_walk.specs.declared.names.Meaning.{Meaning}
-use Rattle.xmp_walk.specs.declared.names.Environment.{Environment}
-use Rattle.xmp_walk.specs.declared.rules.Rule.{Rule}
-use Rattle.xmp_walk.specs.declared.rules.Rule.TheVariants.{N1, N3, N4, N5}
-use Rattle.xmp_walk.specs.declared.world.World.{World}
-use Rattle.xmp_walk.specs.Rules.{unless}
-use Rattle.xmp_walk.specs.Expressions.{may_name, is_function, expr_of, reference_of, call, arguments_of, each_next, next_of, no_parts}
-use Rattle.xmp_walk.specs.Walk as walk
-use Rattle.xmp_walk.specs.Walk.{Step, Gave, Run, and_then, a_scalar, an_int_scalar}
-use Rattle.xmp_elab.proofs.Unbroken.{left_none, right_none, holds}
-use Rattle.xmp_fits.proofs.KeptRuns.{Ends, ends_then, ends_map}
+use Rattle.xmp_names.specs.declared.names.Meaning.{Meaning}
+use Rattle.xmp_names.specs.declared.names.Environment.{Environment}
+use Rattle.xmp_names.specs.declared.rules.Rule.{Rule}
+use Rattle.xmp_names.specs.declared.rules.Rule.TheVariants.{N1, N3, N4, N5}
+use Rattle.xmp_names.specs.declared.world.World.{World}
+use Rattle.xmp_names.specs.Rules.{unless}
+use Rattle.xmp_names.specs.Expressions.{may_name, is_function, expr_of, reference_of, call, arguments_of, each_next, next_of, no_parts}
+use Rattle.xmp_names.specs.Walk as walk
+use Rattle.xmp_names.specs.Walk.{Step, Gave, Run, and_then, a_scalar, an_int_scalar}
+use Rattle.xmp_parts.proofs.Unbroken.{left_none, right_none, holds}
+use Rattle.xmp_fits.proofs.Respected.{Ends, ends_then, ends_map}
 use Rattle.xmp_fits.proofs.Holding.{IfThere}
 use Rattle.xmp_fits.proofs.StepsFit.{IsPlace, reference_place}
 use Rattle.xmp_fits.proofs.ScopedFits.{Sees}
@@ -105,7 +105,7 @@ module _ (env : Environment) where
       at = λ w e. record {
         names = e;
         scalars = refl;
-        holds = λ n. (left_none w.broken (expr_of w.names x).notes.broken n, subst (λ m. Sees p m (expr_of w.names x).made) e (expr_sees w.names p x (right_none w.broken (expr_of w.names x).notes.broken n)));
+        holds = λ n. (left_none w.broken (expr_of w.names x).notes.broken n, subst (λ m. Sees p m (expr_of w.names x).operand.made) e (expr_sees w.names p x (right_none w.broken (expr_of w.names x).notes.broken n)));
       };
     }
 
@@ -116,7 +116,7 @@ module _ (env : Environment) where
         scalars = refl;
         holds = λ n.
             let h : (reference_of w.names r).notes.broken ≡ [] = right_none w.broken (reference_of w.names r).notes.broken n in
-            (left_none w.broken (reference_of w.names r).notes.broken n, (subst (λ m. Sees p m (reference_of w.names r).made) e (reference_sees w.names p r h), reference_place w.names r h));
+            (left_none w.broken (reference_of w.names r).notes.broken n, (subst (λ m. Sees p m (reference_of w.names r).operand.made) e (reference_sees w.names p r h), reference_place w.names r h));
       };
     }
 
@@ -127,7 +127,7 @@ module _ (env : Environment) where
         scalars = refl;
         holds = λ n.
             let t = call w.names c.name (arguments_of w.names c.arguments.item) in
-            (left_none w.broken t.notes.broken n, subst (λ m. Sees p m t.made) e (call_is_seen w.names p c (right_none w.broken t.notes.broken n)));
+            (left_none w.broken t.notes.broken n, subst (λ m. Sees p m t.operand.made) e (call_is_seen w.names p c (right_none w.broken t.notes.broken n)));
       };
     }
 

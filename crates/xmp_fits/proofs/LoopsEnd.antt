@@ -12,34 +12,35 @@ use Rattle.xmp_prog.specs.declared.statements.Stmt.TheVariants as s
 use Rattle.xmp_prog.specs.Counted.{is_nest}
 use Rattle.xmp_prog.specs.Statements.{statements_of, writes_of}
 use Rattle.xmp_prog.specs.Tests.{counted_fits}
-use Rattle.xmp_tree.specs.declared.directive.LoopLine.{LoopLine}
-use Rattle.xmp_tree.specs.declared.directive.Point.{Point}
-use Rattle.xmp_walk.specs.declared.loop_lines.LoopParts.{LoopParts}
-use Rattle.xmp_walk.specs.declared.mappings.LoopUse.{LoopUse}
-use Rattle.xmp_walk.specs.declared.mappings.TemplateLine.{TemplateLine}
-use Rattle.xmp_walk.specs.declared.rules.Rule.TheVariants.{N3, M7}
-use Rattle.xmp_walk.specs.declared.world.World.{World}
-use Rattle.xmp_walk.specs.Rules.{unless}
-use Rattle.xmp_walk.specs.Declarations.{inner}
-use Rattle.xmp_walk.specs.Directives.{Nest, dimensions, is_indexed, judged_loop, loop_line, loop_right, made_of_point, match_template, name_list, nest_of, point_of, reductions_of, use_template}
-use Rattle.xmp_walk.specs.MappingRules.{forms_of, indexed_right, loop_rule, loop_rules, mapping_rules, cell_rules, nodes_of, shadow_rules, template_sizes, template_sizes_in}
-use Rattle.xmp_elab.specs.Parts.{IsOf, IsTemplate}
-use Rattle.xmp_walk.specs.Walk.{Gave, a_template, each, if_there, name_of}
+use Rattle.xmp_syntax.specs.declared.directive.LoopLine.{LoopLine}
+use Rattle.xmp_syntax.specs.declared.directive.Point.{Point}
+use Rattle.xmp_directives.specs.declared.loop_lines.LoopParts.{LoopParts}
+use Rattle.xmp_names.specs.declared.mappings.LoopUse.{LoopUse}
+use Rattle.xmp_names.specs.declared.mappings.TemplateLine.{TemplateLine}
+use Rattle.xmp_names.specs.declared.rules.Rule.TheVariants.{N3, M7}
+use Rattle.xmp_names.specs.declared.world.World.{World}
+use Rattle.xmp_names.specs.Rules.{unless}
+use Rattle.xmp_names.specs.Lists.{inner}
+use Rattle.xmp_directives.specs.Directives.{Nest, dimensions, is_indexed, judged_loop, loop_line, loop_right, made_of_point, match_template, name_list, nest_of, point_of, reductions_of, use_template}
+use Rattle.xmp_mapping_rules.specs.MappingRules.{forms_of, indexed_right, loop_rule, loop_rules, mapping_rules, cell_rules, nodes_of, shadow_rules, template_sizes, template_sizes_in}
+use Rattle.xmp_parts.specs.Parts.{IsOf, IsTemplate}
+use Rattle.xmp_names.specs.Walk.{Gave, a_template, each, if_there, name_of}
 use Rattle.xmp_fits.proofs.DirectivesPass.{DirectiveFits, StmtFits, StmtMade, loop_fits, map_all}
 use Rattle.xmp_fits.proofs.Endings.{Ending, Number, before_judged, directed, earlier, found_at, goes_directed, item_there, judged_true, later_at, no_broken, opened, same_world, template_number}
 use Rattle.xmp_fits.proofs.GoodSteps.{begins_get, get_last}
 use Rattle.xmp_fits.proofs.GoodWorlds.{Good, Own}
-use Rattle.xmp_fits.proofs.KeptDirectives as kept_directives
-use Rattle.xmp_fits.proofs.KeptLines as kept_lines
-use Rattle.xmp_fits.proofs.KeptRuns as kept
-use Rattle.xmp_fits.proofs.KeptRuns.{Ends, Goes, Kept}
-use Rattle.xmp_fits.proofs.KeptSteps as kept_steps
+use Rattle.xmp_fits.proofs.KeptRuns.{Kept, going}
+use Rattle.xmp_fits.proofs.Respected.{Ends}
+use Rattle.xmp_fits.proofs.RespectedSteps as kept_steps
+use Rattle.xmp_fits.proofs.Respected as kept
+use Rattle.xmp_fits.proofs.RespectedLines as kept_lines
+use Rattle.xmp_fits.proofs.RespectedDirectives as kept_directives
 use Rattle.xmp_fits.proofs.LoopsPass.{RightLoop, constants_small, distributed_named, each_of_nest, each_once, points_there, template_named}
-use Rattle.xmp_elab.proofs.MadeLists.{made_here}
+use Rattle.xmp_parts.proofs.MadeLists.{made_here}
 use Rattle.xmp_fits.proofs.NestsPass.{nest_fits, nest_passes}
-use Rattle.xmp_elab.proofs.Padded.{at_most_three}
-use Rattle.xmp_elab.proofs.Unbroken.{RightTemplate, holds, left_none, left_true, none_here, right_none, template_at}
-use Rattle.xmp_fits.proofs.RulesLeft.{after_aligns}
+use Rattle.xmp_parts.proofs.Padded.{at_most_three}
+use Rattle.xmp_parts.proofs.Unbroken.{RightTemplate, holds, left_none, left_true, none_here, right_none, template_at}
+use Rattle.xmp_parts.proofs.Unbroken.{after_aligns}
 
 -- ---- the template of a loop directive, at the end
 
@@ -94,7 +95,7 @@ abbrev pub LineMade : LoopParts → World → Type 0
 LineMade parts v = (p : ProgParts) (e : Ending v p) → LineFits p e.last parts
 
 points_kept : (xs : List Point) → Kept (each point_of xs)
-points_kept xs = (kept.each kept_directives.point_of xs).kept
+points_kept xs = (kept.each going (kept_directives.point_of going) xs).kept
 
 -- As many points as dimensions.
 points_match : (v u : World) (template : Option ℕ) (k n : ℕ) (at : Place) (l : TemplateLine) (x : ⊤) → template ≡ Some k → slice_get v.mappings.templates k ≡ Some l →
@@ -115,11 +116,11 @@ line_made own w line g =
     opened (each point_of (inner line.points) v2) _ LineMade (λ points v3 e3.
     opened (match_template template (length points) line.template.at v3) _ LineMade (λ x v4 e4.
     opened (reductions_of [] line.reductions v4) _ LineMade (λ reductions v5 e5. λ p end.
-    let l1 = later_at (if_there name_list line.names) u names v1 (kept.if_there kept_directives.name_list line.names).kept e1 in
-    let l2 = later_at (name_of a_template line.template) v1 template v2 (kept_steps.name_of a_template line.template).kept e2 in
+    let l1 = later_at (if_there name_list line.names) u names v1 (kept.if_there going (kept_directives.name_list going) line.names).kept e1 in
+    let l2 = later_at (name_of a_template line.template) v1 template v2 (kept_steps.name_of going a_template line.template).kept e2 in
     let l3 = later_at (each point_of (inner line.points)) v2 points v3 (points_kept (inner line.points)) e3 in
-    let l4 = later_at (match_template template (length points) line.template.at) v3 x v4 (kept_lines.match_template template (length points) line.template.at).kept e4 in
-    let l5 = later_at (reductions_of [] line.reductions) v4 reductions v5 (kept_directives.reductions_kept [] line.reductions) e5 in
+    let l4 = later_at (match_template template (length points) line.template.at) v3 x v4 (kept_lines.match_template going template (length points) line.template.at).kept e4 in
+    let l5 = later_at (reductions_of [] line.reductions) v4 reductions v5 (kept_directives.reductions_kept going [] line.reductions) e5 in
     let end4 : Ending v4 p = earlier v4 v5 p l5.onward.later end in
     let end2 : Ending v2 p = earlier v2 v3 p l3.onward.later (earlier v3 v4 p l4.onward.later end4) in
     let end1 : Ending v1 p = earlier v1 v2 p l2.onward.later end2 in
@@ -179,7 +180,7 @@ loop_made v word parts n x lines fits =
     let test : Bool = loop_right parts.names parts.points nest.0 in
     let u : World = record v { broken = v.broken ++ unless test M7 word } in
     opened (use_template parts.template word (map is_indexed parts.points) u) _ StmtMade (λ y u2 e. λ p end.
-    let l = later_at (use_template parts.template word (map is_indexed parts.points)) u y u2 (kept_directives.use_kept parts.template word (map is_indexed parts.points)) e in
+    let l = later_at (use_template parts.template word (map is_indexed parts.points)) u y u2 (kept_directives.use_kept going parts.template word (map is_indexed parts.points)) e in
     let end1 : Ending u p = earlier u u2 p l.onward.later end in
     let end0 : Ending v p = before_judged v (unless test M7 word) p end1 in
     let line : LineFits p end.last parts = lines p end0 in

@@ -21,13 +21,14 @@ use Rattle.xmp_prog.specs.Statements as made_slots
 use Rattle.xmp_prog.specs.Statements.{indices_of}
 use Rattle.xmp_prog.specs.Directives as fit
 use Rattle.xmp_prog.specs.Directives.{dim_count, distributed_indexed, has_indices, has_points, indices_of_nest, indices_once, names_template, points_indices}
-use Rattle.xmp_walk.specs.declared.mappings.Form.{Form}
-use Rattle.xmp_walk.specs.declared.mappings.Form.TheVariants as form
-use Rattle.xmp_walk.specs.Directives.{is_indexed, is_small, is_small_point, limited, loop_right, made_of_point, same_numbers, slot_of_point, slots_of_points}
-use Rattle.xmp_walk.specs.MappingRules.{distributes, indexed_right, is_distributed}
-use Rattle.xmp_elab.specs.Parts.{IsOf, made_form}
-use Rattle.xmp_elab.proofs.Padded.{filled_get, filled_past, mapped_to}
-use Rattle.xmp_elab.proofs.Unbroken.{all_here, both_true, left_true, right_true}
+use Rattle.xmp_names.specs.declared.mappings.Form.{Form}
+use Rattle.xmp_names.specs.declared.mappings.Form.TheVariants as form
+use Rattle.xmp_directives.specs.Directives.{is_indexed, is_small_point, loop_right, made_of_point, same_numbers, slot_of_point, slots_of_points}
+use Rattle.xmp_names.specs.Sizes.{is_small, limited}
+use Rattle.xmp_mapping_rules.specs.MappingRules.{distributes, indexed_right, is_distributed}
+use Rattle.xmp_parts.specs.Parts.{IsOf, made_form}
+use Rattle.xmp_parts.proofs.Padded.{filled_get, filled_past, mapped_to}
+use Rattle.xmp_parts.proofs.Unbroken.{all_here, both_true, left_true, right_true}
 
 -- ---- constants
 

@@ -11,28 +11,28 @@ use Rattle.xmp_prog.specs.declared.parts.Start.{Start}
 use Rattle.xmp_prog.specs.Numbers.{is_in}
 use Rattle.xmp_prog.specs.Statements.{slots_of_stmt}
 use Rattle.xmp_prog.specs.Scopes.{declared_in, scalars_fit, in_main}
-use Rattle.xmp_tree.specs.declared.parts.Name as named
-use Rattle.xmp_tree.specs.declared.parts.TypeWords.{TypeWords}
-use Rattle.xmp_tree.specs.declared.expression.Expr.{Expr}
-use Rattle.xmp_tree.specs.declared.program.Function.{Function}
-use Rattle.xmp_tree.specs.declared.program.TopItem.{TopItem}
-use Rattle.xmp_tree.specs.declared.program.TopItem.TheVariants as top
-use Rattle.xmp_tree.specs.declared.program.Tree.{Tree}
-use Rattle.xmp_walk.specs.declared.names.Region.TheVariants as region
-use Rattle.xmp_walk.specs.declared.names.Meaning.TheVariants as meaning
-use Rattle.xmp_walk.specs.declared.rules.Rule.TheVariants.{N7}
-use Rattle.xmp_walk.specs.declared.world.World.{World}
-use Rattle.xmp_walk.specs.Rules.{unless}
-use Rattle.xmp_walk.specs.Walk as walk
-use Rattle.xmp_walk.specs.Walk.{Step, Gave, Run, and_then, each}
+use Rattle.xmp_syntax.specs.declared.parts.Name as named
+use Rattle.xmp_syntax.specs.declared.parts.TypeWords.{TypeWords}
+use Rattle.xmp_syntax.specs.declared.expression.Expr.{Expr}
+use Rattle.xmp_syntax.specs.declared.program.Function.{Function}
+use Rattle.xmp_syntax.specs.declared.program.TopItem.{TopItem}
+use Rattle.xmp_syntax.specs.declared.program.TopItem.TheVariants as top
+use Rattle.xmp_syntax.specs.declared.program.Tree.{Tree}
+use Rattle.xmp_names.specs.declared.names.Region.TheVariants as region
+use Rattle.xmp_names.specs.declared.names.Meaning.TheVariants as meaning
+use Rattle.xmp_names.specs.declared.rules.Rule.TheVariants.{N7}
+use Rattle.xmp_names.specs.declared.world.World.{World}
+use Rattle.xmp_names.specs.Rules.{unless}
+use Rattle.xmp_names.specs.Walk as walk
+use Rattle.xmp_names.specs.Walk.{Step, Gave, Run, and_then, each}
 use Rattle.xmp_walk.specs.Declarations.{type_of}
 use Rattle.xmp_walk.specs.Statements.{return_of}
 use Rattle.xmp_walk.specs.Program.{items_of, parameters_in, parameter_of, main_items, is_main_head, main_of, top_of, last_top, tops_of, coarray_top, start_world, with_count, program_of}
-use Rattle.xmp_elab.proofs.Unbroken.{right_none, left_true, right_true, holds}
+use Rattle.xmp_parts.proofs.Unbroken.{right_none, left_true, right_true, holds}
 use Rattle.xmp_fits.proofs.Laters.{Later, unbroken_before}
 use Rattle.xmp_fits.proofs.GoodWorlds.{Own, Good}
-use Rattle.xmp_fits.proofs.KeptRuns.{Ends, ends_then, ends_map, ends_both, Goes}
-use Rattle.xmp_fits.proofs.KeptSteps.{goes_noted}
+use Rattle.xmp_fits.proofs.KeptRuns.{Goes, goes_noted}
+use Rattle.xmp_fits.proofs.Respected.{Ends, ends_then, ends_map, ends_both}
 use Rattle.xmp_fits.proofs.KeptStatements.{main_body_kept}
 use Rattle.xmp_fits.proofs.Holding.{Unbroken}
 use Rattle.xmp_fits.proofs.FitPrinciple.{main_holds}

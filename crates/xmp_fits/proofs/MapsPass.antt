@@ -21,23 +21,23 @@ use Rattle.xmp_prog.specs.declared.parts.ProgParts.{ProgParts}
 use Rattle.xmp_prog.specs.declared.statements.Stmt.{Stmt}
 use Rattle.xmp_prog.specs.Fits as fits
 use Rattle.xmp_prog.specs.Fits.{HomeFits, MappingsFit, SpreadFits, has_coarrays, node_count}
-use Rattle.xmp_walk.specs.declared.names.Array.{Array}
-use Rattle.xmp_walk.specs.declared.mappings.Align.{Align}
-use Rattle.xmp_walk.specs.declared.mappings.AlignPoint.{AlignPoint}
-use Rattle.xmp_walk.specs.declared.world.World.{World}
-use Rattle.xmp_walk.specs.declared.rules.Rule.TheVariants.{M10}
-use Rattle.xmp_walk.specs.Rules.{unless}
-use Rattle.xmp_walk.specs.Declarations.{most_cells}
-use Rattle.xmp_walk.specs.Directives.{given_or_one, line_sizes, natural}
-use Rattle.xmp_walk.specs.MappingRules.{align_of, cells_from, copies, forms_of, mapping_rules, is_given, node_product, nodes_of, nodes_right, number_of_nodes, one_to_three, sizes_or_row}
-use Rattle.xmp_elab.specs.Parts.{EachMade, IsAligned, IsArray, IsGrid, IsHome, IsMapOver, IsOver, IsTemplate, Made, kind_of, shadow_of, targets, targets_from, widths_in}
-use Rattle.xmp_walk.specs.declared.mappings.NodesLine.{NodesLine}
-use Rattle.xmp_elab.specs.Narrow.{is_count}
-use Rattle.xmp_elab.proofs.Padded.{at_most_three}
-use Rattle.xmp_elab.proofs.Rows.{right_nodes}
-use Rattle.xmp_fits.proofs.RulesLeft.{cells_at, shadow_of_array}
-use Rattle.xmp_elab.proofs.Unbroken.{both_true, holds, left_none, left_true, no_cell_rule, nodes_at, right_none, right_true}
-use Rattle.xmp_elab.proofs.WidthsFit.{widths_length}
+use Rattle.xmp_names.specs.declared.names.Array.{Array}
+use Rattle.xmp_names.specs.declared.mappings.Align.{Align}
+use Rattle.xmp_names.specs.declared.mappings.AlignPoint.{AlignPoint}
+use Rattle.xmp_names.specs.declared.world.World.{World}
+use Rattle.xmp_names.specs.declared.rules.Rule.TheVariants.{M10}
+use Rattle.xmp_names.specs.Rules.{unless}
+use Rattle.xmp_names.specs.Sizes.{most_cells, given_or_one, line_sizes, natural}
+use Rattle.xmp_mapping_rules.specs.MappingRules.{align_of, cells_from, copies, forms_of, mapping_rules, is_given, node_product, nodes_of, nodes_right, number_of_nodes, one_to_three, sizes_or_row}
+use Rattle.xmp_parts.specs.Parts.{EachMade, IsAligned, IsArray, IsGrid, IsHome, IsMapOver, IsOver, IsTemplate, Made, kind_of, targets, targets_from, widths_in}
+use Rattle.xmp_mapping_rules.specs.MappingRules.{shadow_of}
+use Rattle.xmp_names.specs.declared.mappings.NodesLine.{NodesLine}
+use Rattle.xmp_parts.specs.Narrow.{is_count}
+use Rattle.xmp_parts.proofs.Padded.{at_most_three}
+use Rattle.xmp_parts.proofs.Rows.{right_nodes}
+use Rattle.xmp_parts.proofs.Accepted.{cells_at, shadow_of_array}
+use Rattle.xmp_parts.proofs.Unbroken.{both_true, holds, left_none, left_true, no_cell_rule, nodes_at, right_none, right_true}
+use Rattle.xmp_parts.proofs.WidthsFit.{widths_length}
 
 -- ---- what holds of each item that is made
 

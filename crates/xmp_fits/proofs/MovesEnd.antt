@@ -15,31 +15,33 @@ use Rattle.xmp_prog.specs.declared.statements.MoveSide.{MoveSide}
 use Rattle.xmp_prog.specs.declared.statements.Plain.TheVariants as plain
 use Rattle.xmp_prog.specs.Directives.{parts_fit, sections_agree, sections_in, side_fits}
 use Rattle.xmp_prog.specs.Statements.{arrays_of_side, slots_of_names}
-use Rattle.xmp_tree.specs.declared.directive.DirectiveLine.{DirectiveLine}
-use Rattle.xmp_tree.specs.declared.directive.Section.{Section}
-use Rattle.xmp_tree.specs.declared.directive.Sections.{Sections}
-use Rattle.xmp_tree.specs.declared.parts.CommaList.{CommaList}
-use Rattle.xmp_tree.specs.declared.parts.Name as named
+use Rattle.xmp_syntax.specs.declared.directive.DirectiveLine.{DirectiveLine}
+use Rattle.xmp_syntax.specs.declared.directive.Section.{Section}
+use Rattle.xmp_syntax.specs.declared.directive.Sections.{Sections}
+use Rattle.xmp_syntax.specs.declared.parts.CommaList.{CommaList}
+use Rattle.xmp_syntax.specs.declared.parts.Name as named
 use Rattle.xmp_scopes.specs.Names as scope
-use Rattle.xmp_walk.specs.declared.names.Meaning.{Meaning}
-use Rattle.xmp_walk.specs.declared.names.Meaning.TheVariants as meaning
-use Rattle.xmp_walk.specs.declared.rules.Rule.{Rule}
-use Rattle.xmp_walk.specs.declared.rules.Rule.TheVariants.{N1, N3, N5}
-use Rattle.xmp_walk.specs.declared.world.World.{World}
-use Rattle.xmp_walk.specs.Rules.{unless}
-use Rattle.xmp_walk.specs.Declarations.{inner, listed}
-use Rattle.xmp_walk.specs.Directives.{array_name, barrier_of, extents_in, first_extent, gmove_of, part_of, parts_in, reflect_of, sections_match, side_as, side_of}
-use Rattle.xmp_walk.specs.Expressions.{may_name}
-use Rattle.xmp_walk.specs.Walk.{an_array, each, each_after, name_of}
+use Rattle.xmp_names.specs.declared.names.Meaning.{Meaning}
+use Rattle.xmp_names.specs.declared.names.Meaning.TheVariants as meaning
+use Rattle.xmp_names.specs.declared.rules.Rule.{Rule}
+use Rattle.xmp_names.specs.declared.rules.Rule.TheVariants.{N1, N3, N5}
+use Rattle.xmp_names.specs.declared.world.World.{World}
+use Rattle.xmp_names.specs.Rules.{unless}
+use Rattle.xmp_names.specs.Lists.{inner, listed}
+use Rattle.xmp_directives.specs.Directives.{array_name, barrier_of, first_extent, gmove_of, part_of, parts_in, reflect_of, sections_match, side_as, side_of}
+use Rattle.xmp_names.specs.Sizes.{extents_in}
+use Rattle.xmp_names.specs.Expressions.{may_name}
+use Rattle.xmp_names.specs.Walk.{an_array, each, each_after, name_of}
 use Rattle.xmp_fits.proofs.DirectivesPass.{StmtMade, plain_fits}
 use Rattle.xmp_fits.proofs.Endings.{ArrayThere, Ending, Number, array_number, array_there, before_judged, directed, earlier, ends_at, ends_in, found_at, goes_directed, judged_true, later_at, no_broken, opened}
 use Rattle.xmp_fits.proofs.GoodSteps.{true_name}
 use Rattle.xmp_fits.proofs.GoodWorlds.{Good, Own}
-use Rattle.xmp_fits.proofs.KeptDirectives as kept_directives
-use Rattle.xmp_fits.proofs.KeptRuns as kept
-use Rattle.xmp_fits.proofs.KeptRuns.{Ends, Goes, Kept}
-use Rattle.xmp_fits.proofs.KeptSteps as kept_steps
-use Rattle.xmp_elab.proofs.Unbroken.{both_true, left_true, right_true}
+use Rattle.xmp_fits.proofs.KeptRuns.{Goes, going}
+use Rattle.xmp_fits.proofs.Respected.{Ends}
+use Rattle.xmp_fits.proofs.RespectedSteps as kept_steps
+use Rattle.xmp_fits.proofs.Respected as kept
+use Rattle.xmp_fits.proofs.RespectedDirectives as kept_directives
+use Rattle.xmp_parts.proofs.Unbroken.{both_true, left_true, right_true}
 
 -- ---- arrays by their names
 
@@ -53,7 +55,7 @@ array_made : (own : Own) (w : World) (n : named.Name) → Good own w → Ends Na
 array_made own w n g =
     opened (name_of an_array n w) _ NameMade (λ o v e. λ p end.
     let k : Number (length w.names.arrays) o = array_number own n w o g (found_at an_array n w v o p e end) in
-    let later = later_at (name_of an_array n) w o v (kept_steps.name_of an_array n).kept e in
+    let later = later_at (name_of an_array n) w o v (kept_steps.name_of going an_array n).kept e in
     ap (λ x. nat_lt (unwrap_or x 0) (length p.arrays)) k.is ∙ below_arrays w p k.number (earlier w v p later.onward.later end) k.below)
 
 abbrev names_below : ProgParts → List made_name.Name → Bool
@@ -70,10 +72,10 @@ arrays_after : (own : Own) (w : World) (done : List made_name.Name) (ns : List n
 arrays_after own w done [] g = λ p end h. h
 arrays_after own w done (n ∷ ns) g =
     opened (array_name n w) _ (NamesMade done) (λ x v e.
-    let there = later_at (array_name n) w x v (kept_directives.array_name n).kept e in
+    let there = later_at (array_name n) w x v (kept_directives.array_name going n).kept e in
     let rest = arrays_after own v (done ++ x ∷ []) ns (there.good own g) in
     ends_in (NamesMade done) (each_after array_name (done ++ x ∷ []) ns v) (λ xs v2 e2. λ p end h.
-    let last = later_at (each_after array_name (done ++ x ∷ []) ns) v xs v2 (kept.each_after kept_directives.array_name (done ++ x ∷ []) ns) e2 in
+    let last = later_at (each_after array_name (done ++ x ∷ []) ns) v xs v2 (kept.each_after going (kept_directives.array_name going) (done ++ x ∷ []) ns) e2 in
     let one = ends_at NameMade (array_name n w) x v (array_made own w n g) e p (earlier v v2 p last.onward.later end) in
     ends_at (NamesMade (done ++ x ∷ [])) (each_after array_name (done ++ x ∷ []) ns v) xs v2 rest e2 p end (below_more p done x h one)))
 
@@ -121,7 +123,7 @@ module _ (own : Own) (w : World) (x : Sections) (g : Good own w) where
   u = behind_name x.name w
 
   u_goes : Goes w u
-  u_goes = (kept_steps.meaning_of x.name).kept.at w
+  u_goes = (kept_steps.meaning_of going x.name).kept.at w
 
   -- The side that is an array.
   of_array : (k : ℕ) → k < length w.names.arrays → Ends SideMade (side_as x (Some (meaning.Array k)) u)
@@ -130,7 +132,7 @@ module _ (own : Own) (w : World) (x : Sections) (g : Good own w) where
       let test : Bool = length x.sections == length extents in
       let v : World = record u { broken = u.broken ++ unless test N3 x.name.at } in
       opened (parts_in x.name.at [] extents (inner x.sections) v) _ SideMade (λ parts v2 e. λ p end.
-      let last = later_at (parts_in x.name.at [] extents (inner x.sections)) v parts v2 (kept_directives.parts_kept x.name.at [] extents (inner x.sections)) e in
+      let last = later_at (parts_in x.name.at [] extents (inner x.sections)) v parts v2 (kept_directives.parts_kept going x.name.at [] extents (inner x.sections)) e in
       let end1 : Ending v p = earlier v v2 p last.onward.later end in
       let same : length x.sections ≡ length extents = eqb-true (length x.sections) (length extents) (judged_true u.broken test N3 x.name.at (no_broken v p end1)) in
       let start : Ending w p = earlier w u p u_goes.onward.later (before_judged u (unless test N3 x.name.at) p end1) in
@@ -162,8 +164,8 @@ gmove_made own w line target source g =
     opened (side_of target u) _ StmtMade (λ a v e.
     opened (side_of source v) _ StmtMade (λ b v2 e2. λ p end.
     let test : Bool = sections_match (sections_in a) (sections_in b) in
-    let first = later_at (side_of target) u a v (kept_directives.side_of target).kept e in
-    let second = later_at (side_of source) v b v2 (kept_directives.side_of source).kept e2 in
+    let first = later_at (side_of target) u a v (kept_directives.side_of going target).kept e in
+    let second = later_at (side_of source) v b v2 (kept_directives.side_of going source).kept e2 in
     let end2 : Ending v2 p = before_judged v2 (unless test N3 target.name.at) p end in
     let fa : SideFits p a = ends_at SideMade (side_of target u) a v (side_made own u target g0) e p (earlier v v2 p second.onward.later end2) in
     let fb : SideFits p b = ends_at SideMade (side_of source v) b v2 (side_made own v source (first.good own g0)) e2 p end2 in

@@ -11,34 +11,35 @@ use Rattle.xmp_num.specs.declared.types.RedOp.{RedOp}
 use Rattle.xmp_scopes.specs.Names.{nearest}
 use Rattle.xmp_prog.specs.declared.statements.Reduction as made_reduction
 use Rattle.xmp_prog.specs.declared.parts.ProgParts.{ProgParts}
-use Rattle.xmp_tree.specs.declared.parts.Name as named
-use Rattle.xmp_tree.specs.declared.directive.Point.{Point}
-use Rattle.xmp_tree.specs.declared.directive.Point.TheVariants as point
-use Rattle.xmp_tree.specs.declared.directive.Reduction.{Reduction}
-use Rattle.xmp_tree.specs.declared.directive.LoopLine.{LoopLine}
-use Rattle.xmp_walk.specs.declared.names.Meaning.{Meaning}
-use Rattle.xmp_walk.specs.declared.names.Meaning.TheVariants.{Scalar, Array, Nodes, Template, Function}
-use Rattle.xmp_walk.specs.declared.loop_lines.LoopParts.{LoopParts}
-use Rattle.xmp_walk.specs.declared.rules.Rule.TheVariants.{N5}
-use Rattle.xmp_walk.specs.declared.world.World.{World}
-use Rattle.xmp_walk.specs.Rules.{unless}
-use Rattle.xmp_walk.specs.Expressions.{is_function, may_name}
-use Rattle.xmp_walk.specs.Walk as walk
-use Rattle.xmp_walk.specs.Walk.{Step, Gave, Run, a_scalar, an_int_scalar, a_template, name_of, of_kind, directive_at}
-use Rattle.xmp_walk.specs.Declarations.{listed, inner}
-use Rattle.xmp_walk.specs.Directives as directives
-use Rattle.xmp_walk.specs.Directives.{slot_or_zero, limited, made_of_point, operation_of}
-use Rattle.xmp_elab.proofs.Unbroken.{right_none, holds}
+use Rattle.xmp_syntax.specs.declared.parts.Name as named
+use Rattle.xmp_syntax.specs.declared.directive.Point.{Point}
+use Rattle.xmp_syntax.specs.declared.directive.Point.TheVariants as point
+use Rattle.xmp_syntax.specs.declared.directive.Reduction.{Reduction}
+use Rattle.xmp_syntax.specs.declared.directive.LoopLine.{LoopLine}
+use Rattle.xmp_names.specs.declared.names.Meaning.{Meaning}
+use Rattle.xmp_names.specs.declared.names.Meaning.TheVariants.{Scalar, Array, Nodes, Template, Function}
+use Rattle.xmp_directives.specs.declared.loop_lines.LoopParts.{LoopParts}
+use Rattle.xmp_names.specs.declared.rules.Rule.TheVariants.{N5}
+use Rattle.xmp_names.specs.declared.world.World.{World}
+use Rattle.xmp_names.specs.Rules.{unless}
+use Rattle.xmp_names.specs.Expressions.{is_function, may_name}
+use Rattle.xmp_names.specs.Walk as walk
+use Rattle.xmp_names.specs.Walk.{Step, Gave, Run, a_scalar, an_int_scalar, a_template, name_of, of_kind, directive_at}
+use Rattle.xmp_names.specs.Lists.{listed, inner}
+use Rattle.xmp_directives.specs.Directives as directives
+use Rattle.xmp_directives.specs.Directives.{slot_or_zero, made_of_point, operation_of}
+use Rattle.xmp_parts.proofs.Unbroken.{right_none, holds}
 use Rattle.xmp_fits.proofs.GoodWorlds.{Own, Good}
 use Rattle.xmp_fits.proofs.GoodSteps.{onward_stays, begins_get, true_name}
-use Rattle.xmp_fits.proofs.KeptRuns.{Ends, Goes, goes_refl, goes_trans, GoesOn, Kept, Going}
-use Rattle.xmp_fits.proofs.KeptRuns as kept_runs
+use Rattle.xmp_fits.proofs.KeptRuns.{Goes, goes_refl, goes_trans, GoesOn, Kept, going}
+use Rattle.xmp_fits.proofs.Respected.{Ends}
+use Rattle.xmp_fits.proofs.RespectedDirectives as kept
+use Rattle.xmp_fits.proofs.RespectedLines as kept_lines
+use Rattle.xmp_fits.proofs.RespectedSteps as kept_steps
+use Rattle.xmp_fits.proofs.Respected as kept_runs
 use Rattle.xmp_fits.proofs.Laters.{unbroken_before}
 use Rattle.xmp_fits.proofs.TermsFit.{all_append}
 use Rattle.xmp_fits.proofs.Endings.{opened, ends_at, later_at, directed, goes_directed}
-use Rattle.xmp_fits.proofs.KeptSteps as kept_steps
-use Rattle.xmp_fits.proofs.KeptLines as kept_lines
-use Rattle.xmp_fits.proofs.KeptDirectives as kept
 use Rattle.xmp_fits.proofs.Holding.{Unbroken, Holds, unbroken_then, holds_then, each_holds}
 use Rattle.xmp_fits.proofs.NamesFit.{full}
 use Rattle.xmp_fits.proofs.TermTests.{is_slot}
@@ -102,10 +103,10 @@ int_slot own n = record { at = λ w g. go w g (nearest n.text w.names.scopes) re
     go w g (Some (Function k r)) e = λ h. no_kind _ _ _ h
 
 pub scalar_name_holds : (own : Own) (n : named.Name) → Holds own (λ w v x. SlotsGood v (x.number ∷ [])) (directives.scalar_name n)
-scalar_name_holds own n = made_holds own (λ v o. SlotsGood v (slot_or_zero o ∷ [])) (λ v x. SlotsGood v (x.number ∷ [])) (name_of a_scalar n) (λ o. record { number = slot_or_zero o; at = n.at }) (kept_steps.name_of a_scalar n).kept (scalar_slot own n) (λ v o h. h)
+scalar_name_holds own n = made_holds own (λ v o. SlotsGood v (slot_or_zero o ∷ [])) (λ v x. SlotsGood v (x.number ∷ [])) (name_of a_scalar n) (λ o. record { number = slot_or_zero o; at = n.at }) (kept_steps.name_of going a_scalar n).kept (scalar_slot own n) (λ v o h. h)
 
 pub index_name_holds : (own : Own) (n : named.Name) → Holds own (λ w v x. SlotsGood v (x ∷ [])) (directives.index_name n)
-index_name_holds own n = made_holds own (λ v o. SlotsGood v (unwrap_or o 0 ∷ [])) (λ v x. SlotsGood v (x ∷ [])) (name_of an_int_scalar n) (λ o. unwrap_or o 0) (kept_steps.name_of an_int_scalar n).kept (int_slot own n) (λ v o h. h)
+index_name_holds own n = made_holds own (λ v o. SlotsGood v (unwrap_or o 0 ∷ [])) (λ v x. SlotsGood v (x ∷ [])) (name_of an_int_scalar n) (λ o. unwrap_or o 0) (kept_steps.name_of going an_int_scalar n).kept (int_slot own n) (λ v o h. h)
 
 -- ---- points and reductions
 
@@ -119,15 +120,15 @@ carried Q v (Gave a u) f g k = λ e. k u a g
 pub point_holds : (own : Own) (x : Point) → Holds own (λ w v x. PointGood v x) (directives.point_of x)
 point_holds own (point.Star at) = record { at = λ w g h p r. tt }
 point_holds own (point.Index n offset) =
-    holds_then own (λ w v x. SlotsGood v (x ∷ [])) (λ w v x. PointGood v x) (directives.index_name n) (λ slot. walk.◌>>=◌ (directives.offset_of offset) (λ c. walk.pure (Some (slot, c)))) (kept.index_name n).kept (index_name_holds own n)
-    (λ slot. (kept_runs.◌>>=◌ (kept_lines.offset_of offset) (λ c. kept_runs.pure (Some (slot, c)))).kept)
-    (λ w v slot g o i. carried PointGood v (directives.offset_of offset v) (λ c. Some (slot, c)) ((kept_lines.offset_of offset).kept.at v) (λ u c q. slots_stay v u (slot ∷ []) (onward_stays q.onward) i))
+    holds_then own (λ w v x. SlotsGood v (x ∷ [])) (λ w v x. PointGood v x) (directives.index_name n) (λ slot. walk.◌>>=◌ (directives.offset_of offset) (λ c. walk.pure (Some (slot, c)))) (kept.index_name going n).kept (index_name_holds own n)
+    (λ slot. (kept_runs.◌>>=◌ (kept_lines.offset_of going offset) (λ c. kept_runs.pure going (Some (slot, c)))).kept)
+    (λ w v slot g o i. carried PointGood v (directives.offset_of offset v) (λ c. Some (slot, c)) ((kept_lines.offset_of going offset).kept.at v) (λ u c q. slots_stay v u (slot ∷ []) (onward_stays q.onward) i))
 
 abbrev pub ReductionGood : World → made_reduction.Reduction → Type 0
 ReductionGood v x = SlotsGood v (x.variable.number ∷ [])
 
 reduction_holds : (own : Own) (op : RedOp) (n : named.Name) → Holds own (λ w v x. ReductionGood v x) (directives.reduction_name op n)
-reduction_holds own op n = made_holds own (λ v x. SlotsGood v (x.number ∷ [])) ReductionGood (directives.scalar_name n) (λ x. record { op = op; variable = x }) (kept.scalar_name n).kept (scalar_name_holds own n) (λ v x h. h)
+reduction_holds own op n = made_holds own (λ v x. SlotsGood v (x.number ∷ [])) ReductionGood (directives.scalar_name n) (λ x. record { op = op; variable = x }) (kept.scalar_name going n).kept (scalar_name_holds own n) (λ v x h. h)
 
 reduction_stays : (w v : World) (x : made_reduction.Reduction) → Goes w v → ReductionGood w x → ReductionGood v x
 reduction_stays w v x g h = slots_stay w v (x.variable.number ∷ []) (onward_stays g.onward) h
@@ -145,7 +146,7 @@ reductions_from own v done (r ∷ rs) g h =
     let names = listed r.list.item.2 in
     let op : RedOp = operation_of r.list.item.0 in
     unbroken_then (λ u all. AllByRecursion (ReductionGood u) all) (λ u all. AllByRecursion (ReductionGood u) all) v (walk.each (directives.reduction_name op) names v) (λ more. directives.reductions_of (done ++ more) rs)
-    ((kept_runs.each (kept.reduction_name op) names).kept.at v) ((each_holds own ReductionGood reduction_stays (kept.reduction_name op) (reduction_holds own op) names).at v g) (λ more. kept.reductions_kept (done ++ more) rs)
+    ((kept_runs.each going (kept.reduction_name going op) names).kept.at v) ((each_holds own ReductionGood reduction_stays (kept.reduction_name going op) (reduction_holds own op) names).at v g) (λ more. kept.reductions_kept going (done ++ more) rs)
     (λ more u o i. reductions_from own u (done ++ more) rs (o.good own g) (all_append (ReductionGood u) done more (all_go ReductionGood reduction_stays v u o done h) i))
 
 -- ---- the line of a loop directive
@@ -172,11 +173,11 @@ line_holds own line = record {
       opened (walk.each directives.point_of (inner line.points) v2) _ (λ x v. v.broken ≡ [] → LineGood v x) (λ points v3 e3.
       opened (directives.match_template template (length points) line.template.at v3) _ (λ x v. v.broken ≡ [] → LineGood v x) (λ x v4 e4.
       opened (directives.reductions_of [] line.reductions v4) _ (λ x v. v.broken ≡ [] → LineGood v x) (λ reductions v5 e5. λ none.
-      let l1 = later_at (walk.if_there directives.name_list line.names) u names v1 (kept_runs.if_there kept.name_list line.names).kept e1 in
-      let l2 = later_at (name_of a_template line.template) v1 template v2 (kept_steps.name_of a_template line.template).kept e2 in
-      let l3 = later_at (walk.each directives.point_of (inner line.points)) v2 points v3 (kept_runs.each kept.point_of (inner line.points)).kept e3 in
-      let l4 = later_at (directives.match_template template (length points) line.template.at) v3 x v4 (kept_lines.match_template template (length points) line.template.at).kept e4 in
-      let l5 = later_at (directives.reductions_of [] line.reductions) v4 reductions v5 (kept.reductions_kept [] line.reductions) e5 in
+      let l1 = later_at (walk.if_there directives.name_list line.names) u names v1 (kept_runs.if_there going (kept.name_list going) line.names).kept e1 in
+      let l2 = later_at (name_of a_template line.template) v1 template v2 (kept_steps.name_of going a_template line.template).kept e2 in
+      let l3 = later_at (walk.each directives.point_of (inner line.points)) v2 points v3 (kept_runs.each going (kept.point_of going) (inner line.points)).kept e3 in
+      let l4 = later_at (directives.match_template template (length points) line.template.at) v3 x v4 (kept_lines.match_template going template (length points) line.template.at).kept e4 in
+      let l5 = later_at (directives.reductions_of [] line.reductions) v4 reductions v5 (kept.reductions_kept going [] line.reductions) e5 in
       let n4 = unbroken_before v4 v5 l5.onward.later none in
       let n3 = unbroken_before v3 v4 l4.onward.later n4 in
       let n2 = unbroken_before v2 v3 l3.onward.later n3 in
@@ -187,7 +188,7 @@ line_holds own line = record {
       let l : Goes u v5 = goes_trans l1 (goes_trans l2 (goes_trans l3 (goes_trans l4 l5))) in
       record {
         none = none_stays u v5 l ((directive_holds own line.line.word).at w g n0);
-        points = all_go PointGood point_stays v3 v5 (goes_trans l4 l5) points (fact_at own (λ w v all. AllByRecursion (PointGood v) all) (walk.each directives.point_of (inner line.points)) v2 v3 points (each_holds own PointGood point_stays kept.point_of (point_holds own) (inner line.points)) g2 e3 n3);
+        points = all_go PointGood point_stays v3 v5 (goes_trans l4 l5) points (fact_at own (λ w v all. AllByRecursion (PointGood v) all) (walk.each directives.point_of (inner line.points)) v2 v3 points (each_holds own PointGood point_stays (kept.point_of going) (point_holds own) (inner line.points)) g2 e3 n3);
         reductions = ends_at (λ all v. v.broken ≡ [] → AllByRecursion (ReductionGood v) all) (directives.reductions_of [] line.reductions v4) reductions v5 (reductions_from own v4 [] line.reductions g4 tt) e5 none;
       })))));
 }

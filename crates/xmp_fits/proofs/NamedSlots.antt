@@ -11,7 +11,7 @@ use Rattle.xmp_prog.specs.declared.statements.Stmt.TheViews.{roll-Stmt, roll-Tas
 use Rattle.xmp_prog.specs.declared.parts.ProgParts.{ProgParts}
 use Rattle.xmp_prog.specs.Statements.{Statement, Walked, WalkedTask, walk_step, walk_task, walked, statement_of, statements_of, statements_below, slots_in, slots_of_stmt}
 use Rattle.xmp_prog.specs.Scopes.{Scoped, fits_in_order, fits_below, scope_step, scoped, scalars_fit}
-use Rattle.xmp_elab.proofs.Unbroken.{left_true, right_true, both_true}
+use Rattle.xmp_parts.proofs.Unbroken.{left_true, right_true, both_true}
 
 module _ (p : ProgParts) (q : ℕ → Bool) where
   -- whatever is known

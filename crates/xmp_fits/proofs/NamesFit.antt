@@ -15,21 +15,20 @@ use Rattle.xmp_prog.specs.declared.expressions.Expr.TheOpen.{Access-F}
 use Rattle.xmp_prog.specs.declared.parts.Function as made_function
 use Rattle.xmp_prog.specs.declared.parts.ProgParts.{ProgParts}
 use Rattle.xmp_prog.specs.Fits.{has_coarrays}
-use Rattle.xmp_tree.specs.declared.parts.Name as named
-use Rattle.xmp_walk.specs.declared.names.Meaning.{Meaning}
-use Rattle.xmp_walk.specs.declared.names.Meaning.TheVariants.{Scalar, Array, Nodes, Template, Function}
-use Rattle.xmp_walk.specs.declared.names.Array as array
-use Rattle.xmp_walk.specs.declared.names.Signature.{Signature}
-use Rattle.xmp_walk.specs.declared.names.Environment.{Environment}
-use Rattle.xmp_walk.specs.declared.rules.Notes.{Notes}
-use Rattle.xmp_walk.specs.declared.rules.Rule.{Rule}
-use Rattle.xmp_walk.specs.declared.rules.Rule.TheVariants.{N1, N3, N5, N10}
-use Rattle.xmp_walk.specs.declared.typed.Typed.{Typed}
-use Rattle.xmp_walk.specs.declared.typed.Parts.{Parts}
-use Rattle.xmp_walk.specs.Rules.{unless, noted}
-use Rattle.xmp_walk.specs.Typing.{operand_of}
-use Rattle.xmp_walk.specs.Expressions.{add, is_function, is_first, may_name, unknown, of_type, is_nothing, cell_of, read_as, image_notes, read, intrinsic, call_intrinsic, called, call_of, call_as, may_call, judged_call, call}
-use Rattle.xmp_elab.proofs.Unbroken.{left_none, right_none, left_true, right_true, holds}
+use Rattle.xmp_syntax.specs.declared.parts.Name as named
+use Rattle.xmp_names.specs.declared.names.Meaning.{Meaning}
+use Rattle.xmp_names.specs.declared.names.Meaning.TheVariants.{Scalar, Array, Nodes, Template, Function}
+use Rattle.xmp_names.specs.declared.names.Array as array
+use Rattle.xmp_names.specs.declared.names.Signature.{Signature}
+use Rattle.xmp_names.specs.declared.names.Environment.{Environment}
+use Rattle.xmp_names.specs.declared.rules.Notes.{Notes}
+use Rattle.xmp_names.specs.declared.rules.Rule.{Rule}
+use Rattle.xmp_names.specs.declared.rules.Rule.TheVariants.{N1, N3, N5, N10}
+use Rattle.xmp_names.specs.declared.typed.Typed.{Typed}
+use Rattle.xmp_names.specs.declared.typed.Parts.{Parts}
+use Rattle.xmp_names.specs.Rules.{unless, noted}
+use Rattle.xmp_names.specs.Expressions.{add, is_function, is_first, may_name, unknown, of_type, is_nothing, cell_of, read_as, image_notes, read, intrinsic, call_intrinsic, called, call_of, call_as, may_call, judged_call, call}
+use Rattle.xmp_parts.proofs.Unbroken.{left_none, right_none, left_true, right_true, holds}
 use Rattle.xmp_fits.proofs.GoodWorlds.{ArrayOf}
 use Rattle.xmp_fits.proofs.TermsFit.{NoneInside, ExprFits, EachFits, each_append}
 use Rattle.xmp_fits.proofs.TermForms.{fits_scalar, fits_cell, fits_element, fits_image, fits_call, fits_node, fits_nodes}
@@ -84,7 +83,7 @@ module _ (env : Environment) (p : ProgParts) where
   pub add_right : (q : Parts) (x : Typed) → PartsRight q → Right env p x → PartsRight (add q x)
   add_right q x f g n =
       let r = g (right_none q.notes.broken x.notes.broken n) in
-      each_append env p q.types (x.ty ∷ []) q.made (x.made ∷ []) (f (left_none q.notes.broken x.notes.broken n)) ((r.ty, r.typed, r.fits), tt)
+      each_append env p q.types (x.operand.ty ∷ []) q.made (x.operand.made ∷ []) (f (left_none q.notes.broken x.notes.broken n)) ((r.ty, r.typed, r.fits), tt)
 
   -- ---- names
 
@@ -94,45 +93,45 @@ module _ (env : Environment) (p : ProgParts) where
 
   abbrev ImageFits : Option Typed → Type 0
   ImageFits None = ⊤
-  ImageFits (Some x) = Fits env p (operand_of x)
+  ImageFits (Some x) = Fits env p x.operand
 
   unknown_right : (notes : Notes) (rule : Rule) (at : Place) → Right env p (unknown notes rule at)
   unknown_right notes rule at h = absurd (full notes.broken (record { rule = rule; at = at }) h)
 
-  of_type_fits : (ty : Ty) (made : Expr) (notes : Notes) → ExprFits env p ty made → Fits env p (operand_of (of_type ty made notes))
+  of_type_fits : (ty : Ty) (made : Expr) (notes : Notes) → ExprFits env p ty made → Fits env p (of_type ty made notes).operand
   of_type_fits ty made notes f = record { ty = ty; typed = refl; fits = f; lies = tt; constant = tt }
 
   module _ (t : Tells env p) where
     element_made : (a : array.Array) (k : ℕ) (at : Place) (q : Parts) (image : Option Typed) → slice_get env.arrays k ≡ Some a → EachFits env p q.types q.made → ImageFits image →
-        length q.made ≡ length a.extents → (a.coarray || is_none (option_map (λ x. x.made) image)) ≡ true → (NoneInside env → is_function env.region ≡ true → ⊥) →
-        ExprFits env p a.ty (e.Cell (roll-Access (record { array = k; subscripts = q.made; image = option_map (λ x. x.made) image; at = at })))
+        length q.made ≡ length a.extents → (a.coarray || is_none (option_map (λ x. x.operand.made) image)) ≡ true → (NoneInside env → is_function env.region ≡ true → ⊥) →
+        ExprFits env p a.ty (e.Cell (roll-Access (record { array = k; subscripts = q.made; image = option_map (λ x. x.operand.made) image; at = at })))
     element_made a k at q None h f g n c own =
         let b = t.arrays k a h in
         let x : Access-F Expr Access = record { array = k; subscripts = q.made; image = None; at = at } in
         subst (λ u. ExprFits env p u (e.Cell (roll-Access x))) b.same.ty (fits_cell env p b.made.ty (roll-Access x) (fits_element env p b.made k q.types q.made at b.is (n ∙ ap length (sym b.same.extents)) f own))
     element_made a k at q (Some i) h f g n c own =
         let b = t.arrays k a h in
-        let x : Access-F Expr Access = record { array = k; subscripts = q.made; image = Some i.made; at = at } in
+        let x : Access-F Expr Access = record { array = k; subscripts = q.made; image = Some i.operand.made; at = at } in
         subst (λ u. ExprFits env p u (e.Cell (roll-Access x))) b.same.ty
-        (fits_cell env p b.made.ty (roll-Access x) (fits_image env p b.made k q.types q.made g.ty i.made at b.is (n ∙ ap length (sym b.same.extents)) f (b.same.image ∙ alone a.coarray c) g.fits own))
+        (fits_cell env p b.made.ty (roll-Access x) (fits_image env p b.made k q.types q.made g.ty i.operand.made at b.is (n ∙ ap length (sym b.same.extents)) f (b.same.image ∙ alone a.coarray c) g.fits own))
       where
         alone : (b : Bool) → (b || false) ≡ true → b ≡ true
         alone true h = refl
         alone false h = h
 
     cell_right : (o : Option array.Array) (k : ℕ) (at : Place) (q : Parts) (image : Option Typed) (notes : Notes) → slice_get env.arrays k ≡ o → EachFits env p q.types q.made → ImageFits image →
-        (NoneInside env → is_function env.region ≡ true → ⊥) → Right env p (cell_of o k at q.made (option_map (λ x. x.made) image) notes)
+        (NoneInside env → is_function env.region ≡ true → ⊥) → Right env p (cell_of o k at q.made (option_map (λ x. x.operand.made) image) notes)
     cell_right None k at q image notes h f g own n = unknown_right notes N3 at n
     cell_right (Some a) k at q image notes h f g own n =
         let both = test_of notes _ N3 at n in
-        of_type_fits a.ty (e.Cell (roll-Access (record { array = k; subscripts = q.made; image = option_map (λ x. x.made) image; at = at }))) notes
+        of_type_fits a.ty (e.Cell (roll-Access (record { array = k; subscripts = q.made; image = option_map (λ x. x.operand.made) image; at = at }))) notes
         (element_made a k at q image h f g (eqb-true (length q.made) (length a.extents) (left_true (length q.made == length a.extents) _ both)) (right_true (length q.made == length a.extents) _ both) own)
 
     no_array : (n : named.Name) (k : ℕ) → nearest n.text env.scopes ≡ Some (Array k) → may_name env n (Some (Array k)) ≡ true → NoneInside env → is_function env.region ≡ true → ⊥
     no_array n k h m q f = no_both (is_first (depth_of n.text env.scopes)) (second (is_function env.region) _ m f) (q n k h)
 
     read_as_right : (name : named.Name) (meaning : Option Meaning) (q : Parts) (image : Option Typed) (notes : Notes) → nearest name.text env.scopes ≡ meaning → may_name env name meaning ≡ true →
-        EachFits env p q.types q.made → ImageFits image → Right env p (read_as env meaning name.at q.made (option_map (λ x. x.made) image) notes)
+        EachFits env p q.types q.made → ImageFits image → Right env p (read_as env meaning name.at q.made (option_map (λ x. x.operand.made) image) notes)
     read_as_right name (Some (Scalar slot ty)) q image notes h m f g n =
         of_type_fits ty (e.Scalar slot name.at) notes (fits_scalar env p ty slot name.at (t.scalars name slot ty h) (record { name = name; ty = ty; means = h; may = m }))
     read_as_right name (Some (Array k)) q image notes h m f g n = cell_right (slice_get env.arrays k) k name.at q image notes refl f g (no_array name k h m) n
@@ -167,7 +166,7 @@ module _ (env : Environment) (p : ProgParts) where
         let meaning : Option Meaning = nearest name.text env.scopes in
         let notes : Notes = image_notes image q.notes in
         let judged : Notes = noted notes (may_name env name meaning) N5 name.at in
-        let b = read_before meaning name.at q.made (option_map (λ x. x.made) image) judged n in
+        let b = read_before meaning name.at q.made (option_map (λ x. x.operand.made) image) judged n in
         let c = before notes (may_name env name meaning) N5 name.at b in
         read_as_right name meaning q image judged refl (test_of notes (may_name env name meaning) N5 name.at b) (f (parts_before image q.notes c)) (image_before image q.notes g c) n
 

@@ -14,8 +14,8 @@ use Rattle.xmp_prog.specs.Counted.{is_counted, is_nest}
 use Rattle.xmp_prog.specs.Statements.{Statement, Walked, WalkedTask, indices_of, statements_of, walk_step, walk_task, walked, writes_of}
 use Rattle.xmp_prog.specs.Tests.{counted_fits}
 use Rattle.xmp_prog.proofs.Rolls.{at_block, at_counted}
-use Rattle.xmp_walk.specs.Directives.{Nest, counted_in, head_of, nest_in, nest_of, unbraced_in}
-use Rattle.xmp_elab.proofs.Unbroken.{both_true}
+use Rattle.xmp_directives.specs.Directives.{Nest, counted_in, head_of, nest_in, nest_of, unbraced_in}
+use Rattle.xmp_parts.proofs.Unbroken.{both_true}
 
 -- ---- what stands in a statement of a form
 

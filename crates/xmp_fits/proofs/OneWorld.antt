@@ -11,39 +11,39 @@ use Rattle.xmp_prog.specs.declared.statements.LoopHead.{LoopHead}
 use Rattle.xmp_prog.specs.declared.statements.Stmt as made
 use Rattle.xmp_prog.specs.declared.statements.Stmt.TheVariants as s
 use Rattle.xmp_prog.specs.declared.statements.Task.{Task}
-use Rattle.xmp_tree.specs.declared.declaration.Declarator.{Declarator}
-use Rattle.xmp_tree.specs.declared.directive.LoopLine.{LoopLine}
-use Rattle.xmp_tree.specs.declared.directive.TaskLine.{TaskLine}
-use Rattle.xmp_tree.specs.declared.expression.Expr.{Expr}
-use Rattle.xmp_tree.specs.declared.statement.ForFirst.{ForFirst}
-use Rattle.xmp_tree.specs.declared.statement.ForHead.{ForHead}
-use Rattle.xmp_tree.specs.declared.statement.Simple.{Simple}
-use Rattle.xmp_tree.specs.declared.statement.Plain.{Plain}
-use Rattle.xmp_tree.specs.declared.statement.Plain.TheVariants as plain
+use Rattle.xmp_syntax.specs.declared.declaration.Declarator.{Declarator}
+use Rattle.xmp_syntax.specs.declared.directive.LoopLine.{LoopLine}
+use Rattle.xmp_syntax.specs.declared.directive.TaskLine.{TaskLine}
+use Rattle.xmp_syntax.specs.declared.expression.Expr.{Expr}
+use Rattle.xmp_syntax.specs.declared.statement.ForFirst.{ForFirst}
+use Rattle.xmp_syntax.specs.declared.statement.ForHead.{ForHead}
+use Rattle.xmp_syntax.specs.declared.statement.Simple.{Simple}
+use Rattle.xmp_syntax.specs.declared.statement.Plain.{Plain}
+use Rattle.xmp_syntax.specs.declared.statement.Plain.TheVariants as plain
 use Rattle.xmp_walk.specs.declared.loops.First.{First}
 use Rattle.xmp_walk.specs.declared.loops.ForParts.{ForParts}
 use Rattle.xmp_walk.specs.declared.loops.Shape.{Shape}
-use Rattle.xmp_walk.specs.declared.loop_lines.LoopParts.{LoopParts}
-use Rattle.xmp_walk.specs.declared.typed.Operand.{Operand}
-use Rattle.xmp_walk.specs.declared.world.World.{World}
-use Rattle.xmp_walk.specs.Walk as walk
-use Rattle.xmp_walk.specs.Walk.{Step, Gave}
-use Rattle.xmp_walk.specs.MappingLines.{mapping_of}
+use Rattle.xmp_directives.specs.declared.loop_lines.LoopParts.{LoopParts}
+use Rattle.xmp_names.specs.declared.typed.Operand.{Operand}
+use Rattle.xmp_names.specs.declared.world.World.{World}
+use Rattle.xmp_names.specs.Walk as walk
+use Rattle.xmp_names.specs.Walk.{Step, Gave}
+use Rattle.xmp_directives.specs.MappingLines.{mapping_of}
 use Rattle.xmp_walk.specs.Declarations.{local_declarator}
 use Rattle.xmp_walk.specs.Statements.{simple_of, first_of, set, one, right_side, in_block, counted_with, begun, condition, last_of, uncounted, loop_in, loop_of, shape_of}
-use Rattle.xmp_walk.specs.Directives.{loop_line, judged_loop, nest_of, task_line, made_task}
+use Rattle.xmp_directives.specs.Directives.{loop_line, judged_loop, nest_of, task_line, made_task}
 use Rattle.xmp_walk.specs.Program.{plain_of}
-use Rattle.xmp_walk.specs.Expressions.{is_function}
-use Rattle.xmp_elab.proofs.Unbroken.{left_true, right_true}
-use Rattle.xmp_fits.specs.NumbersLie.{numbers_lie}
-use Rattle.xmp_fits.specs.NumbersLie.{there_lies, simple_lies, plain_lies, first_lies, head_lies, declarator_lies, loop_line_lies, task_line_lies}
+use Rattle.xmp_names.specs.Expressions.{is_function}
+use Rattle.xmp_parts.proofs.Unbroken.{left_true, right_true}
+use Rattle.xmp_fits.specs.NumbersLie.{numbers_lie, there_lies, simple_lies, plain_lies, first_lies, head_lies, declarator_lies, loop_line_lies, task_line_lies}
 use Rattle.xmp_fits.proofs.GoodWorlds.{Own, Good}
 use Rattle.xmp_fits.proofs.GoodSteps.{Stays, onward_stays, good_opened}
-use Rattle.xmp_fits.proofs.KeptRuns.{Goes, goes_refl, goes_trans, goes_then, GoesOn, Kept, Going, there_kept}
-use Rattle.xmp_fits.proofs.KeptSteps.{typed}
-use Rattle.xmp_fits.proofs.KeptLines.{declarator_kept}
-use Rattle.xmp_fits.proofs.KeptMappings.{mapping_kept}
-use Rattle.xmp_fits.proofs.KeptDirectives.{head_parts, first_kept, simple_kept}
+use Rattle.xmp_fits.proofs.KeptRuns.{Goes, goes_refl, goes_trans, goes_then, GoesOn, Kept, Going, going, going_scalars, going_arrays}
+use Rattle.xmp_fits.proofs.Respected.{there_kept}
+use Rattle.xmp_fits.proofs.RespectedDirectives.{head_parts, first_kept, simple_kept}
+use Rattle.xmp_fits.proofs.RespectedLines.{declarator_kept}
+use Rattle.xmp_fits.proofs.RespectedMappings.{mapping_kept}
+use Rattle.xmp_fits.proofs.RespectedSteps.{typed}
 use Rattle.xmp_fits.proofs.KeptStatements.{opened, closed, stays_opened, stays_closed}
 use Rattle.xmp_fits.proofs.Holding.{Unbroken, Holds, unbroken_then, unbroken_is, IfThere}
 use Rattle.xmp_fits.proofs.FitPrinciple.{Facts, Forms}
@@ -166,32 +166,32 @@ module _ (own : Own) (t : Tests) (c : Cases own t) where
   nowhere = record { line = 0; column = 0 }
 
   abbrev first_going : ForFirst → Going First
-  first_going x = record { run = first_of x; kept = first_kept x }
+  first_going x = record { run = first_of x; kept = first_kept going going_scalars x }
 
   abbrev simple_going : Simple → Going made.Stmt
-  simple_going x = record { run = simple_of x; kept = simple_kept x }
+  simple_going x = record { run = simple_of x; kept = simple_kept going x }
 
   nexts : (h : ForHead) (first : Option First) (test : Option Operand) → Kept {A = ForParts} (walk.◌>>=◌ (walk.if_there simple_of h.next) (λ next. walk.pure (record { first = first; test = test; next = next })))
-  nexts h first test = record { at = λ u. goes_then u (walk.if_there simple_of h.next u) (λ next. walk.pure (record { first = first; test = test; next = next })) ((there_kept simple_going h.next).at u) (λ next. record { at = goes_refl }) }
+  nexts h first test = record { at = λ u. goes_then u (walk.if_there simple_of h.next u) (λ next. walk.pure (record { first = first; test = test; next = next })) ((there_kept going simple_going h.next).at u) (λ next. record { at = goes_refl }) }
 
   tests : (h : ForHead) (first : Option First) → Kept {A = ForParts} (walk.◌>>=◌ (walk.if_there walk.typed h.test) (λ test. walk.◌>>=◌ (walk.if_there simple_of h.next) (λ next. walk.pure (record { first = first; test = test; next = next }))))
   tests h first = record {
     at = λ u. goes_then u (walk.if_there walk.typed h.test u) (λ test. walk.◌>>=◌ (walk.if_there simple_of h.next) (λ next. walk.pure (record { first = first; test = test; next = next })))
-        ((there_kept typed h.test).at u) (λ test. nexts h first test);
+        ((there_kept going (typed going) h.test).at u) (λ test. nexts h first test);
   }
 
-  head_holds : (h : ForHead) → head_lies h ≡ true → Holds own (λ w v x. HeadFits t h v x) (head_parts h).run
+  head_holds : (h : ForHead) → head_lies h ≡ true → Holds own (λ w v x. HeadFits t h v x) (head_parts going going_scalars h).run
   head_holds h num = record {
     at = λ w g.
         unbroken_then (λ v o. IfThere (FirstFits t v) o) (λ v x. HeadFits t h v x) w (walk.if_there first_of h.first w)
         (λ first. walk.◌>>=◌ (walk.if_there walk.typed h.test) (λ test. walk.◌>>=◌ (walk.if_there simple_of h.next) (λ next. walk.pure (record { first = first; test = test; next = next }))))
-        ((there_kept first_going h.first).at w) ((there_lying (λ v x. FirstFits t v x) first_lies first_of first_kept c.first h.first (left_true (there_lies first_lies h.first) _ num)).at w g) (λ first. tests h first)
+        ((there_kept going first_going h.first).at w) ((there_lying (λ v x. FirstFits t v x) first_lies first_of (first_kept going going_scalars) c.first h.first (left_true (there_lies first_lies h.first) _ num)).at w g) (λ first. tests h first)
         (λ first v o i. unbroken_then (λ v o. IfThere (t.Reads v) o) (λ v x. HeadFits t h v x) v (walk.if_there walk.typed h.test v)
         (λ test. walk.◌>>=◌ (walk.if_there simple_of h.next) (λ next. walk.pure (record { first = first; test = test; next = next })))
-        ((there_kept typed h.test).at v) ((there_lying (λ v x. t.Reads v x) numbers_lie walk.typed (λ x. (typed x).kept) c.test h.test (left_true (there_lies numbers_lie h.test) _ (right_true (there_lies first_lies h.first) _ num))).at v (o.good own g)) (λ test. nexts h first test)
+        ((there_kept going (typed going) h.test).at v) ((there_lying (λ v x. t.Reads v x) numbers_lie walk.typed (λ x. (typed going x).kept) c.test h.test (left_true (there_lies numbers_lie h.test) _ (right_true (there_lies first_lies h.first) _ num))).at v (o.good own g)) (λ test. nexts h first test)
         (λ test u q j. unbroken_then (λ v o. IfThere (t.Fit v) o × (walk.if_there simple_of h.next u ≡ Gave o v)) (λ v x. HeadFits t h v x) u (walk.if_there simple_of h.next u)
         (λ next. walk.pure (record { first = first; test = test; next = next }))
-        ((there_kept simple_going h.next).at u) (unbroken_is (λ v o. IfThere (t.Fit v) o) (walk.if_there simple_of h.next u) ((there_lying (λ v x. t.Fit v x) simple_lies simple_of simple_kept (λ x n. c.plain (plain.Simple x nowhere) n) h.next (right_true (there_lies numbers_lie h.test) _ (right_true (there_lies first_lies h.first) _ num))).at u (q.good own (o.good own g)))) (λ next. record { at = goes_refl })
+        ((there_kept going simple_going h.next).at u) (unbroken_is (λ v o. IfThere (t.Fit v) o) (walk.if_there simple_of h.next u) ((there_lying (λ v x. t.Fit v x) simple_lies simple_of (simple_kept going) (λ x n. c.plain (plain.Simple x nowhere) n) h.next (right_true (there_lies numbers_lie h.test) _ (right_true (there_lies first_lies h.first) _ num))).at u (q.good own (o.good own g)))) (λ next. record { at = goes_refl })
         (λ next x r k e. record {
           first = there_stays (λ v x. FirstFits t v x) first_stays v x first (stays_of (goes_trans q r)) i;
           test = there_stays (λ v x. t.Reads v x) c.reads_stay u x test (stays_of r) j;
@@ -269,8 +269,8 @@ module _ (own : Own) (t : Tests) (c : Cases own t) where
     line = c.line;
     loop = λ l w v u parts x g o q i j. c.loop l u parts x (q.good own (o.good own g)) (c.lines_stay v u parts (stays_of q) i) j;
     none = λ w. tt;
-    mapping = λ x n w v done g h i. each_time (λ u _. AllByRecursion (t.Fit u) done) v (mapping_of x v) ((mapping_kept x).at v) (λ u a k. all_stay v u (stays_of k) done i);
-    declarator = λ ty d n w v done g h i. both_times (λ u all. AllByRecursion (t.Fit u) all) (λ u more. AllByRecursion (t.Fit u) (done ++ more)) v (local_declarator ty d v) ((declarator_kept ty d).at v) ((c.declarator ty d n).at v h) (λ u more k j. and_more (t.Fit u) done more (all_stay v u (stays_of k) done i) j);
+    mapping = λ x n w v done g h i. each_time (λ u _. AllByRecursion (t.Fit u) done) v (mapping_of x v) ((mapping_kept going x).at v) (λ u a k. all_stay v u (stays_of k) done i);
+    declarator = λ ty d n w v done g h i. both_times (λ u all. AllByRecursion (t.Fit u) all) (λ u more. AllByRecursion (t.Fit u) (done ++ more)) v (local_declarator ty d v) ((declarator_kept going going_scalars going_arrays ty d).at v) ((c.declarator ty d n).at v h) (λ u more k j. and_more (t.Fit u) done more (all_stay v u (stays_of k) done i) j);
     statement = λ w v u done x g k i j. and_more (t.Fit u) done (x ∷ []) (all_stay v u (stays_of k) done i) (j, tt);
     block = λ w v all g k i.
         let d : Good own v = k.good own (good_opened own w (opened w) (stays_opened w) refl g) in

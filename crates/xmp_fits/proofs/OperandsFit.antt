@@ -16,19 +16,19 @@ use Rattle.xmp_prog.specs.declared.parts.ProgParts.{ProgParts}
 use Rattle.xmp_prog.specs.Numbers.{same_type, lies_in}
 use Rattle.xmp_prog.specs.Terms.{result_of}
 use Rattle.xmp_prog.specs.Tests.{is_shift, right_fits}
-use Rattle.xmp_tree.specs.declared.parts.Link.{Link}
-use Rattle.xmp_walk.specs.declared.names.Environment.{Environment}
-use Rattle.xmp_walk.specs.declared.rules.Notes.{Notes}
-use Rattle.xmp_walk.specs.declared.operators.Operator.{Operator}
-use Rattle.xmp_walk.specs.declared.operators.Operator.TheVariants.{Arithmetic, Compare, Shift, Both, Either}
-use Rattle.xmp_walk.specs.declared.typed.Value.{Value}
-use Rattle.xmp_walk.specs.declared.typed.Value.TheVariants.{Named, Trapping, Known}
-use Rattle.xmp_walk.specs.declared.typed.Typed.{Typed}
-use Rattle.xmp_walk.specs.declared.typed.Operand.{Operand}
-use Rattle.xmp_walk.specs.Rules.{joined}
-use Rattle.xmp_walk.specs.Typing.{operator_of, joint, value_type, binary_value, both_value, either_value, converted, chosen_value, convert, as_type, operand, typed, number, arithmetic, compare, shift, operator, operand_of, binary, unary, cast, chosen, choose}
-use Rattle.xmp_walk.specs.Expressions.{chain}
-use Rattle.xmp_elab.proofs.Unbroken.{left_none, right_none}
+use Rattle.xmp_syntax.specs.declared.parts.Link.{Link}
+use Rattle.xmp_names.specs.declared.names.Environment.{Environment}
+use Rattle.xmp_names.specs.declared.rules.Notes.{Notes}
+use Rattle.xmp_names.specs.declared.operators.Operator.{Operator}
+use Rattle.xmp_names.specs.declared.operators.Operator.TheVariants.{Arithmetic, Compare, Shift, Both, Either}
+use Rattle.xmp_names.specs.declared.typed.Value.{Value}
+use Rattle.xmp_names.specs.declared.typed.Value.TheVariants.{Named, Trapping, Known}
+use Rattle.xmp_names.specs.declared.typed.Typed.{Typed}
+use Rattle.xmp_names.specs.declared.typed.Operand.{Operand}
+use Rattle.xmp_names.specs.Rules.{joined}
+use Rattle.xmp_names.specs.Typing.{operator_of, joint, value_type, binary_value, both_value, either_value, converted, chosen_value, convert, as_type, operand, typed, number, arithmetic, compare, shift, operator, binary, unary, cast, chosen, choose}
+use Rattle.xmp_names.specs.Expressions.{chain}
+use Rattle.xmp_parts.proofs.Unbroken.{left_none, right_none}
 use Rattle.xmp_fits.proofs.ValuesLie.{Lies, wrap_lies, binary_lies, widened, converted_lies, both_lies, either_lies, chosen_lies}
 use Rattle.xmp_fits.proofs.TermsFit.{ExprFits}
 use Rattle.xmp_fits.proofs.TermForms.{same_itself, fits_const, fits_binary, fits_both, fits_either, fits_choose, fits_convert}
@@ -49,7 +49,7 @@ pub record Fits (env : Environment) (p : ProgParts) (x : Operand) : Type 0 where
 
 -- The same of an expression in which no rule breaks.
 abbrev pub Right : Environment → ProgParts → Typed → Type 0
-Right env p t = t.notes.broken ≡ [] → Fits env p (operand_of t)
+Right env p t = t.notes.broken ≡ [] → Fits env p t.operand
 
 -- An operator that a mark may be: what its result has as type.
 abbrev pub IsMark : Operator → Type 0
@@ -118,7 +118,7 @@ module _ (env : Environment) (p : ProgParts) where
 
   -- ---- operations
 
-  finished : (ty : Ty) (v : Value) (made : Expr) (notes : Notes) → ExprFits env p ty made → Lies ty v → Fits env p (operand_of (typed (Some ty) v made notes))
+  finished : (ty : Ty) (v : Value) (made : Expr) (notes : Notes) → ExprFits env p ty made → Lies ty v → Fits env p (typed (Some ty) v made notes).operand
   finished ty (Known v) made notes f h = record { ty = ty; typed = refl; fits = fits_const env p ty v h; lies = h; constant = refl }
   finished ty Named made notes f h = record { ty = ty; typed = refl; fits = f; lies = tt; constant = tt }
   finished ty Trapping made notes f h = record { ty = ty; typed = refl; fits = f; lies = tt; constant = tt }
@@ -133,31 +133,31 @@ module _ (env : Environment) (p : ProgParts) where
   two_lie : (o : BinOp) (s t r : Ty) (c : Common s t) (a b : Value) → result_of o c.ty ≡ r → Lies s a → Lies t b → Lies r (binary_value o c.ty a b)
   two_lie o s t r c a b i f g = subst (λ u. Lies u (binary_value o c.ty a b)) i (binary_lies o c.ty c.ty a b (λ h. refl) (c.left a f) (c.right b g))
 
-  arithmetic_fits : (o : BinOp) (at : Place) (a b : Operand) (notes : Notes) → ((ty : Ty) → result_of o ty ≡ ty) → Fits env p a → Fits env p b → Fits env p (operand_of (arithmetic o at a b notes))
+  arithmetic_fits : (o : BinOp) (at : Place) (a b : Operand) (notes : Notes) → ((ty : Ty) → result_of o ty ≡ ty) → Fits env p a → Fits env p b → Fits env p (arithmetic o at a b notes).operand
   arithmetic_fits o at a b notes i f g =
       let c = common f.ty g.ty in
       let j : joint a.ty b.ty ≡ Some c.ty = ap (λ t. joint t b.ty) f.typed ∙ (ap (joint (Some f.ty)) g.typed ∙ c.is) in
-      subst (λ u. Fits env p (operand_of (typed u (binary_value o (value_type u) a.value b.value) (e.Binary o (value_type u) (operand (value_type u) a) (operand (value_type u) b) at) notes))) (sym j)
+      subst (λ u. Fits env p (typed u (binary_value o (value_type u) a.value b.value) (e.Binary o (value_type u) (operand (value_type u) a) (operand (value_type u) b) at) notes).operand) (sym j)
       (finished c.ty (binary_value o c.ty a.value b.value) _ notes (two o c.ty c.ty at a b (i c.ty) f g) (two_lie o f.ty g.ty c.ty c a.value b.value (i c.ty) f.lies g.lies))
 
-  compare_fits : (o : BinOp) (at : Place) (a b : Operand) (notes : Notes) → ((ty : Ty) → result_of o ty ≡ Int) → Fits env p a → Fits env p b → Fits env p (operand_of (compare o at a b notes))
+  compare_fits : (o : BinOp) (at : Place) (a b : Operand) (notes : Notes) → ((ty : Ty) → result_of o ty ≡ Int) → Fits env p a → Fits env p b → Fits env p (compare o at a b notes).operand
   compare_fits o at a b notes i f g =
       let c = common f.ty g.ty in
       let j : joint a.ty b.ty ≡ Some c.ty = ap (λ t. joint t b.ty) f.typed ∙ (ap (joint (Some f.ty)) g.typed ∙ c.is) in
-      subst (λ u. Fits env p (operand_of (typed (Some Int) (binary_value o (value_type u) a.value b.value) (e.Binary o (value_type u) (operand (value_type u) a) (operand (value_type u) b) at) notes))) (sym j)
+      subst (λ u. Fits env p (typed (Some Int) (binary_value o (value_type u) a.value b.value) (e.Binary o (value_type u) (operand (value_type u) a) (operand (value_type u) b) at) notes).operand) (sym j)
       (finished Int (binary_value o c.ty a.value b.value) _ notes (two o c.ty Int at a b (i c.ty) f g) (two_lie o f.ty g.ty Int c a.value b.value (i c.ty) f.lies g.lies))
 
   both_ways : (b : Bool) → b ≡ true → b ≡ false → ⊥
   both_ways b h k = cc
 
-  shift_fits : (o : BinOp) (at : Place) (a b : Operand) (notes : Notes) → is_shift o ≡ true → ((ty : Ty) → result_of o ty ≡ ty) → Fits env p a → Fits env p b → Fits env p (operand_of (shift o at a b notes))
+  shift_fits : (o : BinOp) (at : Place) (a b : Operand) (notes : Notes) → is_shift o ≡ true → ((ty : Ty) → result_of o ty ≡ ty) → Fits env p a → Fits env p b → Fits env p (shift o at a b notes).operand
   shift_fits o at a b notes h i f g =
-      subst (λ u. Fits env p (operand_of (typed u (binary_value o (value_type u) a.value b.value) (e.Binary o (value_type u) a.made b.made at) notes))) (sym f.typed)
+      subst (λ u. Fits env p (typed u (binary_value o (value_type u) a.value b.value) (e.Binary o (value_type u) a.made b.made at) notes).operand) (sym f.typed)
       (finished f.ty (binary_value o f.ty a.value b.value) _ notes
       (subst (λ t. ExprFits env p t (e.Binary o f.ty a.made b.made at)) (i f.ty) (fits_binary env p f.ty g.ty f.ty o a.made b.made at (same_itself f.ty) (of_any o f.ty g.ty h) f.fits g.fits))
       (subst (λ t. Lies t (binary_value o f.ty a.value b.value)) (i f.ty) (binary_lies o f.ty g.ty a.value b.value (λ k. absurd (both_ways (is_shift o) h k)) f.lies g.lies)))
 
-  operator_fits : (o : Operator) (at : Place) (a b : Operand) (notes : Notes) → IsMark o → Fits env p a → Fits env p b → Fits env p (operand_of (operator o at a b notes))
+  operator_fits : (o : Operator) (at : Place) (a b : Operand) (notes : Notes) → IsMark o → Fits env p a → Fits env p b → Fits env p (operator o at a b notes).operand
   operator_fits (Arithmetic o) at a b notes h f g = arithmetic_fits o at a b notes h f g
   operator_fits (Compare o) at a b notes h f g = compare_fits o at a b notes h f g
   operator_fits (Shift o) at a b notes h f g = shift_fits o at a b notes h.0 h.1 f g
@@ -174,8 +174,8 @@ module _ (env : Environment) (p : ProgParts) where
 
   pub binary_right : (o : Operator) (at : Place) (a b : Typed) → IsMark o → Right env p a → Right env p b → Right env p (binary o at a b)
   binary_right o at a b h f g n =
-      let both : a.notes.broken ++ b.notes.broken ≡ [] = sym (ap (λ x. x.broken) (operator_notes o at (operand_of a) (operand_of b) (joined a.notes b.notes))) ∙ n in
-      operator_fits o at (operand_of a) (operand_of b) (joined a.notes b.notes) h (f (left_none a.notes.broken b.notes.broken both)) (g (right_none a.notes.broken b.notes.broken both))
+      let both : a.notes.broken ++ b.notes.broken ≡ [] = sym (ap (λ x. x.broken) (operator_notes o at a.operand b.operand (joined a.notes b.notes))) ∙ n in
+      operator_fits o at a.operand b.operand (joined a.notes b.notes) h (f (left_none a.notes.broken b.notes.broken both)) (g (right_none a.notes.broken b.notes.broken both))
 
   pub number_right : (v : ℤ) (ty : Ty) → lies_in ty v ≡ true → Right env p (number v ty)
   number_right v ty h n = record { ty = ty; typed = refl; fits = fits_const env p ty v h; lies = h; constant = refl }
@@ -194,20 +194,20 @@ module _ (env : Environment) (p : ProgParts) where
   pub cast_right : (ty : Ty) (x : Typed) → Right env p x → Right env p (cast ty x)
   cast_right ty x f n =
       let g = f n in
-      record { ty = ty; typed = refl; fits = convert_fits g.ty ty x.made x.value g.fits; lies = converted_lies ty x.value; constant = cast_is ty x.made x.value }
+      record { ty = ty; typed = refl; fits = convert_fits g.ty ty x.operand.made x.operand.value g.fits; lies = converted_lies ty x.operand.value; constant = cast_is ty x.operand.made x.operand.value }
 
-  chosen_fits : (c : Operand) (a b : Operand) (notes : Notes) → Fits env p c → Fits env p a → Fits env p b → Fits env p (operand_of (chosen c.made c.value a b notes))
+  chosen_fits : (c : Operand) (a b : Operand) (notes : Notes) → Fits env p c → Fits env p a → Fits env p b → Fits env p (chosen c a b notes).operand
   chosen_fits c a b notes f g h =
       let k = common g.ty h.ty in
       let j : joint a.ty b.ty ≡ Some k.ty = ap (λ t. joint t b.ty) g.typed ∙ (ap (joint (Some g.ty)) h.typed ∙ k.is) in
-      subst (λ u. Fits env p (operand_of (typed u (chosen_value (value_type u) c.value a.value b.value) (e.Choose c.made (operand (value_type u) a) (operand (value_type u) b)) notes))) (sym j)
+      subst (λ u. Fits env p (typed u (chosen_value (value_type u) c.value a.value b.value) (e.Choose c.made (operand (value_type u) a) (operand (value_type u) b)) notes).operand) (sym j)
       (finished k.ty (chosen_value k.ty c.value a.value b.value) _ notes
       (fits_choose env p f.ty k.ty c.made (operand k.ty a) (operand k.ty b) f.fits (operand_fits k.ty a g) (operand_fits k.ty b h)) (chosen_lies k.ty c.value a.value b.value))
 
   pub choose_right : (c a b : Typed) → Right env p c → Right env p a → Right env p b → Right env p (choose c a b)
   choose_right c a b f g h n =
       let ca : c.notes.broken ++ a.notes.broken ≡ [] = left_none (c.notes.broken ++ a.notes.broken) b.notes.broken n in
-      chosen_fits (operand_of c) (operand_of a) (operand_of b) (joined (joined c.notes a.notes) b.notes) (f (left_none c.notes.broken a.notes.broken ca)) (g (right_none c.notes.broken a.notes.broken ca)) (h (right_none (c.notes.broken ++ a.notes.broken) b.notes.broken n))
+      chosen_fits c.operand a.operand b.operand (joined (joined c.notes a.notes) b.notes) (f (left_none c.notes.broken a.notes.broken ca)) (g (right_none c.notes.broken a.notes.broken ca)) (h (right_none (c.notes.broken ++ a.notes.broken) b.notes.broken n))
 
   pub chain_right : (x : Typed) (ls : List (Link Typed)) → Right env p x → AllByRecursion (λ l. Right env p l.right) ls → Right env p (chain x ls)
   chain_right x [] f g = f

@@ -19,22 +19,22 @@ use Rattle.xmp_prog.specs.Numbers.{same_type}
 use Rattle.xmp_prog.specs.Terms.{Of, Typed, access_step, terms_of, type_of, typed_step}
 use Rattle.xmp_prog.specs.Tests.{is_shift, right_fits}
 use Rattle.xmp_prog.proofs.Rolls.{at_binary, at_scalar}
-use Rattle.xmp_tree.specs.declared.statement.ForHead.{ForHead}
-use Rattle.xmp_tree.specs.declared.statement.Simple.{Simple}
-use Rattle.xmp_tree.specs.declared.statement.Simple.TheVariants as simple
-use Rattle.xmp_walk.specs.declared.names.Environment.{Environment}
-use Rattle.xmp_walk.specs.declared.typed.Operand.{Operand}
-use Rattle.xmp_walk.specs.declared.world.World.{World}
+use Rattle.xmp_syntax.specs.declared.statement.ForHead.{ForHead}
+use Rattle.xmp_syntax.specs.declared.statement.Simple.{Simple}
+use Rattle.xmp_syntax.specs.declared.statement.Simple.TheVariants as simple
+use Rattle.xmp_names.specs.declared.names.Environment.{Environment}
+use Rattle.xmp_names.specs.declared.typed.Operand.{Operand}
+use Rattle.xmp_names.specs.declared.world.World.{World}
 use Rattle.xmp_walk.specs.Statements.{added_by, compound_of, is_bump, one, simple_of}
-use Rattle.xmp_walk.specs.Typing.{is_of}
-use Rattle.xmp_walk.specs.Walk.{if_there}
+use Rattle.xmp_names.specs.Typing.{is_of}
+use Rattle.xmp_names.specs.Walk.{if_there}
 use Rattle.xmp_fits.proofs.Endings.{ends_in}
 use Rattle.xmp_fits.proofs.ForsPass.{one_step}
-use Rattle.xmp_fits.proofs.KeptRuns.{Ends}
+use Rattle.xmp_fits.proofs.Respected.{Ends}
 use Rattle.xmp_fits.proofs.NamesFit.{Tells}
 use Rattle.xmp_fits.proofs.OperandsFit.{Fits}
 use Rattle.xmp_fits.proofs.TermsFit.{TermFits}
-use Rattle.xmp_elab.proofs.Unbroken.{right_true}
+use Rattle.xmp_parts.proofs.Unbroken.{right_true}
 
 pub record KnownOperand (p : ProgParts) (x : Operand) : Type 0 where
   pub index : (i : ℕ) (at : Place) → out-Expr x.made ≡ Expr-F.Scalar i at → is_of x.ty Int ≡ true → slice_get p.scalars i ≡ Some Int

@@ -9,12 +9,12 @@ use Rattle.xmp_prog.specs.declared.parts.ProgParts.{ProgParts}
 use Rattle.xmp_prog.specs.declared.statements.Stmt.{Stmt}
 use Rattle.xmp_prog.specs.Tests.{is_image}
 use Rattle.xmp_prog.specs.Fits.{has_coarrays}
-use Rattle.xmp_walk.specs.declared.names.Array.{Array}
-use Rattle.xmp_walk.specs.declared.mappings.Align.{Align}
-use Rattle.xmp_walk.specs.declared.world.World.{World}
-use Rattle.xmp_elab.specs.Parts.{IsArray, IsHome, IsAligned, Made, kind_of}
-use Rattle.xmp_walk.specs.MappingRules.{align_of}
-use Rattle.xmp_elab.proofs.MadeLists.{made_here}
+use Rattle.xmp_names.specs.declared.names.Array.{Array}
+use Rattle.xmp_names.specs.declared.mappings.Align.{Align}
+use Rattle.xmp_names.specs.declared.world.World.{World}
+use Rattle.xmp_parts.specs.Parts.{IsArray, IsHome, IsAligned, Made, kind_of}
+use Rattle.xmp_mapping_rules.specs.MappingRules.{align_of}
+use Rattle.xmp_parts.proofs.MadeLists.{made_here}
 use Rattle.xmp_fits.proofs.Laters.{Begins, begins_trans, Later}
 use Rattle.xmp_fits.proofs.GoodWorlds.{ArrayOf, Extends}
 use Rattle.xmp_fits.proofs.GoodSteps.{begins_get}

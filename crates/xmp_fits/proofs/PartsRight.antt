@@ -3,11 +3,11 @@ use Rattle.std.proofs.Common.{◌≡◌, ◌∙◌, ap, [], ℕ, true, Option, N
 use Rattle.xmp_prog.specs.declared.parts.ProgParts.{ProgParts}
 use Rattle.xmp_prog.specs.Fits.{FunctionsFit, PartsFit, ScalarsFit}
 use Rattle.xmp_prog.specs.Tests.{returns_last}
-use Rattle.xmp_tree.specs.declared.program.Tree.{Tree}
-use Rattle.xmp_elab.specs.Narrow.{is_count}
-use Rattle.xmp_elab.specs.Parts.{IsParts}
+use Rattle.xmp_syntax.specs.declared.program.Tree.{Tree}
+use Rattle.xmp_parts.specs.Narrow.{is_count}
+use Rattle.xmp_parts.specs.Parts.{IsParts}
 use Rattle.xmp_walk.specs.Program.{program_of}
-use Rattle.xmp_elab.specs.Verdict.{verdict}
+use Rattle.xmp_parts.specs.Verdict.{verdict}
 use Rattle.xmp_fits.proofs.Endings.{ends_at}
 use Rattle.xmp_fits.specs.NumbersLie.{tree_lies}
 use Rattle.xmp_fits.proofs.ProgramTerms.{TermsRight, terms_right}

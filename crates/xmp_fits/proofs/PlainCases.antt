@@ -10,31 +10,31 @@ use Rattle.xmp_prog.specs.declared.statements.Stmt.TheVariants as s
 use Rattle.xmp_prog.specs.declared.parts.ProgParts.{ProgParts}
 use Rattle.xmp_prog.specs.Statements.{slots_of_names}
 use Rattle.xmp_prog.specs.Fits.{has_coarrays}
-use Rattle.xmp_tree.specs.declared.parts.Name as named
-use Rattle.xmp_tree.specs.declared.parts.CommaList.{CommaList}
-use Rattle.xmp_tree.specs.declared.directive.DirectiveLine.{DirectiveLine}
-use Rattle.xmp_tree.specs.declared.directive.Sections.{Sections}
-use Rattle.xmp_tree.specs.declared.statement.Plain.{Plain}
-use Rattle.xmp_tree.specs.declared.statement.Plain.TheVariants as plain
-use Rattle.xmp_tree.specs.declared.expression.Expr.{Expr}
-use Rattle.xmp_walk.specs.declared.world.World.{World}
-use Rattle.xmp_walk.specs.Expressions.{is_function}
-use Rattle.xmp_walk.specs.Walk as walk
-use Rattle.xmp_walk.specs.Walk.{Step, Gave, Run, directive_at}
-use Rattle.xmp_walk.specs.Declarations.{listed}
+use Rattle.xmp_syntax.specs.declared.parts.Name as named
+use Rattle.xmp_syntax.specs.declared.parts.CommaList.{CommaList}
+use Rattle.xmp_syntax.specs.declared.directive.DirectiveLine.{DirectiveLine}
+use Rattle.xmp_syntax.specs.declared.directive.Sections.{Sections}
+use Rattle.xmp_syntax.specs.declared.statement.Plain.{Plain}
+use Rattle.xmp_syntax.specs.declared.statement.Plain.TheVariants as plain
+use Rattle.xmp_syntax.specs.declared.expression.Expr.{Expr}
+use Rattle.xmp_names.specs.declared.world.World.{World}
+use Rattle.xmp_names.specs.Expressions.{is_function}
+use Rattle.xmp_names.specs.Walk as walk
+use Rattle.xmp_names.specs.Walk.{Step, Gave, Run, directive_at}
+use Rattle.xmp_names.specs.Lists.{listed}
 use Rattle.xmp_walk.specs.Statements as statements
-use Rattle.xmp_walk.specs.Directives as directives
+use Rattle.xmp_directives.specs.Directives as directives
 use Rattle.xmp_walk.specs.Program.{plain_of}
 use Rattle.xmp_fits.proofs.GoodWorlds.{Own, Good}
 use Rattle.xmp_fits.proofs.GoodSteps.{onward_stays}
-use Rattle.xmp_fits.proofs.KeptRuns.{Ends, Goes, goes_refl, goes_trans, GoesOn, Kept, Going}
-use Rattle.xmp_fits.proofs.KeptRuns as kept_runs
-use Rattle.xmp_fits.proofs.KeptDirectives as kept
+use Rattle.xmp_fits.proofs.KeptRuns.{Goes, goes_trans, going}
+use Rattle.xmp_fits.proofs.Respected.{Ends}
+use Rattle.xmp_fits.proofs.RespectedDirectives as kept
+use Rattle.xmp_fits.proofs.Respected as kept_runs
 use Rattle.xmp_fits.proofs.Laters.{unbroken_before}
 use Rattle.xmp_fits.proofs.Endings.{opened, later_at, directed, goes_directed}
 use Rattle.xmp_fits.proofs.Holding.{Holds, each_holds}
-use Rattle.xmp_fits.specs.NumbersLie.{plain_lies}
-use Rattle.xmp_fits.specs.NumbersLie.{numbers_lie}
+use Rattle.xmp_fits.specs.NumbersLie.{plain_lies, numbers_lie}
 use Rattle.xmp_fits.proofs.RunsFit.{simple_fits, return_fits, print_fits, scan_fits, sync_fits}
 use Rattle.xmp_fits.proofs.TermsFit.{or_true}
 use Rattle.xmp_fits.proofs.TermTests.{is_slot, all_true}
@@ -94,7 +94,7 @@ module _ (own : Own) where
   reflect_holds line names = record {
     at = λ w g.
         opened (walk.each directives.array_name (listed names) (directed line.word w)) _ (λ x v. v.broken ≡ [] → StmtGood v x) (λ arrays v e. λ none.
-        let l = later_at (walk.each directives.array_name (listed names)) (directed line.word w) arrays v (kept_runs.each kept.array_name (listed names)).kept e in
+        let l = later_at (walk.each directives.array_name (listed names)) (directed line.word w) arrays v (kept_runs.each going (kept.array_name going) (listed names)).kept e in
         let n0 = unbroken_before (directed line.word w) v l.onward.later none in
         reflect_good v arrays line.word (none_stays (directed line.word w) v l ((directive_holds own line.word).at w g n0)));
   }
@@ -109,11 +109,11 @@ module _ (own : Own) where
         let g0 : Good own u = (goes_directed line.word w).good own g in
         opened (walk.each directives.scalar_name (listed names) u) _ (λ x v. v.broken ≡ [] → StmtGood v x) (λ variables v1 e1.
         opened (directives.set_of true line.word from v1) _ (λ x v. v.broken ≡ [] → StmtGood v x) (λ nodes v2 e2. λ none.
-        let l1 = later_at (walk.each directives.scalar_name (listed names)) u variables v1 (kept_runs.each kept.scalar_name (listed names)).kept e1 in
-        let l2 = later_at (directives.set_of true line.word from) v1 nodes v2 (kept.set_of true line.word from).kept e2 in
+        let l1 = later_at (walk.each directives.scalar_name (listed names)) u variables v1 (kept_runs.each going (kept.scalar_name going) (listed names)).kept e1 in
+        let l2 = later_at (directives.set_of true line.word from) v1 nodes v2 (kept.set_of going true line.word from).kept e2 in
         let n1 = unbroken_before v1 v2 l2.onward.later none in
         let n0 = unbroken_before u v1 l1.onward.later n1 in
-        let f = fact_at own (λ w v all. AllByRecursion (NameGood v) all) (walk.each directives.scalar_name (listed names)) u v1 variables (each_holds own NameGood name_stays kept.scalar_name (scalar_name_holds own) (listed names)) g0 e1 n1 in
+        let f = fact_at own (λ w v all. AllByRecursion (NameGood v) all) (walk.each directives.scalar_name (listed names)) u v1 variables (each_holds own NameGood name_stays (kept.scalar_name going) (scalar_name_holds own) (listed names)) g0 e1 n1 in
         cast_good v2 variables nodes line.word (none_stays u v2 (goes_trans l1 l2) ((directive_holds own line.word).at w g n0)) (later_names v1 v2 l2 variables f)));
   }
     where
@@ -122,16 +122,16 @@ module _ (own : Own) where
       later_names w v g (x ∷ xs) h = (name_stays w v x g h.0, later_names w v g xs h.1)
 
   pub return_good : (is_last : Bool) (at : Place) (x : Expr) → numbers_lie x ≡ true → Holds own (λ w v x. StmtGood v x) (statements.return_of is_last at x)
-  return_good is_last at x n = record { at = λ w g. made_good own w (statements.return_of is_last at x w) g ((kept.return_kept is_last at x).at w) (λ p t. return_fits p w t is_last at x n) }
+  return_good is_last at x n = record { at = λ w g. made_good own w (statements.return_of is_last at x w) g ((kept.return_kept going is_last at x).at w) (λ p t. return_fits p w t is_last at x n) }
 
   module _ (gmove_holds : (line : DirectiveLine) (target source : Sections) → plain_lies (plain.Gmove line target line.word source line.word) ≡ true → Holds own (λ w v x. StmtGood v x) (directives.gmove_of line target source)) where
     pub plain_good : (x : Plain) → plain_lies x ≡ true → Holds own (λ w v x. StmtGood v x) (plain_of x)
     plain_good (plain.Empty at) n = record { at = λ w g e p r. block_passes p true (is_function w.names.region) (length w.names.functions - 1) [] tt }
-    plain_good (plain.Simple x at) n = record { at = λ w g. made_good own w (statements.simple_of x w) g ((kept.simple_kept x).at w) (λ p t. simple_fits p w t x n) }
+    plain_good (plain.Simple x at) n = record { at = λ w g. made_good own w (statements.simple_of x w) g ((kept.simple_kept going x).at w) (λ p t. simple_fits p w t x n) }
     plain_good (plain.Return at x end) n = return_good false at x n
-    plain_good (plain.Print at x end) n = record { at = λ w g. made_good own w (statements.print_of at x.item.0 x.item.1 w) g ((kept.print_of at x.item.0 x.item.1).kept.at w) (λ p t. print_fits p w t at x.item.0 x.item.1 n) }
-    plain_good (plain.Scan at x end) n = record { at = λ w g. made_good own w (statements.scan_of at x.item.0 x.item.3 w) g ((kept.scan_of at x.item.0 x.item.3).kept.at w) (λ p t. scan_fits p w t at x.item.0 x.item.3 n) }
-    plain_good (plain.Sync at x end) n = record { at = λ w g. made_good own w (statements.sync_of at x.item.1 w) g ((kept.sync_of at x.item.1).kept.at w) (λ p t. sync_fits p w t at x.item.1 n) }
+    plain_good (plain.Print at x end) n = record { at = λ w g. made_good own w (statements.print_of at x.item.0 x.item.1 w) g ((kept.print_of going at x.item.0 x.item.1).kept.at w) (λ p t. print_fits p w t at x.item.0 x.item.1 n) }
+    plain_good (plain.Scan at x end) n = record { at = λ w g. made_good own w (statements.scan_of at x.item.0 x.item.3 w) g ((kept.scan_of going at x.item.0 x.item.3).kept.at w) (λ p t. scan_fits p w t at x.item.0 x.item.3 n) }
+    plain_good (plain.Sync at x end) n = record { at = λ w g. made_good own w (statements.sync_of at x.item.1 w) g ((kept.sync_of going at x.item.1).kept.at w) (λ p t. sync_fits p w t at x.item.1 n) }
     plain_good (plain.Reflect line names) n = reflect_holds line names.item
     plain_good (plain.Barrier line) n = barrier_holds line
     plain_good (plain.Bcast line names from_at set) n = bcast_holds line names.item set

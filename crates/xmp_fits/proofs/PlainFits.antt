@@ -26,12 +26,12 @@ use Rattle.xmp_prog.specs.Statements.{Statement, Walked, WalkedTask, walk_step, 
 use Rattle.xmp_prog.specs.Tests.{assignment_fits, compound_fits, is_no_sync, stands_in_function, is_shift}
 use Rattle.xmp_prog.specs.Fits.{has_coarrays, PrintFits}
 use Rattle.xmp_prog.proofs.Rolls as rolls
-use Rattle.xmp_walk.specs.declared.names.Environment.{Environment}
-use Rattle.xmp_walk.specs.declared.operators.Operator.{Operator}
-use Rattle.xmp_walk.specs.declared.operators.Operator.TheVariants.{Arithmetic, Compare, Shift, Both, Either}
-use Rattle.xmp_walk.specs.declared.typed.Operand.{Operand}
-use Rattle.xmp_walk.specs.Typing.{operand, joint, value_type}
-use Rattle.xmp_walk.specs.Expressions.{is_function}
+use Rattle.xmp_names.specs.declared.names.Environment.{Environment}
+use Rattle.xmp_names.specs.declared.operators.Operator.{Operator}
+use Rattle.xmp_names.specs.declared.operators.Operator.TheVariants.{Arithmetic, Compare, Shift, Both, Either}
+use Rattle.xmp_names.specs.declared.typed.Operand.{Operand}
+use Rattle.xmp_names.specs.Typing.{operand, joint, value_type}
+use Rattle.xmp_names.specs.Expressions.{is_function}
 use Rattle.xmp_walk.specs.Statements.{target_in, target_of, compound_of, set, one}
 use Rattle.xmp_fits.proofs.TermsFit.{Seen, TermFits, ExprFits, all_append, or_true}
 use Rattle.xmp_fits.proofs.TermForms.{accessed}

@@ -10,10 +10,10 @@ use Rattle.std.proofs.lemmas.Option.{same_Some, none-some}
 use Rattle.xmp_num.specs.declared.types.Ty.{Ty}
 use Rattle.xmp_num.specs.declared.types.Ty.TheVariants.{Int, Long}
 use Rattle.xmp_prog.specs.Formats.{Piece, Byte, Percent, Number, width_spelling, spelling, is_piece, type_asked, IsFormat}
-use Rattle.xmp_walk.specs.declared.formats.Mode.{Mode}
-use Rattle.xmp_walk.specs.declared.formats.Mode.TheVariants as m
-use Rattle.xmp_walk.specs.Formats.{is_digit, letter, wider, after_byte, ended, conversion, conversions, agrees, all_agree, fits_types, fits_format}
-use Rattle.xmp_elab.proofs.Unbroken.{left_true, right_true, both_true}
+use Rattle.xmp_names.specs.declared.formats.Mode.{Mode}
+use Rattle.xmp_names.specs.declared.formats.Mode.TheVariants as m
+use Rattle.xmp_names.specs.Formats.{is_digit, letter, wider, after_byte, ended, conversion, conversions, agrees, all_agree, fits_types, fits_format}
+use Rattle.xmp_parts.proofs.Unbroken.{left_true, right_true, both_true}
 
 -- ---- one byte
 

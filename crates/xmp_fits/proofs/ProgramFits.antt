@@ -9,32 +9,33 @@ use Rattle.xmp_prog.specs.declared.statements.Stmt as made
 use Rattle.xmp_prog.specs.declared.statements.Stmt.TheVariants as s
 use Rattle.xmp_prog.specs.declared.parts.Function as made_function
 use Rattle.xmp_prog.specs.declared.parts.Start.{Start}
-use Rattle.xmp_tree.specs.declared.parts.Name as named
-use Rattle.xmp_tree.specs.declared.parts.TypeWords.{TypeWords}
-use Rattle.xmp_tree.specs.declared.expression.Expr.{Expr}
-use Rattle.xmp_tree.specs.declared.program.Function.{Function}
-use Rattle.xmp_tree.specs.declared.program.TopItem.{TopItem}
-use Rattle.xmp_tree.specs.declared.program.TopItem.TheVariants as top
-use Rattle.xmp_tree.specs.declared.program.Tree.{Tree}
-use Rattle.xmp_walk.specs.declared.names.Region.TheVariants as region
-use Rattle.xmp_walk.specs.declared.names.Meaning.TheVariants as meaning
-use Rattle.xmp_walk.specs.declared.rules.Rule.TheVariants.{N7}
-use Rattle.xmp_walk.specs.declared.world.World.{World}
-use Rattle.xmp_walk.specs.Rules.{unless}
-use Rattle.xmp_walk.specs.Walk as walk
-use Rattle.xmp_walk.specs.Walk.{Step, Gave, Run, and_then, each}
-use Rattle.xmp_walk.specs.Declarations.{type_of, listed}
+use Rattle.xmp_syntax.specs.declared.parts.Name as named
+use Rattle.xmp_syntax.specs.declared.parts.TypeWords.{TypeWords}
+use Rattle.xmp_syntax.specs.declared.expression.Expr.{Expr}
+use Rattle.xmp_syntax.specs.declared.program.Function.{Function}
+use Rattle.xmp_syntax.specs.declared.program.TopItem.{TopItem}
+use Rattle.xmp_syntax.specs.declared.program.TopItem.TheVariants as top
+use Rattle.xmp_syntax.specs.declared.program.Tree.{Tree}
+use Rattle.xmp_names.specs.declared.names.Region.TheVariants as region
+use Rattle.xmp_names.specs.declared.names.Meaning.TheVariants as meaning
+use Rattle.xmp_names.specs.declared.rules.Rule.TheVariants.{N7}
+use Rattle.xmp_names.specs.declared.world.World.{World}
+use Rattle.xmp_names.specs.Rules.{unless}
+use Rattle.xmp_names.specs.Walk as walk
+use Rattle.xmp_names.specs.Walk.{Step, Gave, Run, and_then, each}
+use Rattle.xmp_walk.specs.Declarations.{type_of}
+use Rattle.xmp_names.specs.Lists.{listed}
 use Rattle.xmp_walk.specs.Program.{parameters_in, parameter_of, items_of, inside_item, main_items, function_of, is_main_head, main_of, top_of, last_top, tops_of, start_world, coarray_top, program_of, with_count}
-use Rattle.xmp_elab.proofs.Unbroken.{right_none, holds, right_true, left_true}
-use Rattle.xmp_fits.specs.NumbersLie.{numbers_lie}
-use Rattle.xmp_fits.specs.NumbersLie.{items_lie, top_lies, tree_lies}
+use Rattle.xmp_parts.proofs.Unbroken.{right_none, holds, right_true, left_true}
+use Rattle.xmp_fits.specs.NumbersLie.{numbers_lie, items_lie, top_lies, tree_lies}
 use Rattle.xmp_fits.proofs.Laters.{begins_refl, names_refl, mappings_refl, Later, later_refl, later_trans, unbroken_before, Scopes, Widened}
 use Rattle.xmp_fits.proofs.GoodWorlds.{Own, Good, being_read}
 use Rattle.xmp_fits.proofs.GoodSteps.{get_last}
-use Rattle.xmp_fits.proofs.KeptRuns.{Ends, ends_then, ends_map, ends_both, Goes, goes_trans, GoesOn, Kept, Going}
-use Rattle.xmp_fits.proofs.KeptRuns as kept_runs
-use Rattle.xmp_fits.proofs.KeptSteps.{widened_declared, declare_scalar, goes_noted}
-use Rattle.xmp_fits.proofs.KeptMappings.{mapping_kept}
+use Rattle.xmp_fits.proofs.KeptRuns.{Goes, goes_trans, GoesOn, widened_declared, goes_noted, going, going_scalars}
+use Rattle.xmp_fits.proofs.Respected.{Ends, ends_then, ends_map, ends_both}
+use Rattle.xmp_fits.proofs.RespectedMappings.{mapping_kept}
+use Rattle.xmp_fits.proofs.RespectedSteps.{declare_scalar}
+use Rattle.xmp_fits.proofs.Respected as kept_runs
 use Rattle.xmp_fits.proofs.KeptStatements.{body_kept, main_body_kept}
 use Rattle.xmp_walk.specs.Statements.{return_of}
 use Rattle.xmp_fits.proofs.Holding.{Unbroken}
@@ -59,7 +60,7 @@ parameters_go : (ps : List (TypeWords × named.Name)) (w : World) → GoesOn w (
 parameters_go ps w = kept_after [] ps w
   where
     kept_after : (done : List ℕ) (ps : List (TypeWords × named.Name)) (w : World) → GoesOn w (walk.each_after parameter_of done ps w)
-    kept_after done ps w = (kept_runs.each_after (λ x. declare_scalar x.1 (type_of x.0)) done ps).at w
+    kept_after done ps w = (kept_runs.each_after going (λ x. declare_scalar going going_scalars x.1 (type_of x.0)) done ps).at w
 
 module _ (f : Own → Facts) (forms : (own : Own) → Forms own (f own)) (W : Own → World → World → List made.Stmt → Type 0)
     (whole : (own : Own) (w v : World) (all : List made.Stmt) → (f own).Items w v all → W own w v all)
@@ -235,7 +236,7 @@ module _ (f : Own → Facts) (forms : (own : Own) → Forms own (f own)) (W : Ow
   -- ---- the whole of it
 
   pub top_reads : (x : TopItem) → top_lies x ≡ true → (w : World) → Read f P w → Reads f P w (top_of x w)
-  top_reads (top.Mapping x) n w r = reads_kept f forms P p (top_of (top.Mapping x)) (mapping_kept x) w r
+  top_reads (top.Mapping x) n w r = reads_kept f forms P p (top_of (top.Mapping x)) (mapping_kept going x) w r
   top_reads (top.Declaration d) n w r = declarators_read f forms P p (type_of d.ty) (listed d.items) n w r
   top_reads (top.Function x) n w r = function_reads x w r n
 

@@ -11,42 +11,42 @@ use Rattle.xmp_prog.specs.declared.parts.Function as made_function
 use Rattle.xmp_prog.specs.declared.parts.ProgParts.{ProgParts}
 use Rattle.xmp_prog.specs.declared.parts.Start.{Start}
 use Rattle.xmp_prog.specs.Numbers.{is_in}
-use Rattle.xmp_tree.specs.declared.parts.Name as named
-use Rattle.xmp_tree.specs.declared.parts.TypeWords.{TypeWords}
-use Rattle.xmp_tree.specs.declared.declaration.Declarator.{Declarator}
-use Rattle.xmp_tree.specs.declared.declaration.Declarator.TheVariants as declarator
-use Rattle.xmp_tree.specs.declared.expression.Expr.{Expr}
-use Rattle.xmp_tree.specs.declared.program.Function.{Function}
-use Rattle.xmp_tree.specs.declared.program.TopItem.{TopItem}
-use Rattle.xmp_tree.specs.declared.program.TopItem.TheVariants as top
-use Rattle.xmp_walk.specs.declared.names.Region.TheVariants as region
-use Rattle.xmp_walk.specs.declared.names.Region.{Region}
-use Rattle.xmp_walk.specs.declared.names.Meaning.{Meaning}
-use Rattle.xmp_walk.specs.declared.names.Meaning.TheVariants as meaning
-use Rattle.xmp_walk.specs.declared.typed.Operand.{Operand}
-use Rattle.xmp_walk.specs.declared.world.World.{World}
-use Rattle.xmp_walk.specs.Walk as walk
-use Rattle.xmp_walk.specs.Walk.{Step, Gave, Run, and_then, each}
-use Rattle.xmp_walk.specs.Declarations.{listed, inner, type_of, start_of, file_declarator}
+use Rattle.xmp_syntax.specs.declared.parts.Name as named
+use Rattle.xmp_syntax.specs.declared.parts.TypeWords.{TypeWords}
+use Rattle.xmp_syntax.specs.declared.declaration.Declarator.{Declarator}
+use Rattle.xmp_syntax.specs.declared.declaration.Declarator.TheVariants as declarator
+use Rattle.xmp_syntax.specs.declared.expression.Expr.{Expr}
+use Rattle.xmp_syntax.specs.declared.program.Function.{Function}
+use Rattle.xmp_syntax.specs.declared.program.TopItem.{TopItem}
+use Rattle.xmp_syntax.specs.declared.program.TopItem.TheVariants as top
+use Rattle.xmp_names.specs.declared.names.Region.TheVariants as region
+use Rattle.xmp_names.specs.declared.names.Region.{Region}
+use Rattle.xmp_names.specs.declared.names.Meaning.{Meaning}
+use Rattle.xmp_names.specs.declared.names.Meaning.TheVariants as meaning
+use Rattle.xmp_names.specs.declared.typed.Operand.{Operand}
+use Rattle.xmp_names.specs.declared.world.World.{World}
+use Rattle.xmp_names.specs.Walk as walk
+use Rattle.xmp_names.specs.Walk.{Step, Gave, Run, and_then, each}
+use Rattle.xmp_names.specs.Lists.{listed, inner}
+use Rattle.xmp_walk.specs.Declarations.{type_of, start_of, file_declarator}
 use Rattle.xmp_walk.specs.Program.{items_of, inside_item, parameters_in, parameter_of, function_of, top_of}
-use Rattle.xmp_elab.proofs.Unbroken.{left_none}
+use Rattle.xmp_parts.proofs.Unbroken.{left_none}
 use Rattle.xmp_fits.proofs.Laters.{Scopes, unbroken_before}
 use Rattle.xmp_fits.proofs.GoodWorlds.{Own, Good}
-use Rattle.xmp_fits.proofs.KeptRuns as kept_runs
-use Rattle.xmp_fits.proofs.KeptRuns.{Ends, ends_then, ends_map, ends_both, Goes, goes_trans, GoesOn}
-use Rattle.xmp_fits.proofs.KeptSteps.{declare_scalar, typed_constant}
-use Rattle.xmp_fits.proofs.KeptLines.{array_kept}
-use Rattle.xmp_fits.proofs.KeptMappings.{mapping_kept}
+use Rattle.xmp_fits.proofs.KeptRuns.{Goes, goes_trans, GoesOn, going, going_scalars, going_arrays}
+use Rattle.xmp_fits.proofs.Respected.{Ends, ends_then, ends_map, ends_both}
+use Rattle.xmp_fits.proofs.RespectedLines.{array_kept}
+use Rattle.xmp_fits.proofs.RespectedMappings.{mapping_kept}
+use Rattle.xmp_fits.proofs.RespectedSteps.{declare_scalar, typed_constant}
+use Rattle.xmp_fits.proofs.SameRuns.{may_see, seen_declared, Same, same, same_arrays}
+use Rattle.xmp_fits.proofs.RespectedSteps as same_steps
+use Rattle.xmp_fits.proofs.Respected as kept_runs
 use Rattle.xmp_fits.proofs.KeptStatements.{body_kept}
 use Rattle.xmp_fits.proofs.FitPrinciple.{Facts, body_holds}
 use Rattle.xmp_fits.proofs.FunctionSteps.{OneScope, FileGood, own_of, headed, later_headed, good_headed, kept_function}
 use Rattle.xmp_fits.specs.NumbersLie.{top_lies, items_lie}
 use Rattle.xmp_fits.proofs.ProgramWalk.{Starts, Read}
 use Rattle.xmp_fits.proofs.TermsFit.{Seen}
-use Rattle.xmp_fits.proofs.SameRuns.{may_see, seen_declared, Same}
-use Rattle.xmp_fits.proofs.SameSteps as same_steps
-use Rattle.xmp_fits.proofs.SameLines.{array_quiet}
-use Rattle.xmp_fits.proofs.SameMappings.{mapping_quiet}
 use Rattle.xmp_fits.proofs.ScopedFits.{longer, dropped, ItemsFit}
 use Rattle.xmp_fits.proofs.ScopedSteps.{facts, forms}
 use Rattle.xmp_fits.proofs.FileSites.{in_first, in_right, Parameters, parameters_end, hidden, means_before, seen_file, function_sited, Sited, sited_to, sited_slot, sited_more, FileSites, below_more, sites_same}
@@ -71,7 +71,7 @@ module _ (p : ProgParts) where
   -- ---- the parameters go on
 
   pub parameters_go : (ps : List (TypeWords × named.Name)) (w : World) → GoesOn w (each parameter_of ps w)
-  parameters_go ps w = (kept_runs.each_after (λ x. declare_scalar x.1 (type_of x.0)) [] ps).at w
+  parameters_go ps w = (kept_runs.each_after going (λ x. declare_scalar going going_scalars x.1 (type_of x.0)) [] ps).at w
 
   -- ---- a function
 
@@ -158,7 +158,7 @@ module _ (p : ProgParts) where
   start_sites slot None w h = λ e. (h e).0
   start_sites slot (Some x) w h =
       ends_then (λ (t : Operand) v. Goes w v × Same w v) (λ (a : ⊤) v. Sites v) (walk.typed_constant x.1 w) (λ t. λ v. Gave tt (with_start v (record { slot = slot; value = t.made })))
-      (ends_both (λ (t : Operand) v. Goes w v) (λ (t : Operand) v. Same w v) (walk.typed_constant x.1 w) ((typed_constant x.1).kept.at w) ((same_steps.typed_constant x.1).kept.at w))
+      (ends_both (λ (t : Operand) v. Goes w v) (λ (t : Operand) v. Same w v) (walk.typed_constant x.1 w) ((typed_constant going x.1).kept.at w) ((same_steps.typed_constant same x.1).kept.at w))
       (λ t v k e.
       let both = h (unbroken_before w v k.0.onward.later e) in
       let f : FileSites p v = sites_same p w v k.0 k.1 both.0 in record {
@@ -200,7 +200,7 @@ module _ (p : ProgParts) where
   declarator_sites ty (declarator.Scalar n value) w h =
       start_sites (length w.scalars) value _ (λ e. scalar_sites n ty w _ refl refl (length-append w.scalars (ty ∷ [])) refl refl (h (left_none w.broken _ e)))
   declarator_sites ty (declarator.Array n extents image) w h =
-      same_sites (file_declarator ty (declarator.Array n extents image)) w ((array_kept ty n (inner extents) (is_some image)).at w) ((array_quiet ty n (inner extents) (is_some image)).at w) h
+      same_sites (file_declarator ty (declarator.Array n extents image)) w ((array_kept going going_arrays ty n (inner extents) (is_some image)).at w) ((array_kept same same_arrays ty n (inner extents) (is_some image)).at w) h
 
   declarators_sites : (ty : Ty) (ds : List Declarator) (w : World) → Sites w → Ends (λ (a : ⊤) v. Sites v) (walk.all (file_declarator ty) ds w)
   declarators_sites ty [] w h = h
@@ -209,6 +209,6 @@ module _ (p : ProgParts) where
   -- ---- parts of the program but the last
 
   pub top_sites : (x : TopItem) → top_lies x ≡ true → (w : World) → FileGood w → Sites w → Ends (λ (a : ⊤) v. Sites v) (top_of x w)
-  top_sites (top.Mapping x) n w g h = same_sites (top_of (top.Mapping x)) w ((mapping_kept x).at w) ((mapping_quiet x).at w) h
+  top_sites (top.Mapping x) n w g h = same_sites (top_of (top.Mapping x)) w ((mapping_kept going x).at w) ((mapping_kept same x).at w) h
   top_sites (top.Declaration d) n w g h = declarators_sites (type_of d.ty) (listed d.items) w h
   top_sites (top.Function x) n w g h = function_ends x w g n h

@@ -13,25 +13,25 @@ use Rattle.xmp_prog.specs.Terms.{Term}
 use Rattle.xmp_prog.specs.Statements.{Statement, statements_of, terms_in, terms_of_stmt}
 use Rattle.xmp_prog.specs.Tests.{image_fits, is_no_element, asks_no_node, calls_below, is_constant, assignment_fits, is_no_sync, stands_in_function}
 use Rattle.xmp_prog.specs.Fits.{has_coarrays, PrintFits, statements_of_program, slots_of_function, slots_of_main, all_terms, all_statements, ExpressionsFit}
-use Rattle.xmp_tree.specs.declared.parts.Name as named
-use Rattle.xmp_tree.specs.declared.parts.TypeWords.{TypeWords}
-use Rattle.xmp_tree.specs.declared.expression.Expr.{Expr}
-use Rattle.xmp_tree.specs.declared.program.Tree.{Tree}
+use Rattle.xmp_syntax.specs.declared.parts.Name as named
+use Rattle.xmp_syntax.specs.declared.parts.TypeWords.{TypeWords}
+use Rattle.xmp_syntax.specs.declared.expression.Expr.{Expr}
+use Rattle.xmp_syntax.specs.declared.program.Tree.{Tree}
 use Rattle.xmp_base.specs.declared.place.Place.{Place}
-use Rattle.xmp_walk.specs.declared.world.World.{World}
-use Rattle.xmp_walk.specs.Expressions.{is_function}
-use Rattle.xmp_walk.specs.Walk as walk
-use Rattle.xmp_walk.specs.Walk.{Step, Gave, Run, typed_constant}
+use Rattle.xmp_names.specs.declared.world.World.{World}
+use Rattle.xmp_names.specs.Expressions.{is_function}
+use Rattle.xmp_names.specs.Walk as walk
+use Rattle.xmp_names.specs.Walk.{Step, Gave, Run, typed_constant}
 use Rattle.xmp_walk.specs.Declarations.{type_of}
 use Rattle.xmp_walk.specs.Statements.{return_of}
-use Rattle.xmp_elab.specs.Parts.{Made}
+use Rattle.xmp_parts.specs.Parts.{Made}
 use Rattle.xmp_walk.specs.Program.{parameter_of, program_of}
 use Rattle.xmp_fits.proofs.Laters.{Later, unbroken_before}
 use Rattle.xmp_fits.proofs.GoodWorlds.{Own, Good, being_read}
 use Rattle.xmp_fits.proofs.GoodSteps.{onward_stays, begins_length}
-use Rattle.xmp_fits.proofs.KeptRuns.{Goes, GoesOn}
-use Rattle.xmp_fits.proofs.KeptSteps as kept_steps
-use Rattle.xmp_fits.proofs.KeptDirectives as kept
+use Rattle.xmp_fits.proofs.KeptRuns.{Goes, GoesOn, going, going_scalars}
+use Rattle.xmp_fits.proofs.RespectedDirectives as kept
+use Rattle.xmp_fits.proofs.RespectedSteps as kept_steps
 use Rattle.xmp_fits.proofs.Holding.{Unbroken, Holds, each_holds}
 use Rattle.xmp_fits.proofs.Endings.{ends_at}
 use Rattle.xmp_fits.proofs.FitPrinciple.{Facts, Forms}
@@ -39,8 +39,7 @@ use Rattle.xmp_fits.proofs.OneWorld.{facts_of, forms_of}
 use Rattle.xmp_fits.proofs.PartsExtend.{extends_before, made_extends}
 use Rattle.xmp_fits.proofs.ProgramWalk.{FunctionOf, MainOf, Starts}
 use Rattle.xmp_fits.proofs.ProgramFits.{Ended, program_fits}
-use Rattle.xmp_fits.specs.NumbersLie.{numbers_lie}
-use Rattle.xmp_fits.specs.NumbersLie.{tree_lies}
+use Rattle.xmp_fits.specs.NumbersLie.{numbers_lie, tree_lies}
 use Rattle.xmp_fits.proofs.TermsFit.{all_append}
 use Rattle.xmp_fits.proofs.TellsTrue.{tells}
 use Rattle.xmp_fits.proofs.RunsFit.{constant_start}
@@ -93,7 +92,7 @@ reached_before p w v l r = record { extends = extends_before p w v l r.extends; 
 start_read : (own : Own) (slot : ℕ) (x : Expr) → numbers_lie x ≡ true → (w : World) → Good own w → slot < length w.scalars → Unbroken (λ v t. StartGood v (record { slot = slot; value = t.made })) (typed_constant x w)
 unfolding StartGood
 start_read own slot x n w g h = λ none p r.
-    let l = (kept_steps.typed_constant x).kept.at w in
+    let l = (kept_steps.typed_constant going x).kept.at w in
     let y = tells own w p g (reached_before p w _ l.onward.later r).extends in
     let f = constant_start p w y x n none in record {
       slot = lt-ltb slot (length p.scalars) (begins_length w.scalars p.scalars slot (reached_before p w _ l.onward.later r).extends.scalars h);
@@ -120,7 +119,7 @@ one_more : (v : World) (done : List made.Stmt) (t : Step made.Stmt) → GoesOn v
 one_more v done (Gave x u) g h all = λ e. all_append (StmtGood u) done (x ∷ []) (all_map (StmtGood v) (StmtGood u) (λ y. stmt_stays v u y (onward_stays g.onward)) done all) (h e, tt)
 
 last_one : (own : Own) (at : Place) (x : Expr) → numbers_lie x ≡ true → (w v : World) (done : List made.Stmt) → Goes w v → Good own v → AllByRecursion (StmtGood v) done → Unbroken (λ u one. AllByRecursion (StmtGood u) (done ++ one ∷ [])) (return_of true at x v)
-last_one own at x n w v done o g all = one_more v done (return_of true at x v) ((kept.return_kept true at x).at v) ((return_good own true at x n).at v g) all
+last_one own at x n w v done o g all = one_more v done (return_of true at x v) ((kept.return_kept going true at x).at v) ((return_good own true at x n).at v g) all
 
 -- A body at its end, seen from the end of the program.
 body_passes : (p : ProgParts) (v : World) (all : List made.Stmt) → Reached p v → AllByRecursion (StmtGood v) all → StmtPasses p true (is_function v.names.region) (length v.names.functions - 1) (s.Block all)
@@ -129,7 +128,7 @@ body_passes p v all r h =
 
 -- the slots of parameters
 parameters_good : (own : Own) (ps : List (TypeWords × named.Name)) → Holds own (λ w v all. AllByRecursion (λ n. SlotsGood v (n ∷ [])) all) (walk.each parameter_of ps)
-parameters_good own ps = each_holds own (λ v n. SlotsGood v (n ∷ [])) (λ w v n g h. slots_stay w v (n ∷ []) (onward_stays g.onward) h) (λ x. kept_steps.declare_scalar x.1 (type_of x.0))
+parameters_good own ps = each_holds own (λ v n. SlotsGood v (n ∷ [])) (λ w v n g h. slots_stay w v (n ∷ []) (onward_stays g.onward) h) (λ x. kept_steps.declare_scalar going going_scalars x.1 (type_of x.0))
     (λ x. record { at = λ w g e. slot_good _ (length w.scalars) (type_of x.0) (declared_slot x.1 (type_of x.0) w) }) ps
 
 slots_pass : (p : ProgParts) (v : World) (ns : List ℕ) → Reached p v → AllByRecursion (λ n. SlotsGood v (n ∷ [])) ns → list_all (is_slot p) ns ≡ true

@@ -10,28 +10,29 @@ use Rattle.xmp_prog.specs.declared.statements.Stmt as made
 use Rattle.xmp_prog.specs.declared.statements.Stmt.TheVariants as s
 use Rattle.xmp_prog.specs.declared.parts.Function as made_function
 use Rattle.xmp_prog.specs.declared.parts.Start.{Start}
-use Rattle.xmp_tree.specs.declared.parts.Name as named
-use Rattle.xmp_tree.specs.declared.parts.TypeWords.{TypeWords}
-use Rattle.xmp_tree.specs.declared.expression.Expr.{Expr}
-use Rattle.xmp_tree.specs.declared.declaration.Declarator.{Declarator}
-use Rattle.xmp_tree.specs.declared.declaration.Declarator.TheVariants as declarator
-use Rattle.xmp_walk.specs.declared.names.Region.{Region}
-use Rattle.xmp_walk.specs.declared.names.Region.TheVariants as region
-use Rattle.xmp_walk.specs.declared.typed.Operand.{Operand}
-use Rattle.xmp_walk.specs.declared.world.World.{World}
-use Rattle.xmp_walk.specs.Walk as walk
-use Rattle.xmp_walk.specs.Walk.{Step, Gave, Run, and_then, each}
-use Rattle.xmp_walk.specs.Declarations.{inner, start_of, file_declarator}
+use Rattle.xmp_syntax.specs.declared.parts.Name as named
+use Rattle.xmp_syntax.specs.declared.parts.TypeWords.{TypeWords}
+use Rattle.xmp_syntax.specs.declared.expression.Expr.{Expr}
+use Rattle.xmp_syntax.specs.declared.declaration.Declarator.{Declarator}
+use Rattle.xmp_syntax.specs.declared.declaration.Declarator.TheVariants as declarator
+use Rattle.xmp_names.specs.declared.names.Region.{Region}
+use Rattle.xmp_names.specs.declared.names.Region.TheVariants as region
+use Rattle.xmp_names.specs.declared.typed.Operand.{Operand}
+use Rattle.xmp_names.specs.declared.world.World.{World}
+use Rattle.xmp_names.specs.Walk as walk
+use Rattle.xmp_names.specs.Walk.{Step, Gave, Run, and_then, each}
+use Rattle.xmp_names.specs.Lists.{inner}
+use Rattle.xmp_walk.specs.Declarations.{start_of, file_declarator}
 use Rattle.xmp_walk.specs.Program.{parameter_of}
-use Rattle.xmp_elab.proofs.Unbroken.{right_true, left_true}
-use Rattle.xmp_fits.specs.NumbersLie.{numbers_lie}
-use Rattle.xmp_fits.specs.NumbersLie.{there_lies, second_lies, declarator_lies}
+use Rattle.xmp_parts.proofs.Unbroken.{right_true, left_true}
+use Rattle.xmp_fits.specs.NumbersLie.{numbers_lie, there_lies, second_lies, declarator_lies}
 use Rattle.xmp_fits.proofs.Laters.{begins_refl, begins_with, names_refl, mappings_refl, Later, later_refl, later_trans, unbroken_before}
 use Rattle.xmp_fits.proofs.GoodWorlds.{Own, Good}
 use Rattle.xmp_fits.proofs.GoodSteps.{good_same}
-use Rattle.xmp_fits.proofs.KeptRuns.{Ends, ends_then, ends_map, ends_both, Goes, GoesOn, Kept}
-use Rattle.xmp_fits.proofs.KeptSteps.{typed_constant, declare_scalar}
-use Rattle.xmp_fits.proofs.KeptLines.{array_kept}
+use Rattle.xmp_fits.proofs.KeptRuns.{Goes, GoesOn, Kept, going, going_scalars, going_arrays}
+use Rattle.xmp_fits.proofs.Respected.{Ends, ends_then, ends_map, ends_both}
+use Rattle.xmp_fits.proofs.RespectedLines.{array_kept}
+use Rattle.xmp_fits.proofs.RespectedSteps.{typed_constant, declare_scalar}
 use Rattle.xmp_fits.proofs.Holding.{Unbroken}
 use Rattle.xmp_fits.proofs.FitPrinciple.{Facts, Forms}
 use Rattle.xmp_fits.proofs.FunctionSteps.{FileGood, one_widened}
@@ -179,7 +180,7 @@ module _ (f : Own → Facts) (forms : (own : Own) → Forms own (f own)) (P : Wo
   start_reads slot (Some x) n w h r =
       ends_then (λ (t : Operand) v. Goes w v × (v.broken ≡ [] → P v (record { slot = slot; value = t.made }))) (λ (a : ⊤) v. Later w v × Read f P v) (walk.typed_constant x.1 w)
       (λ t. λ v. Gave tt (started v (record { slot = slot; value = t.made })))
-      (ends_both (λ (t : Operand) v. Goes w v) (λ (t : Operand) v. v.broken ≡ [] → P v (record { slot = slot; value = t.made })) (walk.typed_constant x.1 w) ((typed_constant x.1).kept.at w)
+      (ends_both (λ (t : Operand) v. Goes w v) (λ (t : Operand) v. v.broken ≡ [] → P v (record { slot = slot; value = t.made })) (walk.typed_constant x.1 w) ((typed_constant going x.1).kept.at w)
       (p.typed (nobody) slot x.1 n w (r.good.good nobody) h))
       (λ t v g. (later_trans g.0.onward.later (later_started v _), read_started v (record { slot = slot; value = t.made }) g.1 (read_goes w v g.0 r)))
     where
@@ -188,7 +189,7 @@ module _ (f : Own → Facts) (forms : (own : Own) → Forms own (f own)) (P : Wo
 
   declarator_reads : (ty : Ty) (d : Declarator) → declarator_lies d ≡ true → (w : World) → Read f P w → Reads f P w (file_declarator ty d w)
   declarator_reads ty (declarator.Scalar n value) l w r =
-      let g : GoesOn w (walk.declare_scalar n ty w) = (declare_scalar n ty).kept.at w in
+      let g : GoesOn w (walk.declare_scalar n ty w) = (declare_scalar going going_scalars n ty).kept.at w in
       let m : length (w.scalars ++ ty ∷ []) ≡ length w.scalars + 1 = length-append w.scalars (ty ∷ []) in
       ends_map (λ (a : ⊤) v. Later (scalar_after n ty w) v × Read f P v) (λ (a : ⊤) v. Later w v × Read f P v) (start_of (length w.scalars) value (scalar_after n ty w))
       (start_reads (length w.scalars) value l (scalar_after n ty w) (omega (arith, m)) (read_goes w (scalar_after n ty w) g r)) (λ a v h. (later_trans g.onward.later h.0, h.1))
@@ -198,7 +199,7 @@ module _ (f : Own → Facts) (forms : (own : Own) → Forms own (f own)) (P : Wo
 
       scalar_after : named.Name → Ty → World → World
       scalar_after n ty w = after (walk.declare_scalar n ty w)
-  declarator_reads ty (declarator.Array n extents image) l w r = reads_kept (file_declarator ty (declarator.Array n extents image)) (array_kept ty n (inner extents) (is_some image)) w r
+  declarator_reads ty (declarator.Array n extents image) l w r = reads_kept (file_declarator ty (declarator.Array n extents image)) (array_kept going going_arrays ty n (inner extents) (is_some image)) w r
 
   pub declarators_read : (ty : Ty) (ds : List Declarator) → list_all declarator_lies ds ≡ true → (w : World) → Read f P w → Reads f P w (walk.all (file_declarator ty) ds w)
   declarators_read ty [] n w r = (later_refl w, r)

@@ -1,12 +1,9 @@
--- Runs of the walk that declare no array; and how such runs are put together.
-use Rattle.std.proofs.Common.{◌≡◌, ◌∙◌, refl, ◌++◌, ◌∷◌, [], List, Option, Some, None}
-use Rattle.std.specs.Prelude.{⊤}
-use Rattle.xmp_walk.specs.declared.world.World.{World}
-use Rattle.xmp_walk.specs.Walk as walk
-use Rattle.xmp_walk.specs.Walk.{Step, Gave, Run, and_then}
-use Rattle.xmp_fits.proofs.KeptRuns.{Ends, ends_then, ends_map}
-
--- ---- runs that leave the arrays
+-- Runs of the walk that declare no array: the single steps leave the arrays, and whether the program has coarrays.
+use Rattle.std.proofs.Common.{◌≡◌, ◌∙◌, refl}
+use Rattle.xmp_names.specs.declared.world.World.{World}
+use Rattle.xmp_names.specs.Walk.{Run}
+use Rattle.xmp_fits.proofs.Respected as respected
+use Rattle.xmp_fits.proofs.Respected.{Keeps, Respected, OfScalars}
 
 pub record Goes (w v : World) : Type 0 where
   pub arrays : v.names.arrays ≡ w.names.arrays
@@ -15,53 +12,23 @@ pub record Goes (w v : World) : Type 0 where
 pub goes_refl : (w : World) → Goes w w
 goes_refl w = record { arrays = refl; coarray = refl }
 
-pub goes_trans : {a b c : World} → Goes a b → Goes b c → Goes a c
+goes_trans : {a b c : World} → Goes a b → Goes b c → Goes a c
 goes_trans h k = record { arrays = k.arrays ∙ h.arrays; coarray = k.coarray ∙ h.coarray }
 
-abbrev pub GoesOn : {A : Type 0} → World → Step A → Type 0
-GoesOn w s = Ends (λ a v. Goes w v) s
+abbrev pub Kept : {A : Type 0} → Run A → Type 0
+Kept run = Keeps Goes run
 
-pub record Kept {A : Type 0} (run : Run A) : Type 0 where
-  pub at : (w : World) → GoesOn w (run w)
-
-pub goes_then : {A B : Type 0} (w : World) (s : Step A) (f : A → Run B) → GoesOn w s → ((a : A) → Kept (f a)) → GoesOn w (and_then s f)
-goes_then {A} {B} w s f h k =
-    ends_then (λ (a : A) v. Goes w v) (λ (b : B) v. Goes w v) s f h (λ a v g.
-    ends_map (λ (b : B) u. Goes v u) (λ (b : B) u. Goes w u) (f a v) ((k a).at v) (λ b u e. goes_trans g e))
-
--- ---- a run with the fact that it goes on
-
-pub record Going (A : Type 0) : Type 0 where
-  pub run : Run A
-  pub kept : Kept run
-
-infixl 10 ◌>>=◌
-abbrev pub ◌>>=◌ : {A B : Type 0} → Going A → (A → Going B) → Going B
-p >>= f = record {
-  run = walk.◌>>=◌ p.run (λ a. (f a).run);
-  kept = record { at = λ w. goes_then w (p.run w) (λ a. (f a).run) (p.kept.at w) (λ a. (f a).kept) };
+pub quiet : Respected Goes
+quiet = record {
+  same = goes_refl;
+  then = goes_trans;
+  mapped = λ w m d bs hm hb. record { arrays = refl; coarray = refl };
+  nodes = λ at n sizes. record { at = λ w. record { arrays = refl; coarray = refl } };
+  template = λ at n sizes. record { at = λ w. record { arrays = refl; coarray = refl } };
 }
 
-abbrev pub pure : {A : Type 0} → A → Going A
-pure a = record { run = walk.pure a; kept = record { at = goes_refl } }
+pub quiet_scalars : OfScalars Goes
+quiet_scalars n ty = record { at = λ w. record { arrays = refl; coarray = refl } }
 
-pub each_after : {A B : Type 0} (f : A → Going B) (done : List B) (xs : List A) → Kept (walk.each_after (λ x. (f x).run) done xs)
-each_after f done [] = record { at = goes_refl }
-each_after f done (x ∷ xs) = record { at = λ w. goes_then w ((f x).run w) (λ y. walk.each_after (λ x. (f x).run) (done ++ y ∷ []) xs) ((f x).kept.at w) (λ y. each_after f (done ++ y ∷ []) xs) }
-
-abbrev pub each : {A B : Type 0} → (A → Going B) → List A → Going (List B)
-each f xs = record { run = walk.each (λ x. (f x).run) xs; kept = each_after f [] xs }
-
-pub all_kept : {A : Type 0} (f : A → Going ⊤) (xs : List A) → Kept (walk.all (λ x. (f x).run) xs)
-all_kept f [] = record { at = goes_refl }
-all_kept f (x ∷ xs) = record { at = λ w. goes_then w ((f x).run w) (λ _. walk.all (λ x. (f x).run) xs) ((f x).kept.at w) (λ _. all_kept f xs) }
-
-abbrev pub all : {A : Type 0} → (A → Going ⊤) → List A → Going ⊤
-all f xs = record { run = walk.all (λ x. (f x).run) xs; kept = all_kept f xs }
-
-pub there_kept : {A B : Type 0} (f : A → Going B) (o : Option A) → Kept (walk.if_there (λ x. (f x).run) o)
-there_kept f None = record { at = goes_refl }
-there_kept f (Some x) = record { at = λ w. goes_then w ((f x).run w) (λ y. walk.pure (Some y)) ((f x).kept.at w) (λ y. record { at = goes_refl }) }
-
-abbrev pub if_there : {A B : Type 0} → (A → Going B) → Option A → Going (Option B)
-if_there f o = record { run = walk.if_there (λ x. (f x).run) o; kept = there_kept f o }
+abbrev pub Going : Type 0 → Type 0
+Going A = respected.Going quiet A

@@ -20,43 +20,44 @@ use Rattle.xmp_prog.specs.declared.statements.Task.{Task}
 use Rattle.xmp_prog.specs.Statements.{Statement, Walked, WalkedTask, statements_of, walk_step, walk_task, walked}
 use Rattle.xmp_prog.specs.Tests.{is_return, returns_in, returns_of, last_returns, returns_last}
 use Rattle.xmp_prog.proofs.Rolls.{at_block, at_plain}
-use Rattle.xmp_tree.specs.declared.expression.Expr.{Expr}
-use Rattle.xmp_tree.specs.declared.declaration.Declarator.{Declarator}
-use Rattle.xmp_tree.specs.declared.declaration.Declarator.TheVariants as declarator
-use Rattle.xmp_tree.specs.declared.directive.LoopLine.{LoopLine}
-use Rattle.xmp_tree.specs.declared.statement.ForFirst.{ForFirst}
-use Rattle.xmp_tree.specs.declared.statement.ForFirst.TheVariants as for_first
-use Rattle.xmp_tree.specs.declared.statement.Plain.{Plain}
-use Rattle.xmp_tree.specs.declared.statement.Plain.TheVariants as plain
-use Rattle.xmp_tree.specs.declared.statement.Simple.{Simple}
-use Rattle.xmp_tree.specs.declared.statement.Simple.TheVariants as simple
-use Rattle.xmp_walk.specs.declared.names.Region.{Region}
-use Rattle.xmp_walk.specs.declared.names.Region.TheVariants as region
+use Rattle.xmp_syntax.specs.declared.expression.Expr.{Expr}
+use Rattle.xmp_syntax.specs.declared.declaration.Declarator.{Declarator}
+use Rattle.xmp_syntax.specs.declared.declaration.Declarator.TheVariants as declarator
+use Rattle.xmp_syntax.specs.declared.directive.LoopLine.{LoopLine}
+use Rattle.xmp_syntax.specs.declared.statement.ForFirst.{ForFirst}
+use Rattle.xmp_syntax.specs.declared.statement.ForFirst.TheVariants as for_first
+use Rattle.xmp_syntax.specs.declared.statement.Plain.{Plain}
+use Rattle.xmp_syntax.specs.declared.statement.Plain.TheVariants as plain
+use Rattle.xmp_syntax.specs.declared.statement.Simple.{Simple}
+use Rattle.xmp_syntax.specs.declared.statement.Simple.TheVariants as simple
+use Rattle.xmp_names.specs.declared.names.Region.{Region}
+use Rattle.xmp_names.specs.declared.names.Region.TheVariants as region
 use Rattle.xmp_walk.specs.declared.loops.First.{First}
-use Rattle.xmp_walk.specs.declared.loop_lines.LoopParts.{LoopParts}
-use Rattle.xmp_walk.specs.declared.operators.Operator.{Operator}
-use Rattle.xmp_walk.specs.declared.operators.Operator.TheVariants.{Arithmetic, Compare, Shift, Both, Either}
-use Rattle.xmp_walk.specs.declared.rules.Rule.TheVariants.{N3, N4, N7}
-use Rattle.xmp_walk.specs.declared.typed.Operand.{Operand}
-use Rattle.xmp_walk.specs.declared.world.World.{World}
-use Rattle.xmp_walk.specs.Rules.{unless}
-use Rattle.xmp_walk.specs.Expressions.{expr_of}
-use Rattle.xmp_walk.specs.Walk as walk
-use Rattle.xmp_walk.specs.Walk.{Step, Gave, Run, and_then, is_main, is_known, first_place}
-use Rattle.xmp_walk.specs.Declarations.{local_declarator, declare_array, listed, inner}
+use Rattle.xmp_directives.specs.declared.loop_lines.LoopParts.{LoopParts}
+use Rattle.xmp_names.specs.declared.operators.Operator.{Operator}
+use Rattle.xmp_names.specs.declared.operators.Operator.TheVariants.{Arithmetic, Compare, Shift, Both, Either}
+use Rattle.xmp_names.specs.declared.rules.Rule.TheVariants.{N3, N4, N7}
+use Rattle.xmp_names.specs.declared.typed.Operand.{Operand}
+use Rattle.xmp_names.specs.declared.world.World.{World}
+use Rattle.xmp_names.specs.Rules.{unless}
+use Rattle.xmp_names.specs.Expressions.{expr_of}
+use Rattle.xmp_names.specs.Walk as walk
+use Rattle.xmp_names.specs.Walk.{Step, Gave, Run, and_then, is_main, is_known, first_place}
+use Rattle.xmp_walk.specs.Declarations.{local_declarator, declare_array}
+use Rattle.xmp_names.specs.Lists.{listed, inner}
 use Rattle.xmp_walk.specs.Statements.{simple_of, first_of, set, compound_of, call_in, return_of}
-use Rattle.xmp_walk.specs.Directives.{judged_loop, nest_of, task_line, loop_line, made_task, array_name, scalar_name, set_of, side_of, sections_match}
+use Rattle.xmp_directives.specs.Directives.{judged_loop, nest_of, task_line, loop_line, made_task, array_name, scalar_name, set_of, side_of, sections_match}
 use Rattle.xmp_prog.specs.Directives.{sections_in}
 use Rattle.xmp_walk.specs.Program.{plain_of, program_of}
-use Rattle.xmp_tree.specs.declared.program.Tree.{Tree}
-use Rattle.xmp_elab.proofs.Unbroken.{left_none, right_none, holds}
-use Rattle.xmp_fits.specs.NumbersLie.{numbers_lie}
-use Rattle.xmp_fits.specs.NumbersLie.{tree_lies}
-use Rattle.xmp_fits.proofs.Nests.{out_block}
+use Rattle.xmp_syntax.specs.declared.program.Tree.{Tree}
+use Rattle.xmp_parts.proofs.Unbroken.{left_none, right_none, holds}
+use Rattle.xmp_fits.specs.NumbersLie.{numbers_lie, tree_lies}
+use Rattle.xmp_directives.proofs.Nests.{out_block}
 use Rattle.xmp_fits.proofs.NestsPass.{nest_passes}
 use Rattle.xmp_fits.proofs.AllInside.{AllIn, AllInTask, each_stmt, in_plain, in_block, in_if, in_while, in_counted, in_loop, in_task, in_tasks}
 use Rattle.xmp_fits.proofs.GoodWorlds.{Own, Good}
-use Rattle.xmp_fits.proofs.KeptRuns.{Ends, ends_map, Goes}
+use Rattle.xmp_fits.proofs.KeptRuns.{Goes}
+use Rattle.xmp_fits.proofs.Respected.{Ends, ends_map}
 use Rattle.xmp_fits.proofs.Holding.{Unbroken, Holds}
 use Rattle.xmp_fits.proofs.FitPrinciple.{Forms}
 use Rattle.xmp_fits.proofs.ProgramWalk.{MainOf, Starts}
@@ -113,7 +114,7 @@ no_main region.Main h k = cc h
 return_quiet : (own : Own) (at : Place) (x : Expr) → Holds own (λ w v m. is_main v.names.region ≡ true → Quiet m) (return_of false at x)
 return_quiet own at x = record {
   at = λ w g b m.
-      let tests : (w.broken ++ unless (not (is_main w.names.region) || false) N7 at) ++ (expr_of w.names x).notes.broken ≡ [] = left_none _ (unless (not (is_main w.names.region) || is_known (expr_of w.names x).value) N4 (first_place x)) b in
+      let tests : (w.broken ++ unless (not (is_main w.names.region) || false) N7 at) ++ (expr_of w.names x).notes.broken ≡ [] = left_none _ (unless (not (is_main w.names.region) || is_known (expr_of w.names x).operand.value) N4 (first_place x)) b in
       absurd (no_main w.names.region (holds (not (is_main w.names.region) || false) N7 at (right_none w.broken _ (left_none _ (expr_of w.names x).notes.broken tests))) m);
 }
 

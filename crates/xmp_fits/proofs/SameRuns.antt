@@ -1,20 +1,33 @@
--- Runs of the walk after which the names mean the same scalars as before; and how such runs are put together.
-use Rattle.std.proofs.Common.{◌≡◌, ◌∙◌, sym, ap, subst, ◌⊎◌, inl, inr, ◌++◌, ◌∷◌, [], ℕ, Bool, true, false, List, Option, Some, None, length}
-use Rattle.std.specs.Prelude.{⊤, not, ◌||◌, is_some, if◌then◌else◌}
+-- Runs of the walk after which the names mean the same scalars as before: the single steps do but the declaration of a scalar.
+use Rattle.std.proofs.Common.{◌≡◌, refl, ◌∙◌, map, sym, ap, subst, ◌⊎◌, inl, inr, ◌++◌, ◌∷◌, [], ℕ, Bool, true, false, List, Option, Some, None, length}
+use Rattle.std.specs.List.{list_all}
+use Rattle.std.specs.Prelude.{⊤, ℤ, ◌&&◌, nat_le, not, ◌||◌, is_some, if◌then◌else◌}
 use Rattle.std.specs.Option.{option_or}
 use Rattle.std.proofs.lemmas.Option.{same_Some, none-some}
+use Rattle.xmp_base.specs.declared.place.Place.{Place}
 use Rattle.xmp_num.specs.declared.types.Ty.{Ty}
+use Rattle.xmp_syntax.specs.declared.parts.Name as named
 use Rattle.xmp_scopes.specs.Names as scope
-use Rattle.xmp_walk.specs.declared.names.Region.{Region}
-use Rattle.xmp_walk.specs.declared.names.Meaning.{Meaning}
-use Rattle.xmp_walk.specs.declared.names.Meaning.TheVariants.{Scalar}
-use Rattle.xmp_walk.specs.declared.names.Environment.{Environment}
-use Rattle.xmp_walk.specs.declared.world.World.{World}
-use Rattle.xmp_walk.specs.Expressions.{is_function, is_first}
-use Rattle.xmp_walk.specs.Walk as walk
-use Rattle.xmp_walk.specs.Walk.{Step, Gave, Run, and_then}
+use Rattle.xmp_names.specs.declared.names.Region.{Region}
+use Rattle.xmp_names.specs.declared.names.Meaning.{Meaning}
+use Rattle.xmp_names.specs.declared.names.Meaning.TheVariants.{Scalar, Array, Nodes, Template}
+use Rattle.xmp_names.specs.declared.names.Environment.{Environment}
+use Rattle.xmp_names.specs.declared.names.Array as array
+use Rattle.xmp_names.specs.declared.mappings.Mappings.{Mappings}
+use Rattle.xmp_names.specs.declared.rules.Rule.TheVariants.{N2, N8}
+use Rattle.xmp_names.specs.declared.rules.Broken.{Broken}
+use Rattle.xmp_names.specs.declared.world.World.{World}
+use Rattle.xmp_names.specs.Rules.{unless}
+use Rattle.xmp_walk.specs.Declarations as declarations
+use Rattle.xmp_walk.specs.Declarations.{extent_of, extent_right}
+use Rattle.xmp_directives.specs.MappingLines as lines
+use Rattle.xmp_names.specs.Expressions.{is_function, is_first}
+use Rattle.xmp_names.specs.Walk as walk
+use Rattle.xmp_names.specs.Walk.{is_reserved}
 use Rattle.xmp_fits.proofs.Laters.{Scopes}
-use Rattle.xmp_fits.proofs.KeptRuns.{Ends, ends_then, ends_map}
+use Rattle.xmp_fits.proofs.Respected.{Keeps, Respected, Going, grown, ◌>>=◌}
+use Rattle.xmp_fits.proofs.RespectedSteps.{judge, stands_outermost, not_in_function}
+use Rattle.xmp_fits.proofs.RespectedLines.{OfArrays}
 use Rattle.xmp_fits.proofs.TermsFit.{Seen}
 
 -- ---- which scalars are seen
@@ -75,50 +88,45 @@ IsNoScalar _ = ⊤
 pub no_scalar : (x : Meaning) (slot : ℕ) (ty : Ty) → IsNoScalar x → x ≡ Scalar slot ty → ⊥
 no_scalar x slot ty h e = subst IsNoScalar e h
 
-abbrev pub StaysSame : {A : Type 0} → World → Step A → Type 0
-StaysSame w s = Ends (λ a v. Same w v) s
+-- One more declaration, of no scalar.
+same_declared : (w : World) (n : scope.Name) (x : Meaning) (xs : List array.Array) (ts : List Ty) (m : Mappings) (d : ℕ) (bs : List Broken) → IsNoScalar x →
+    Same w (grown w (scope.declare n x w.names.scopes) xs ts m d bs)
+same_declared w n x xs ts m d bs none = record { seen = λ slot s. by slot (seen_declared w.names (grown w (scope.declare n x w.names.scopes) xs ts m d bs).names n x slot refl refl s) }
+  where
+    by : (slot : ℕ) → ((ty : Ty) × (x ≡ Scalar slot ty)) ⊎ Seen w.names slot → Seen w.names slot
+    by slot (inl h) = absurd (no_scalar x slot h.0 none h.1)
+    by slot (inr h) = h
 
-pub record Quiet {A : Type 0} (run : Run A) : Type 0 where
-  pub at : (w : World) → StaysSame w (run w)
-
-pub same_then : {A B : Type 0} (w : World) (s : Step A) (f : A → Run B) → StaysSame w s → ((a : A) → Quiet (f a)) → StaysSame w (and_then s f)
-same_then {A} {B} w s f h k =
-    ends_then (λ (a : A) v. Same w v) (λ (b : B) v. Same w v) s f h (λ a v g.
-    ends_map (λ (b : B) u. Same v u) (λ (b : B) u. Same w u) (f a v) ((k a).at v) (λ b u e. same_trans g e))
-
--- ---- a run with the fact that the same scalars are seen after it
-
-pub record Still (A : Type 0) : Type 0 where
-  pub run : Run A
-  pub kept : Quiet run
-
-infixl 10 ◌>>=◌
-abbrev pub ◌>>=◌ : {A B : Type 0} → Still A → (A → Still B) → Still B
-p >>= f = record {
-  run = walk.◌>>=◌ p.run (λ a. (f a).run);
-  kept = record { at = λ w. same_then w (p.run w) (λ a. (f a).run) (p.kept.at w) (λ a. (f a).kept) };
+nodes_same : (at : Place) (n : named.Name) (sizes : Option (List ℤ)) → Keeps Same (lines.nodes_line at n sizes)
+nodes_same at n sizes = record {
+  at = λ w.
+      same_declared w n.text (Nodes (length w.mappings.nodes)) w.names.arrays w.scalars (record w.mappings { nodes = w.mappings.nodes ++ record { at = at; sizes = sizes } ∷ [] }) w.deepest
+      (w.broken ++ unless (not (scope.is_declared_here n.text w.names.scopes || is_reserved n.text)) N2 n.at) tt;
 }
 
-abbrev pub pure : {A : Type 0} → A → Still A
-pure a = record { run = walk.pure a; kept = record { at = same_refl } }
+template_same : (at : Place) (n : named.Name) (sizes : List ℤ) → Keeps Same (lines.template_line at n sizes)
+template_same at n sizes = record {
+  at = λ w.
+      same_declared w n.text (Template (length w.mappings.templates)) w.names.arrays w.scalars (record w.mappings { templates = w.mappings.templates ++ record { at = at; sizes = sizes } ∷ [] }) w.deepest
+      (w.broken ++ unless (not (scope.is_declared_here n.text w.names.scopes || is_reserved n.text)) N2 n.at) tt;
+}
 
-pub each_after : {A B : Type 0} (f : A → Still B) (done : List B) (xs : List A) → Quiet (walk.each_after (λ x. (f x).run) done xs)
-each_after f done [] = record { at = same_refl }
-each_after f done (x ∷ xs) = record { at = λ w. same_then w ((f x).run w) (λ y. walk.each_after (λ x. (f x).run) (done ++ y ∷ []) xs) ((f x).kept.at w) (λ y. each_after f (done ++ y ∷ []) xs) }
+pub same : Respected Same
+same = record { same = same_refl; then = same_trans; mapped = λ w m d bs hm hb. record { seen = λ slot s. s }; nodes = nodes_same; template = template_same }
 
-abbrev pub each : {A B : Type 0} → (A → Still B) → List A → Still (List B)
-each f xs = record { run = walk.each (λ x. (f x).run) xs; kept = each_after f [] xs }
+array_same : (ty : Ty) (extents : List ℕ) (coarray : Bool) (n : named.Name) → Keeps Same (walk.◌>>=◌ (declarations.new_array ty extents coarray n.at) (λ number. walk.declare n (Array number)))
+array_same ty extents coarray n = record {
+  at = λ w.
+      same_declared w n.text (Array (length w.names.arrays)) (w.names.arrays ++ record { ty = ty; extents = extents; coarray = coarray; at = n.at } ∷ []) w.scalars w.mappings w.deepest
+      (w.broken ++ unless (not (scope.is_declared_here n.text w.names.scopes || is_reserved n.text)) N2 n.at) tt;
+}
 
-pub all_quiet : {A : Type 0} (f : A → Still ⊤) (xs : List A) → Quiet (walk.all (λ x. (f x).run) xs)
-all_quiet f [] = record { at = same_refl }
-all_quiet f (x ∷ xs) = record { at = λ w. same_then w ((f x).run w) (λ _. walk.all (λ x. (f x).run) xs) ((f x).kept.at w) (λ _. all_quiet f xs) }
+abbrev new_array : Ty → List ℕ → Bool → named.Name → Going same ⊤
+new_array ty extents coarray n = record { run = walk.◌>>=◌ (declarations.new_array ty extents coarray n.at) (λ number. walk.declare n (Array number)); kept = array_same ty extents coarray n }
 
-abbrev pub all : {A : Type 0} → (A → Still ⊤) → List A → Still ⊤
-all f xs = record { run = walk.all (λ x. (f x).run) xs; kept = all_quiet f xs }
-
-pub there_quiet : {A B : Type 0} (f : A → Still B) (o : Option A) → Quiet (walk.if_there (λ x. (f x).run) o)
-there_quiet f None = record { at = same_refl }
-there_quiet f (Some x) = record { at = λ w. same_then w ((f x).run w) (λ y. walk.pure (Some y)) ((f x).kept.at w) (λ y. record { at = same_refl }) }
-
-abbrev pub if_there : {A B : Type 0} → (A → Still B) → Option A → Still (Option B)
-if_there f o = record { run = walk.if_there (λ x. (f x).run) o; kept = there_quiet f o }
+pub same_arrays : OfArrays Same
+same_arrays ty n extents coarray values = (do
+  _ ← new_array ty (map (λ t. extent_of t.value) values) coarray n
+  _ ← judge same (list_all (λ t. extent_right t.value) values && nat_le (length extents) 3) N8 n.at
+  _ ← stands_outermost same n.at
+  not_in_function same n.at).kept

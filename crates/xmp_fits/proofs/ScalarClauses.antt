@@ -12,13 +12,13 @@ use Rattle.xmp_prog.specs.Numbers.{is_in, apart, distinct, pairwise}
 use Rattle.xmp_prog.specs.Statements.{slots_of_stmt}
 use Rattle.xmp_prog.specs.Scopes.{declared_in, scalars_fit, in_main, in_function}
 use Rattle.xmp_prog.specs.Fits.{slots_of_function, slots_of_starts, declared, parameters}
-use Rattle.xmp_tree.specs.declared.program.Tree.{Tree}
-use Rattle.xmp_walk.specs.declared.world.World.{World}
-use Rattle.xmp_walk.specs.Walk.{Gave}
-use Rattle.xmp_elab.specs.Parts.{Made}
+use Rattle.xmp_syntax.specs.declared.program.Tree.{Tree}
+use Rattle.xmp_names.specs.declared.world.World.{World}
+use Rattle.xmp_names.specs.Walk.{Gave}
+use Rattle.xmp_parts.specs.Parts.{Made}
 use Rattle.xmp_walk.specs.Program.{program_of}
-use Rattle.xmp_elab.proofs.Unbroken.{left_true, right_true, both_true}
-use Rattle.xmp_fits.proofs.KeptRuns.{Ends}
+use Rattle.xmp_parts.proofs.Unbroken.{left_true, right_true, both_true}
+use Rattle.xmp_fits.proofs.Respected.{Ends}
 use Rattle.xmp_fits.specs.NumbersLie.{tree_lies}
 use Rattle.xmp_fits.proofs.ScopedForms.{Rising, rising_ends, rising_from, rising_both}
 use Rattle.xmp_fits.proofs.FileSites.{in_right, in_first, in_cons, rising_in, between, FunctionSited, Sited, sited_ends, Outside}

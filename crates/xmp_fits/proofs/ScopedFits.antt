@@ -16,17 +16,17 @@ use Rattle.xmp_prog.specs.declared.statements.Task.{Task}
 use Rattle.xmp_prog.specs.declared.parts.ProgParts.{ProgParts}
 use Rattle.xmp_prog.specs.Terms.{terms_of, terms_of_option, slots_of_terms}
 use Rattle.xmp_prog.specs.Scopes.{declared_in, scoped}
-use Rattle.xmp_walk.specs.declared.names.Meaning.{Meaning}
-use Rattle.xmp_walk.specs.declared.names.Meaning.TheVariants as meaning
-use Rattle.xmp_walk.specs.declared.names.Environment.{Environment}
-use Rattle.xmp_walk.specs.declared.world.World.{World}
-use Rattle.xmp_walk.specs.Directives.{made_task}
-use Rattle.xmp_elab.proofs.Unbroken.{both_true}
+use Rattle.xmp_names.specs.declared.names.Meaning.{Meaning}
+use Rattle.xmp_names.specs.declared.names.Meaning.TheVariants as meaning
+use Rattle.xmp_names.specs.declared.names.Environment.{Environment}
+use Rattle.xmp_names.specs.declared.world.World.{World}
+use Rattle.xmp_directives.specs.Directives.{made_task}
+use Rattle.xmp_parts.proofs.Unbroken.{both_true}
 use Rattle.xmp_fits.proofs.Laters.{Begins, Scopes, Widened}
 use Rattle.xmp_fits.proofs.KeptRuns.{Goes}
+use Rattle.xmp_fits.proofs.SameRuns.{seen_as, seen_declared, Same, same_refl, same_trans}
 use Rattle.xmp_fits.proofs.KeptStatements.{opened, closed}
 use Rattle.xmp_fits.proofs.TermsFit.{Seen}
-use Rattle.xmp_fits.proofs.SameRuns.{seen_as, seen_declared, Same, same_refl, same_trans}
 use Rattle.xmp_fits.proofs.ScopedForms.{Rising, rising_ends, rising_from, rising_both, rising_to, declared_plain, declared_block, declared_if, declared_while, declared_in_task, declared_tasks, declared_task, May, Right, InOrder, known_after, order_both, after_both, plain_right, plain_declares, block_right, if_right, while_right, TaskRight, task_right, tasks_right}
 
 -- ---- which scalars may stand

@@ -18,7 +18,7 @@ use Rattle.xmp_prog.specs.Terms.{terms_of, slots_of_terms}
 use Rattle.xmp_prog.specs.Statements.{Walked, WalkedTask, walk_step, walk_task, walked, statements_of, terms_of_head, terms_of_plain, slots_of_plain, slots_of_point, indices_of}
 use Rattle.xmp_prog.specs.Scopes.{declared_by_plain, declared_by, declared_in, Scoped, fits_in_order, scope_step, scoped, scalars_fit}
 use Rattle.xmp_prog.proofs.Rolls.{at_plain, at_block, at_if, at_while, at_counted, at_loop, at_tasks}
-use Rattle.xmp_elab.proofs.Unbroken.{left_true, right_true, both_true}
+use Rattle.xmp_parts.proofs.Unbroken.{left_true, right_true, both_true}
 
 -- ---- slots that are declared, each above the one before
 

@@ -23,22 +23,22 @@ use Rattle.xmp_prog.specs.Terms.{Term, Typed, typed_step, access_step, terms_of,
 use Rattle.xmp_prog.specs.Statements.{terms_of_head, indices_of}
 use Rattle.xmp_prog.specs.Scopes.{declared_in, scoped}
 use Rattle.xmp_prog.proofs.Rolls as rolls
-use Rattle.xmp_tree.specs.declared.statement.ForHead.{ForHead}
-use Rattle.xmp_walk.specs.declared.names.Environment.{Environment}
-use Rattle.xmp_walk.specs.declared.typed.Operand.{Operand}
+use Rattle.xmp_syntax.specs.declared.statement.ForHead.{ForHead}
+use Rattle.xmp_names.specs.declared.names.Environment.{Environment}
+use Rattle.xmp_names.specs.declared.typed.Operand.{Operand}
 use Rattle.xmp_walk.specs.declared.loops.First.{First}
 use Rattle.xmp_walk.specs.declared.loops.ForParts.{ForParts}
 use Rattle.xmp_walk.specs.declared.loops.Shape.{Shape}
-use Rattle.xmp_walk.specs.declared.world.World.{World}
+use Rattle.xmp_names.specs.declared.world.World.{World}
 use Rattle.xmp_walk.specs.Statements.{set, right_side, in_block, counted_with, begun, condition, last_of, uncounted, loop_in, loop_of, shape_of}
-use Rattle.xmp_walk.specs.Directives.{Nest, counted_in, unbraced_in, head_of, nest_in, nest_of}
-use Rattle.xmp_elab.proofs.Unbroken.{left_true, both_true}
+use Rattle.xmp_directives.specs.Directives.{Nest, counted_in, unbraced_in, head_of, nest_in, nest_of}
+use Rattle.xmp_parts.proofs.Unbroken.{left_true, both_true}
 use Rattle.xmp_fits.proofs.KeptRuns.{Goes}
+use Rattle.xmp_fits.proofs.SameRuns.{same_refl}
 use Rattle.xmp_fits.proofs.KeptStatements.{opened, closed}
 use Rattle.xmp_fits.proofs.Holding.{IfThere}
 use Rattle.xmp_fits.proofs.ForsPass.{head_made, counts}
 use Rattle.xmp_fits.proofs.TermsFit.{Seen}
-use Rattle.xmp_fits.proofs.SameRuns.{same_refl}
 use Rattle.xmp_fits.proofs.ScopedForms.{Rising, rising_ends, rising_from, rising_both, declared_block, declared_counted, May, may_both, Right, InOrder, known_after, order_both, block_right, right_block, counted_right, right_counted}
 use Rattle.xmp_fits.proofs.ScopedFits.{Lawful, lawful_within, Allows, opened_seen, closed_same, Fits, ItemsFit, Sees, FlatFits, allow_all, allows_more, flat_fits, items_more, while_fits}
 

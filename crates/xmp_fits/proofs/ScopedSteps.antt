@@ -18,51 +18,51 @@ use Rattle.xmp_prog.specs.declared.parts.ProgParts.{ProgParts}
 use Rattle.xmp_prog.specs.Terms.{slots_of_terms}
 use Rattle.xmp_prog.specs.Statements.{terms_of_head, slots_of_point, indices_of}
 use Rattle.xmp_prog.specs.Scopes.{declared_in}
-use Rattle.xmp_tree.specs.declared.parts.Name as named
-use Rattle.xmp_tree.specs.declared.parts.Placed.{Placed}
+use Rattle.xmp_syntax.specs.declared.parts.Name as named
+use Rattle.xmp_syntax.specs.declared.parts.Placed.{Placed}
 use Rattle.xmp_lex.specs.declared.token.Mark.{Mark}
-use Rattle.xmp_tree.specs.declared.declaration.Declarator.{Declarator}
-use Rattle.xmp_tree.specs.declared.declaration.Declarator.TheVariants as declarator
-use Rattle.xmp_tree.specs.declared.directive.LoopLine.{LoopLine}
-use Rattle.xmp_tree.specs.declared.directive.Point.{Point}
-use Rattle.xmp_tree.specs.declared.directive.Point.TheVariants as point
-use Rattle.xmp_tree.specs.declared.directive.Reduction.{Reduction}
-use Rattle.xmp_tree.specs.declared.expression.Expr.{Expr}
-use Rattle.xmp_tree.specs.declared.statement.ForFirst.{ForFirst}
-use Rattle.xmp_tree.specs.declared.statement.ForFirst.TheVariants as for_first
-use Rattle.xmp_tree.specs.declared.statement.Simple.{Simple}
+use Rattle.xmp_syntax.specs.declared.declaration.Declarator.{Declarator}
+use Rattle.xmp_syntax.specs.declared.declaration.Declarator.TheVariants as declarator
+use Rattle.xmp_syntax.specs.declared.directive.LoopLine.{LoopLine}
+use Rattle.xmp_syntax.specs.declared.directive.Point.{Point}
+use Rattle.xmp_syntax.specs.declared.directive.Point.TheVariants as point
+use Rattle.xmp_syntax.specs.declared.directive.Reduction.{Reduction}
+use Rattle.xmp_syntax.specs.declared.expression.Expr.{Expr}
+use Rattle.xmp_syntax.specs.declared.statement.ForFirst.{ForFirst}
+use Rattle.xmp_syntax.specs.declared.statement.ForFirst.TheVariants as for_first
+use Rattle.xmp_syntax.specs.declared.statement.Simple.{Simple}
 use Rattle.xmp_scopes.specs.Names as scope
-use Rattle.xmp_walk.specs.declared.names.Environment.{Environment}
-use Rattle.xmp_walk.specs.declared.names.Meaning.{Meaning}
-use Rattle.xmp_walk.specs.declared.names.Meaning.TheVariants as meaning
+use Rattle.xmp_names.specs.declared.names.Environment.{Environment}
+use Rattle.xmp_names.specs.declared.names.Meaning.{Meaning}
+use Rattle.xmp_names.specs.declared.names.Meaning.TheVariants as meaning
 use Rattle.xmp_walk.specs.declared.loops.First.{First}
 use Rattle.xmp_walk.specs.declared.loops.ForParts.{ForParts}
-use Rattle.xmp_walk.specs.declared.loop_lines.LoopParts.{LoopParts}
-use Rattle.xmp_walk.specs.declared.rules.Rule.TheVariants.{N2, N3, M7}
-use Rattle.xmp_walk.specs.declared.typed.Typed.{Typed}
-use Rattle.xmp_walk.specs.declared.world.World.{World}
-use Rattle.xmp_walk.specs.Rules.{unless, greater}
-use Rattle.xmp_walk.specs.Typing.{operand_of}
-use Rattle.xmp_walk.specs.Expressions.{expr_of, reference_of}
-use Rattle.xmp_walk.specs.Walk as walk
-use Rattle.xmp_walk.specs.Walk.{Step, Gave, Run, and_then, an_int_scalar, a_template}
-use Rattle.xmp_walk.specs.Declarations.{listed, inner, local_declarator, declare_array}
+use Rattle.xmp_directives.specs.declared.loop_lines.LoopParts.{LoopParts}
+use Rattle.xmp_names.specs.declared.rules.Rule.TheVariants.{N2, N3, M7}
+use Rattle.xmp_names.specs.declared.typed.Typed.{Typed}
+use Rattle.xmp_names.specs.declared.world.World.{World}
+use Rattle.xmp_names.specs.Rules.{unless, greater}
+use Rattle.xmp_names.specs.Expressions.{expr_of, reference_of}
+use Rattle.xmp_names.specs.Walk as walk
+use Rattle.xmp_names.specs.Walk.{Step, Gave, Run, and_then, an_int_scalar, a_template}
+use Rattle.xmp_names.specs.Lists.{listed, inner}
+use Rattle.xmp_walk.specs.Declarations.{local_declarator, declare_array}
 use Rattle.xmp_walk.specs.Statements.{simple_of, return_of, first_of, first_part, index_of}
-use Rattle.xmp_walk.specs.Directives.{signed, limited, scalar_name, task_line, offset_of, index_name, point_of, made_of_point, slot_of_point, slots_of_points, names_or, name_list, operation_of, reduction_name, reductions_of, dimensions, match_template, Nest, nest_of, loop_right, is_indexed, use_template, made_loop, loop_line, judged_loop}
-use Rattle.xmp_walk.specs.MappingLines.{mapping_of}
+use Rattle.xmp_directives.specs.Directives.{signed, scalar_name, task_line, offset_of, index_name, point_of, made_of_point, slot_of_point, slots_of_points, names_or, name_list, operation_of, reduction_name, reductions_of, dimensions, match_template, Nest, nest_of, loop_right, is_indexed, use_template, made_loop, loop_line, judged_loop}
+use Rattle.xmp_names.specs.Sizes.{limited}
+use Rattle.xmp_directives.specs.MappingLines.{mapping_of}
 use Rattle.xmp_walk.specs.Program.{plain_of}
-use Rattle.xmp_elab.proofs.Unbroken.{left_none, right_none}
+use Rattle.xmp_parts.proofs.Unbroken.{left_none, right_none}
 use Rattle.xmp_fits.proofs.GoodWorlds.{Own}
-use Rattle.xmp_fits.proofs.KeptRuns.{ends_then, ends_map, ends_both, Goes, goes_trans}
-use Rattle.xmp_fits.proofs.KeptMappings.{mapping_kept}
-use Rattle.xmp_fits.proofs.KeptLines.{array_kept}
+use Rattle.xmp_fits.proofs.KeptRuns.{Goes, goes_trans, going, going_arrays}
+use Rattle.xmp_fits.proofs.Respected.{ends_then, ends_map, ends_both}
+use Rattle.xmp_fits.proofs.RespectedLines.{array_kept}
+use Rattle.xmp_fits.proofs.RespectedMappings.{mapping_kept}
+use Rattle.xmp_fits.proofs.SameRuns.{Same, same_refl, same, same_arrays}
 use Rattle.xmp_fits.proofs.Holding.{Unbroken, Holds, IfThere}
 use Rattle.xmp_fits.proofs.FitPrinciple.{Facts, Forms}
 use Rattle.xmp_fits.proofs.TermsFit.{Seen}
 use Rattle.xmp_fits.proofs.StepsFit.{IsPlace, reference_place}
-use Rattle.xmp_fits.proofs.SameRuns.{Same, same_refl}
-use Rattle.xmp_fits.proofs.SameLines.{array_quiet}
-use Rattle.xmp_fits.proofs.SameMappings.{mapping_quiet}
 use Rattle.xmp_fits.proofs.ScopedForms as forms_of
 use Rattle.xmp_fits.proofs.ScopedForms.{Rising, rising_from, rising_to, declared_loop, May, may_both}
 use Rattle.xmp_fits.proofs.ScopedFits.{lawful_within, longer, same_names, Fits, ItemsFit, Sees, FlatFits, TasksFit, allow_all, allows_same, flat_fits, nothing_flat, none_fit, items_same, items_more, items_declared, block_fits, if_fits, while_fits, no_task_fits, one_task_fits, tasks_fit}
@@ -112,9 +112,9 @@ module _ (p : ProgParts) where
       })
 
   -- what is known of a first part where its target and its value are read
-  first_fits : (m : World) (t v : Typed) (x : Expr) (declared : List made.Stmt) → Sees p m.names t.made → IsPlace t.made → Sees p m.names v.made →
-      FirstFits p m.names (first_part declared x (operand_of t) (operand_of v))
-  first_fits m t v x declared f i g = record { target = f; value = g; set = set_flat m.names p None (walk.first_place x) (operand_of t) (operand_of v) f i g }
+  first_fits : (m : World) (t v : Typed) (x : Expr) (declared : List made.Stmt) → Sees p m.names t.operand.made → IsPlace t.operand.made → Sees p m.names v.operand.made →
+      FirstFits p m.names (first_part declared x t.operand v.operand)
+  first_fits m t v x declared f i g = record { target = f; value = g; set = set_flat m.names p None (walk.first_place x) t.operand v.operand f i g }
 
   heads_end : (o : Option ForFirst) (test : Option Expr) (next : Option Simple) (w : World) → Unbroken (HeadFits p w) (and_then (walk.if_there first_of o w) (rest test next))
   heads_end None test next w = rest_ends w w test next None (λ n. (none_fit p w, tt))
@@ -122,7 +122,7 @@ module _ (p : ProgParts) where
       let t : Typed = reference_of w.names r in
       let v : Typed = expr_of w.names x in
       let m : World = record w { deepest = greater (greater w.deepest t.notes.deepest) v.notes.deepest; broken = (w.broken ++ t.notes.broken) ++ v.notes.broken } in
-      rest_ends w m test next (Some (first_part [] x (operand_of t) (operand_of v))) (λ n.
+      rest_ends w m test next (Some (first_part [] x t.operand v.operand)) (λ n.
       let before : w.broken ++ t.notes.broken ≡ [] = left_none (w.broken ++ t.notes.broken) v.notes.broken n in
       let h : t.notes.broken ≡ [] = right_none w.broken t.notes.broken before in (
         items_same p w w m [] (same_names w m refl) (omega arith) (none_fit p w),
@@ -138,7 +138,7 @@ module _ (p : ProgParts) where
       let v : Typed = expr_of d.names x in
       let m : World = record d { deepest = greater (greater d.deepest t.notes.deepest) v.notes.deepest; broken = (d.broken ++ t.notes.broken) ++ v.notes.broken } in
       let one : made.Stmt = s.Plain (plain.Declare (length w.scalars) None k.at) in
-      rest_ends w m test next (Some (first_part (one ∷ []) x (operand_of t) (operand_of v))) (λ n.
+      rest_ends w m test next (Some (first_part (one ∷ []) x t.operand v.operand)) (λ n.
       let before : d.broken ++ t.notes.broken ≡ [] = left_none (d.broken ++ t.notes.broken) v.notes.broken n in
       let h : t.notes.broken ≡ [] = right_none d.broken t.notes.broken before in (
         items_declared p w w m [] k.text Int None k.at (none_fit p w) (one_longer w.scalars Int) refl refl tt,
@@ -272,7 +272,7 @@ module _ (p : ProgParts) where
       Unbroken (λ u more. ItemsFit p w u (done ++ more)) (and_then (declare_array ty n extents coarray v) (λ _. walk.pure []))
   array_ends ty n extents coarray w v done f =
       ends_then (λ _ u. Goes v u × Same v u) (λ more u. u.broken ≡ [] → ItemsFit p w u (done ++ more)) (declare_array ty n extents coarray v) (λ _. walk.pure [])
-      (ends_both (λ _ u. Goes v u) (λ _ u. Same v u) (declare_array ty n extents coarray v) ((array_kept ty n extents coarray).at v) ((array_quiet ty n extents coarray).at v))
+      (ends_both (λ _ u. Goes v u) (λ _ u. Same v u) (declare_array ty n extents coarray v) ((array_kept going going_arrays ty n extents coarray).at v) ((array_kept same same_arrays ty n extents coarray).at v))
       (λ _ u g e. subst (ItemsFit p w u) (sym (append-nil done)) (items_same p w v u done g.1 (longer g.0) f))
 
   declarator_ends : (ty : Ty) (d : Declarator) (w v : World) (done : List made.Stmt) → ItemsFit p w v done → Unbroken (λ u more. ItemsFit p w u (done ++ more)) (local_declarator ty d v)
@@ -284,7 +284,7 @@ module _ (p : ProgParts) where
         broken = v.broken ++ unless (not (scope.is_declared_here n.text v.names.scopes || walk.is_reserved n.text)) N2 n.at;
       } in
       let t : Typed = expr_of d.names x.1 in
-      λ e. items_declared p w v (record d { deepest = greater d.deepest t.notes.deepest; broken = d.broken ++ t.notes.broken }) done n.text ty (Some t.made) n.at f (one_longer v.scalars ty) refl refl (expr_sees d.names p x.1 (right_none d.broken t.notes.broken e))
+      λ e. items_declared p w v (record d { deepest = greater d.deepest t.notes.deepest; broken = d.broken ++ t.notes.broken }) done n.text ty (Some t.operand.made) n.at f (one_longer v.scalars ty) refl refl (expr_sees d.names p x.1 (right_none d.broken t.notes.broken e))
   declarator_ends ty (declarator.Array n extents image) w v done f = array_ends ty n (inner extents) (is_some image) w v done f
 
   -- ---- all statements
@@ -319,7 +319,7 @@ module _ (p : ProgParts) where
     loop = λ l w v u parts x g gv gu i f. loop_ends w v u l.line.word parts x (same_names w v i.0) (longer gv) i.1 f;
     none = none_fit p;
     mapping = λ x n w v done gv g f. ends_map (λ (a : ⊤) u. Goes v u × Same v u) (λ (a : ⊤) u. u.broken ≡ [] → ItemsFit p w u done) (mapping_of x v)
-        (ends_both (λ (a : ⊤) u. Goes v u) (λ (a : ⊤) u. Same v u) (mapping_of x v) ((mapping_kept x).at v) ((mapping_quiet x).at v)) (λ a u h e. items_same p w v u done h.1 (longer h.0) f);
+        (ends_both (λ (a : ⊤) u. Goes v u) (λ (a : ⊤) u. Same v u) (mapping_of x v) ((mapping_kept going x).at v) ((mapping_kept same x).at v)) (λ a u h e. items_same p w v u done h.1 (longer h.0) f);
     declarator = λ ty d n w v done gv g f. declarator_ends ty d w v done f;
     statement = λ w v u done x gv gu f h. items_more p w v u done x f h;
     block = λ w v all g gv f. block_fits p w v all gv f;

@@ -3,10 +3,10 @@ use Rattle.std.proofs.Common.{◌≡◌, [], ℕ, true, Option}
 use Rattle.xmp_prog.specs.declared.statements.Stmt.{Stmt}
 use Rattle.xmp_prog.specs.declared.parts.ProgParts.{ProgParts}
 use Rattle.xmp_prog.specs.Fits.{ScalarsFit, FunctionsFit}
-use Rattle.xmp_tree.specs.declared.program.Tree.{Tree}
-use Rattle.xmp_walk.specs.declared.world.World.{World}
-use Rattle.xmp_walk.specs.Walk.{Gave}
-use Rattle.xmp_elab.specs.Parts.{Made}
+use Rattle.xmp_syntax.specs.declared.program.Tree.{Tree}
+use Rattle.xmp_names.specs.declared.world.World.{World}
+use Rattle.xmp_names.specs.Walk.{Gave}
+use Rattle.xmp_parts.specs.Parts.{Made}
 use Rattle.xmp_walk.specs.Program.{program_of}
 use Rattle.xmp_fits.specs.NumbersLie.{tree_lies}
 use Rattle.xmp_fits.proofs.ProgramTerms.{TermsRight}

@@ -12,33 +12,35 @@ use Rattle.xmp_prog.specs.declared.statements.Task.{Task, fold-roll-Task}
 use Rattle.xmp_prog.specs.NodeSets.{is_node_set, is_one_node, sets_apart}
 use Rattle.xmp_prog.specs.Numbers.{pairwise}
 use Rattle.xmp_prog.specs.Statements.{Walked, WalkedTask, statements_of, walk_step, walk_task, writes_of}
-use Rattle.xmp_tree.specs.declared.directive.DirectiveLine.{DirectiveLine}
-use Rattle.xmp_tree.specs.declared.directive.Section.{Section}
-use Rattle.xmp_tree.specs.declared.directive.Sections.{Sections}
-use Rattle.xmp_tree.specs.declared.directive.TaskLine.{TaskLine}
-use Rattle.xmp_tree.specs.declared.parts.CommaList.{CommaList}
-use Rattle.xmp_tree.specs.declared.parts.Name as named
-use Rattle.xmp_walk.specs.declared.rules.Broken.{Broken}
-use Rattle.xmp_walk.specs.declared.rules.Rule.TheVariants.{N3, M8, M9}
-use Rattle.xmp_walk.specs.declared.world.World.{World}
-use Rattle.xmp_walk.specs.Rules.{unless}
-use Rattle.xmp_walk.specs.Declarations.{inner, listed}
-use Rattle.xmp_walk.specs.Directives.{bcast_of, box_of, given_or_one, is_one, lone_task, made_task, nodes_sizes, ranges, ranges_right, scalar_name, set_of, set_part, share, sizes_in, task_line, tasks_in, tasks_of}
-use Rattle.xmp_walk.specs.Expressions.{is_nothing}
-use Rattle.xmp_walk.specs.MappingRules.{nodes_of}
-use Rattle.xmp_walk.specs.Walk.{Gave, Run, a_nodes, each, name_of}
+use Rattle.xmp_syntax.specs.declared.directive.DirectiveLine.{DirectiveLine}
+use Rattle.xmp_syntax.specs.declared.directive.Section.{Section}
+use Rattle.xmp_syntax.specs.declared.directive.Sections.{Sections}
+use Rattle.xmp_syntax.specs.declared.directive.TaskLine.{TaskLine}
+use Rattle.xmp_syntax.specs.declared.parts.CommaList.{CommaList}
+use Rattle.xmp_syntax.specs.declared.parts.Name as named
+use Rattle.xmp_names.specs.declared.rules.Broken.{Broken}
+use Rattle.xmp_names.specs.declared.rules.Rule.TheVariants.{N3, M8, M9}
+use Rattle.xmp_names.specs.declared.world.World.{World}
+use Rattle.xmp_names.specs.Rules.{unless}
+use Rattle.xmp_names.specs.Lists.{inner, listed}
+use Rattle.xmp_directives.specs.Directives.{bcast_of, box_of, is_one, lone_task, made_task, nodes_sizes, ranges, ranges_right, scalar_name, set_of, set_part, share, sizes_in, task_line, tasks_in, tasks_of}
+use Rattle.xmp_names.specs.Sizes.{given_or_one}
+use Rattle.xmp_names.specs.Expressions.{is_nothing}
+use Rattle.xmp_mapping_rules.specs.MappingRules.{nodes_of}
+use Rattle.xmp_names.specs.Walk.{Gave, Run, a_nodes, each, name_of}
 use Rattle.xmp_fits.proofs.DirectivesPass.{DirectiveFits, Makes, StmtFits, StmtMade, TaskFits, plain_fits, sets_of, tasks_fit, walked_task}
 use Rattle.xmp_fits.proofs.Endings.{Ending, Named, Number, before_judged, directed, earlier, ends_at, ends_in, found_at, goes_directed, judged_true, later_at, no_broken, nodes_number, opened, same_value, sizes_at_end}
 use Rattle.xmp_fits.proofs.GoodSteps.{begins_length}
 use Rattle.xmp_fits.proofs.GoodWorlds.{Good, Own}
-use Rattle.xmp_fits.proofs.KeptRuns as kept
-use Rattle.xmp_fits.proofs.KeptRuns.{Ends, Goes, Kept}
-use Rattle.xmp_fits.proofs.KeptDirectives as kept_directives
+use Rattle.xmp_fits.proofs.KeptRuns.{Goes, Kept, going}
+use Rattle.xmp_fits.proofs.Respected.{Ends}
+use Rattle.xmp_fits.proofs.RespectedSteps as kept_steps
+use Rattle.xmp_fits.proofs.RespectedDirectives as kept_directives
+use Rattle.xmp_fits.proofs.Respected as kept
 use Rattle.xmp_fits.proofs.KeptStatements as kept_statements
-use Rattle.xmp_fits.proofs.KeptSteps as kept_steps
-use Rattle.xmp_elab.proofs.Rows.{right_nodes}
+use Rattle.xmp_parts.proofs.Rows.{right_nodes}
 use Rattle.xmp_fits.proofs.SetsPass.{apart_more, one_node, set_inside}
-use Rattle.xmp_elab.proofs.Unbroken.{both_true, left_true, right_true}
+use Rattle.xmp_parts.proofs.Unbroken.{both_true, left_true, right_true}
 
 -- ---- a set of nodes
 
@@ -68,7 +70,7 @@ box_fits p w one parts sizes e same h =
     asked false b o h = cc
 
 set_parts : (xs : List Section) → Kept (each set_part xs)
-set_parts xs = (kept.each (λ x. record { run = set_part x; kept = kept_directives.set_part_kept x }) xs).kept
+set_parts xs = (kept.each going (λ x. record { run = set_part x; kept = kept_directives.set_part_kept going x }) xs).kept
 
 pub set_made : (own : Own) (w : World) (one : Bool) (word : Place) (x : Sections) → Good own w → Ends (SetMade one) (set_of one word x w)
 set_made own w one word x g =
@@ -86,16 +88,16 @@ set_made own w one word x g =
         let right : test ≡ true = judged_true (v3.broken ++ n3) test M8 word (no_broken _ p end) in
         let end3 : Ending v3 p = before_judged v3 n3 p (before_judged (record v3 { broken = v3.broken ++ n3 }) (unless test M8 word) p end) in
         let end2 : Ending v2 p = earlier v2 v3 p (later_at (each set_part (inner x.sections)) v2 parts v3 (set_parts (inner x.sections)) e3).onward.later end3 in
-        let end1 : Ending v p = earlier v v2 p (later_at (nodes_sizes number) v sizes v2 (kept_directives.sizes_kept number) e2).onward.later end2 in
+        let end1 : Ending v p = earlier v v2 p (later_at (nodes_sizes number) v sizes v2 (kept_directives.sizes_kept going number) e2).onward.later end2 in
         let found : Named a_nodes x.name w number = found_at a_nodes x.name w v number p e end1 in
         let k : Number (length w.mappings.nodes) number = nodes_number own x.name w number g found in
-        let later = later_at (name_of a_nodes x.name) w number v (kept_steps.name_of a_nodes x.name).kept e in
+        let later = later_at (name_of a_nodes x.name) w number v (kept_steps.name_of going a_nodes x.name).kept e in
         let there : k.number < length v.mappings.nodes = begins_length w.mappings.nodes v.mappings.nodes k.number later.onward.later.mappings.nodes k.below in
         let read : Gave (sizes_in (given_or_one v) (slice_get v.mappings.nodes k.number)) v ≡ Gave sizes v2 = ap (λ o. nodes_sizes o v) (sym k.is) ∙ e2 in
         box_fits p v one parts sizes end1 (sym (same_value read) ∙ sizes_at_end v p k.number end1 there) right
 
 pub set_kept : (one : Bool) (word : Place) (x : Sections) → Kept (set_of one word x)
-set_kept one word x = (kept_directives.set_of one word x).kept
+set_kept one word x = (kept_directives.set_of going one word x).kept
 
 -- ---- bcast
 
@@ -105,7 +107,7 @@ bcast_made own w line names x g =
     let noted : Goes w u = goes_directed line.word w in
     opened (each scalar_name (listed names) u) _ StmtMade (λ variables v e.
     opened (set_of true line.word x v) _ StmtMade (λ nodes v2 e2. λ p end.
-    let named = later_at (each scalar_name (listed names)) u variables v (kept.each kept_directives.scalar_name (listed names)).kept e in
+    let named = later_at (each scalar_name (listed names)) u variables v (kept.each going (kept_directives.scalar_name going) (listed names)).kept e in
     let set : SetFits p true nodes = ends_at (SetMade true) (set_of true line.word x v) nodes v2 (set_made own v true line.word x (named.good own (noted.good own g))) e2 p end in
     plain_fits p (plain.Cast variables nodes line.word) refl refl refl (set.single refl)))
 
@@ -170,7 +172,7 @@ pub lone_made : (own : Own) (w : World) (line : TaskLine) (body : Run made.Stmt)
 lone_made own w line body g m =
     opened (task_line [] line w) _ StmtMade (λ nodes v e.
     opened (body v) _ StmtMade (λ b v2 e2. λ p end.
-    let there = later_at (task_line [] line) w nodes v (kept_directives.task_line_kept [] line) e in
+    let there = later_at (task_line [] line) w nodes v (kept_directives.task_line_kept going [] line) e in
     let inner = later_at body v b v2 m.goes e2 in
     let set : TaskSet p [] nodes = ends_at (TaskSetMade []) (task_line [] line w) nodes v (line_made own w [] line g) e p (earlier v v2 p inner.onward.later end) in
     let fits : StmtFits p b = ends_at StmtMade (body v) b v2 (m.fits own v (there.good own g)) e2 p end in
@@ -185,7 +187,7 @@ tasks_made own w before done [] g m = λ p end f. (before, f)
 tasks_made own w before done (x ∷ xs) g m =
     opened (task_line before x.0 w) _ (TasksMade before done) (λ nodes v e.
     opened (x.1 v) _ (TasksMade before done) (λ b v2 e2.
-    let there = later_at (task_line before x.0) w nodes v (kept_directives.task_line_kept before x.0) e in
+    let there = later_at (task_line before x.0) w nodes v (kept_directives.task_line_kept going before x.0) e in
     let inner = later_at x.1 v b v2 m.0.goes e2 in
     let more : List NodeSet = before ++ nodes ∷ [] in
     let so_far : List Task = done ++ made_task nodes b x.0.line.word ∷ [] in

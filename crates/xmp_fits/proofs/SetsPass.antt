@@ -10,12 +10,13 @@ use Rattle.xmp_map.specs.RowMajor.{product, unravel}
 use Rattle.xmp_map.specs.Nodes.{filled, in_box}
 use Rattle.xmp_prog.specs.Numbers.{pairwise}
 use Rattle.xmp_prog.specs.NodeSets.{has_node, is_node_set, is_one_node, lies_inside, sets_apart}
-use Rattle.xmp_walk.specs.Directives.{box_of, is_box, is_one, natural, node_number, overlap, range_right, ranges, ranges_right, share}
-use Rattle.xmp_elab.specs.Parts.{IsGrid}
+use Rattle.xmp_directives.specs.Directives.{box_of, is_box, is_one, node_number, overlap, range_right, ranges, ranges_right, share}
+use Rattle.xmp_names.specs.Sizes.{natural}
+use Rattle.xmp_parts.specs.Parts.{IsGrid}
 use Rattle.xmp_fits.proofs.MapsPass.{product_filled}
-use Rattle.xmp_elab.proofs.Padded.{at_most_three}
-use Rattle.xmp_elab.proofs.Rows.{RightNodes, small_nodes}
-use Rattle.xmp_elab.proofs.Unbroken.{both_true, left_true, right_true}
+use Rattle.xmp_parts.proofs.Padded.{at_most_three}
+use Rattle.xmp_parts.proofs.Rows.{RightNodes, small_nodes}
+use Rattle.xmp_parts.proofs.Unbroken.{both_true, left_true, right_true}
 
 -- ---- one dimension
 

@@ -21,38 +21,38 @@ use Rattle.xmp_prog.specs.declared.parts.ProgParts.{ProgParts}
 use Rattle.xmp_prog.specs.Terms as term
 use Rattle.xmp_prog.specs.Terms.{Term, terms_of, typed_step, access_step, slots_of_term, slots_of_terms}
 use Rattle.xmp_prog.proofs.Rolls as rolls
-use Rattle.xmp_tree.specs.declared.parts.Name as named
-use Rattle.xmp_tree.specs.declared.parts.Inside.{Inside}
-use Rattle.xmp_tree.specs.declared.parts.Image.{Image}
-use Rattle.xmp_tree.specs.declared.parts.CommaList.{CommaList}
-use Rattle.xmp_tree.specs.declared.parts.Next.{Next}
-use Rattle.xmp_tree.specs.declared.parts.Link.{Link}
-use Rattle.xmp_tree.specs.declared.parts.Reference.{Reference}
-use Rattle.xmp_tree.specs.declared.parts.Call.{Call}
-use Rattle.xmp_tree.specs.declared.expression.Expr.{Expr}
-use Rattle.xmp_tree.specs.declared.expression.Expr.TheFolds.{fold-roll-Expr, ind-Expr, map-Expr}
-use Rattle.xmp_tree.specs.declared.expression.Expr.TheViews.{roll-Expr}
-use Rattle.xmp_tree.specs.declared.expression.Expr.TheOpen.{Expr-F}
+use Rattle.xmp_syntax.specs.declared.parts.Name as named
+use Rattle.xmp_syntax.specs.declared.parts.Inside.{Inside}
+use Rattle.xmp_syntax.specs.declared.parts.Image.{Image}
+use Rattle.xmp_syntax.specs.declared.parts.CommaList.{CommaList}
+use Rattle.xmp_syntax.specs.declared.parts.Next.{Next}
+use Rattle.xmp_syntax.specs.declared.parts.Link.{Link}
+use Rattle.xmp_syntax.specs.declared.parts.Reference.{Reference}
+use Rattle.xmp_syntax.specs.declared.parts.Call.{Call}
+use Rattle.xmp_syntax.specs.declared.expression.Expr.{Expr}
+use Rattle.xmp_syntax.specs.declared.expression.Expr.TheFolds.{fold-roll-Expr, ind-Expr, map-Expr}
+use Rattle.xmp_syntax.specs.declared.expression.Expr.TheViews.{roll-Expr}
+use Rattle.xmp_syntax.specs.declared.expression.Expr.TheOpen.{Expr-F}
 use Rattle.xmp_scopes.specs.Names.{nearest, is_same}
-use Rattle.xmp_walk.specs.declared.names.Meaning.{Meaning}
-use Rattle.xmp_walk.specs.declared.names.Meaning.TheVariants.{Scalar, Array, Nodes, Template, Function}
-use Rattle.xmp_walk.specs.declared.names.Array as array
-use Rattle.xmp_walk.specs.declared.names.Signature.{Signature}
-use Rattle.xmp_walk.specs.declared.names.Environment.{Environment}
-use Rattle.xmp_walk.specs.declared.rules.Notes.{Notes}
-use Rattle.xmp_walk.specs.declared.rules.Rule.{Rule}
-use Rattle.xmp_walk.specs.declared.rules.Rule.TheVariants.{N1, N3, N5, N10}
-use Rattle.xmp_walk.specs.declared.typed.Value.{Value}
-use Rattle.xmp_walk.specs.declared.typed.Value.TheVariants.{Named, Trapping, Known}
-use Rattle.xmp_walk.specs.declared.typed.Typed.{Typed}
-use Rattle.xmp_walk.specs.declared.typed.Parts.{Parts}
-use Rattle.xmp_walk.specs.declared.typed.Operand.{Operand}
-use Rattle.xmp_walk.specs.declared.operators.Operator.{Operator}
-use Rattle.xmp_walk.specs.declared.operators.Operator.TheVariants.{Arithmetic, Compare, Shift, Both, Either}
-use Rattle.xmp_walk.specs.Rules.{unless, noted, joined}
-use Rattle.xmp_walk.specs.Typing.{stands, is_of, convert, operand, number, operator, operator_of, operand_of, binary, unary, cast, choose}
-use Rattle.xmp_walk.specs.Expressions.{no_parts, add, may_name, is_nothing, cell_of, read_as, image_notes, read, intrinsic, call_intrinsic, call_of, call_as, may_call, judged_call, call, chain, each_subscript, each_next, expr_step, expr_of, right_of, inside_of, next_of, reference_of, arguments_of}
-use Rattle.xmp_elab.proofs.Unbroken.{left_none, right_none, holds}
+use Rattle.xmp_names.specs.declared.names.Meaning.{Meaning}
+use Rattle.xmp_names.specs.declared.names.Meaning.TheVariants.{Scalar, Array, Nodes, Template, Function}
+use Rattle.xmp_names.specs.declared.names.Array as array
+use Rattle.xmp_names.specs.declared.names.Signature.{Signature}
+use Rattle.xmp_names.specs.declared.names.Environment.{Environment}
+use Rattle.xmp_names.specs.declared.rules.Notes.{Notes}
+use Rattle.xmp_names.specs.declared.rules.Rule.{Rule}
+use Rattle.xmp_names.specs.declared.rules.Rule.TheVariants.{N1, N3, N5, N10}
+use Rattle.xmp_names.specs.declared.typed.Value.{Value}
+use Rattle.xmp_names.specs.declared.typed.Value.TheVariants.{Named, Trapping, Known}
+use Rattle.xmp_names.specs.declared.typed.Typed.{Typed}
+use Rattle.xmp_names.specs.declared.typed.Parts.{Parts}
+use Rattle.xmp_names.specs.declared.typed.Operand.{Operand}
+use Rattle.xmp_names.specs.declared.operators.Operator.{Operator}
+use Rattle.xmp_names.specs.declared.operators.Operator.TheVariants.{Arithmetic, Compare, Shift, Both, Either}
+use Rattle.xmp_names.specs.Rules.{unless, noted, joined}
+use Rattle.xmp_names.specs.Typing.{stands, is_of, convert, operand, number, operator, operator_of, binary, unary, cast, choose}
+use Rattle.xmp_names.specs.Expressions.{no_parts, add, may_name, is_nothing, cell_of, read_as, image_notes, read, intrinsic, call_intrinsic, call_of, call_as, may_call, judged_call, call, chain, each_subscript, each_next, expr_step, expr_of, right_of, inside_of, next_of, reference_of, arguments_of}
+use Rattle.xmp_parts.proofs.Unbroken.{left_none, right_none, holds}
 use Rattle.xmp_fits.proofs.TermsFit.{Seen}
 use Rattle.xmp_fits.proofs.ScopedFits.{Sees}
 
@@ -149,7 +149,7 @@ module _ (env : Environment) (p : ProgParts) where
       by true = h
       by false = convert_sees ty x.made x.value h
 
-  operator_sees : (o : Operator) (at : Place) (a b : Operand) (notes : Notes) → Sees p env a.made → Sees p env b.made → Sees p env (operator o at a b notes).made
+  operator_sees : (o : Operator) (at : Place) (a b : Operand) (notes : Notes) → Sees p env a.made → Sees p env b.made → Sees p env (operator o at a b notes).operand.made
   operator_sees (Arithmetic o) at a b notes h k = stands_sees _ _ _ (binary_sees o _ (operand _ a) (operand _ b) at (operand_sees _ a h) (operand_sees _ b k))
   operator_sees (Compare o) at a b notes h k = stands_sees _ _ _ (binary_sees o _ (operand _ a) (operand _ b) at (operand_sees _ a h) (operand_sees _ b k))
   operator_sees (Shift o) at a b notes h k = stands_sees _ _ _ (binary_sees o _ a.made b.made at h k)
@@ -165,12 +165,12 @@ module _ (env : Environment) (p : ProgParts) where
 
   -- What is made sees, where no rule breaks.
   abbrev pub Right : Typed → Type 0
-  Right t = t.notes.broken ≡ [] → Sees p env t.made
+  Right t = t.notes.broken ≡ [] → Sees p env t.operand.made
 
   binary_right : (o : Operator) (at : Place) (a b : Typed) → Right a → Right b → Right (binary o at a b)
   binary_right o at a b f g n =
-      let all : a.notes.broken ++ b.notes.broken ≡ [] = sym (ap (λ x. x.broken) (operator_notes o at (operand_of a) (operand_of b) (joined a.notes b.notes))) ∙ n in
-      operator_sees o at (operand_of a) (operand_of b) (joined a.notes b.notes) (f (left_none a.notes.broken b.notes.broken all)) (g (right_none a.notes.broken b.notes.broken all))
+      let all : a.notes.broken ++ b.notes.broken ≡ [] = sym (ap (λ x. x.broken) (operator_notes o at a.operand b.operand (joined a.notes b.notes))) ∙ n in
+      operator_sees o at a.operand b.operand (joined a.notes b.notes) (f (left_none a.notes.broken b.notes.broken all)) (g (right_none a.notes.broken b.notes.broken all))
 
   number_right : (v : ℤ) (ty : Ty) → Right (number v ty)
   number_right v ty n = const_sees v ty
@@ -182,13 +182,13 @@ module _ (env : Environment) (p : ProgParts) where
   unary_right _ at x f = f
 
   cast_right : (ty : Ty) (x : Typed) → Right x → Right (cast ty x)
-  cast_right ty x f n = convert_sees ty x.made x.value (f n)
+  cast_right ty x f n = convert_sees ty x.operand.made x.operand.value (f n)
 
   choose_right : (c a b : Typed) → Right c → Right a → Right b → Right (choose c a b)
   choose_right c a b f g h n =
       let ca : c.notes.broken ++ a.notes.broken ≡ [] = left_none (c.notes.broken ++ a.notes.broken) b.notes.broken n in
-      stands_sees _ _ _ (choose_sees c.made (operand _ (operand_of a)) (operand _ (operand_of b)) (f (left_none c.notes.broken a.notes.broken ca))
-      (operand_sees _ (operand_of a) (g (right_none c.notes.broken a.notes.broken ca))) (operand_sees _ (operand_of b) (h (right_none (c.notes.broken ++ a.notes.broken) b.notes.broken n))))
+      stands_sees _ _ _ (choose_sees c.operand.made (operand _ a.operand) (operand _ b.operand) (f (left_none c.notes.broken a.notes.broken ca))
+      (operand_sees _ a.operand (g (right_none c.notes.broken a.notes.broken ca))) (operand_sees _ b.operand (h (right_none (c.notes.broken ++ a.notes.broken) b.notes.broken n))))
 
   chain_right : (x : Typed) (ls : List (Link Typed)) → Right x → AllByRecursion (λ l. Right l.right) ls → Right (chain x ls)
   chain_right x [] f g = f
@@ -207,13 +207,13 @@ module _ (env : Environment) (p : ProgParts) where
   one_more (y ∷ xs) x h k = (h.0, one_more xs x h.1 k)
 
   add_right : (q : Parts) (x : Typed) → PartsRight q → Right x → PartsRight (add q x)
-  add_right q x f g n = one_more q.made x.made (f (left_none q.notes.broken x.notes.broken n)) (g (right_none q.notes.broken x.notes.broken n))
+  add_right q x f g n = one_more q.made x.operand.made (f (left_none q.notes.broken x.notes.broken n)) (g (right_none q.notes.broken x.notes.broken n))
 
   abbrev ImageRight : Option Typed → Type 0
   ImageRight None = ⊤
   ImageRight (Some x) = Right x
 
-  cell_right : (o : Option array.Array) (k : ℕ) (at : Place) (xs : List prog.Expr) (image : Option prog.Expr) (notes : Notes) → AllByRecursion (Sees p env) xs → There image → Sees p env (cell_of o k at xs image notes).made
+  cell_right : (o : Option array.Array) (k : ℕ) (at : Place) (xs : List prog.Expr) (image : Option prog.Expr) (notes : Notes) → AllByRecursion (Sees p env) xs → There image → Sees p env (cell_of o k at xs image notes).operand.made
   cell_right None k at xs image notes h i = const_sees (pos 0) Int
   cell_right (Some a) k at xs image notes h i = cell_sees k xs image at h i
 
@@ -222,7 +222,7 @@ module _ (env : Environment) (p : ProgParts) where
   cell_before (Some a) k at xs image notes n = before notes ((length xs == length a.extents) && (a.coarray || is_none image)) N3 at n
 
   read_as_right : (name : named.Name) (meaning : Option Meaning) (xs : List prog.Expr) (image : Option prog.Expr) (notes : Notes) → nearest name.text env.scopes ≡ meaning → may_name env name meaning ≡ true →
-      AllByRecursion (Sees p env) xs → There image → Sees p env (read_as env meaning name.at xs image notes).made
+      AllByRecursion (Sees p env) xs → There image → Sees p env (read_as env meaning name.at xs image notes).operand.made
   read_as_right name (Some (Scalar slot ty)) xs image notes h k f g = scalar_sees slot name.at (record { name = name; ty = ty; means = h; may = k })
   read_as_right name (Some (Array n)) xs image notes h k f g = cell_right (slice_get env.arrays n) n name.at xs image notes f g
   read_as_right name (Some (Nodes n)) xs image notes h k f g = const_sees (pos 0) Int
@@ -238,7 +238,7 @@ module _ (env : Environment) (p : ProgParts) where
   read_before (Some (Function k r)) at xs image notes n = before notes false N3 at n
   read_before None at xs image notes n = before notes false N1 at n
 
-  image_here : (image : Option Typed) (notes : Notes) → ImageRight image → (image_notes image notes).broken ≡ [] → There (option_map (λ x. x.made) image)
+  image_here : (image : Option Typed) (notes : Notes) → ImageRight image → (image_notes image notes).broken ≡ [] → There (option_map (λ x. x.operand.made) image)
   image_here None notes f n = tt
   image_here (Some x) notes f n = f (right_none notes.broken x.notes.broken n)
 
@@ -251,9 +251,9 @@ module _ (env : Environment) (p : ProgParts) where
       let meaning : Option Meaning = nearest name.text env.scopes in
       let notes : Notes = image_notes image q.notes in
       let judged : Notes = noted notes (may_name env name meaning) N5 name.at in
-      let b = read_before meaning name.at q.made (option_map (λ x. x.made) image) judged n in
+      let b = read_before meaning name.at q.made (option_map (λ x. x.operand.made) image) judged n in
       let c = before notes (may_name env name meaning) N5 name.at b in
-      read_as_right name meaning q.made (option_map (λ x. x.made) image) judged refl (holds (may_name env name meaning) N5 name.at (right_none notes.broken _ b)) (f (parts_before image q.notes c)) (image_here image q.notes g c)
+      read_as_right name meaning q.made (option_map (λ x. x.operand.made) image) judged refl (holds (may_name env name meaning) N5 name.at (right_none notes.broken _ b)) (f (parts_before image q.notes c)) (image_here image q.notes g c)
 
   -- ---- calls
 
@@ -263,7 +263,7 @@ module _ (env : Environment) (p : ProgParts) where
   intrinsic_sees true false false x h = absurd (none-some x h)
   intrinsic_sees false a b x h = absurd (none-some x h)
 
-  intrinsic_right : (o : Option prog.Expr) (name : named.Name) (q : Parts) → intrinsic name.text env.coarray ≡ o → Sees p env (call_intrinsic o name.at q).made
+  intrinsic_right : (o : Option prog.Expr) (name : named.Name) (q : Parts) → intrinsic name.text env.coarray ≡ o → Sees p env (call_intrinsic o name.at q).operand.made
   intrinsic_right None name q h = const_sees (pos 0) Int
   intrinsic_right (Some x) name q h = intrinsic_sees env.coarray (is_same name.text (codes "xmp_node_num")) (is_same name.text (codes "xmp_num_nodes")) x h
 
@@ -271,7 +271,7 @@ module _ (env : Environment) (p : ProgParts) where
   intrinsic_before None at q n = before q.notes false N1 at n
   intrinsic_before (Some x) at q n = before q.notes (is_nothing q.made) N3 at n
 
-  call_of_right : (o : Option Signature) (k : ℕ) (r : Ty) (at : Place) (q : Parts) → AllByRecursion (Sees p env) q.made → Sees p env (call_of o k r at q).made
+  call_of_right : (o : Option Signature) (k : ℕ) (r : Ty) (at : Place) (q : Parts) → AllByRecursion (Sees p env) q.made → Sees p env (call_of o k r at q).operand.made
   call_of_right None k r at q h = const_sees (pos 0) Int
   call_of_right (Some s) k r at q h = call_sees k q.made at h
 

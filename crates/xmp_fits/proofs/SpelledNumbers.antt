@@ -8,66 +8,66 @@ use Rattle.xmp_lex.specs.declared.token.TokenKind.TheVariants as t
 use Rattle.xmp_lex.specs.declared.token.Mark.{Mark}
 use Rattle.xmp_lex.specs.declared.token.Mark.TheVariants as m
 use Rattle.xmp_lex.specs.declared.token.Reserved.TheVariants as w
-use Rattle.xmp_tree.specs.declared.parts.Name.{Name}
-use Rattle.xmp_tree.specs.declared.parts.Placed.{Placed}
-use Rattle.xmp_tree.specs.declared.parts.TypeWords.{TypeWords}
-use Rattle.xmp_tree.specs.declared.parts.TypeWords.TheVariants as tw
-use Rattle.xmp_tree.specs.declared.declaration.Declarator.{Declarator}
-use Rattle.xmp_tree.specs.declared.declaration.Declarator.TheVariants as d
-use Rattle.xmp_tree.specs.declared.declaration.Declaration.{Declaration}
-use Rattle.xmp_tree.specs.declared.directive.DirectiveLine.{DirectiveLine}
-use Rattle.xmp_tree.specs.declared.directive.DistForm.{DistForm}
-use Rattle.xmp_tree.specs.declared.directive.DistForm.TheVariants as f
-use Rattle.xmp_tree.specs.declared.directive.AlignDimension.{AlignDimension}
-use Rattle.xmp_tree.specs.declared.directive.AlignDimension.TheVariants as al
-use Rattle.xmp_tree.specs.declared.directive.Point.{Point}
-use Rattle.xmp_tree.specs.declared.directive.Point.TheVariants as pt
-use Rattle.xmp_tree.specs.declared.directive.Section.{Section}
-use Rattle.xmp_tree.specs.declared.directive.Section.TheVariants as sc
-use Rattle.xmp_tree.specs.declared.directive.Sections.{Sections}
-use Rattle.xmp_tree.specs.declared.directive.Mapping.{Mapping}
-use Rattle.xmp_tree.specs.declared.directive.Mapping.TheVariants as mp
-use Rattle.xmp_tree.specs.declared.directive.ReductionOperator.{ReductionOperator}
-use Rattle.xmp_tree.specs.declared.directive.ReductionOperator.TheVariants as ro
-use Rattle.xmp_tree.specs.declared.directive.Reduction.{Reduction}
-use Rattle.xmp_tree.specs.declared.directive.LoopLine.{LoopLine}
-use Rattle.xmp_tree.specs.declared.directive.TaskLine.{TaskLine}
-use Rattle.xmp_tree.specs.declared.statement.Simple.{Simple}
-use Rattle.xmp_tree.specs.declared.statement.Simple.TheVariants as si
-use Rattle.xmp_tree.specs.declared.statement.ForFirst.{ForFirst}
-use Rattle.xmp_tree.specs.declared.statement.ForFirst.TheVariants as ff
-use Rattle.xmp_tree.specs.declared.statement.ForHead.{ForHead}
-use Rattle.xmp_tree.specs.declared.statement.Plain.{Plain}
-use Rattle.xmp_tree.specs.declared.statement.Plain.TheVariants as pl
-use Rattle.xmp_tree.specs.declared.statement.BlockItem.{BlockItem}
-use Rattle.xmp_tree.specs.declared.statement.BlockItem.TheVariants as b
-use Rattle.xmp_tree.specs.declared.statement.Stmt as made_stmt
-use Rattle.xmp_tree.specs.declared.program.Function.{Function}
-use Rattle.xmp_tree.specs.declared.program.Parameters.{Parameters}
-use Rattle.xmp_tree.specs.declared.program.Parameters.TheVariants as pr
-use Rattle.xmp_tree.specs.declared.program.TopItem.{TopItem}
-use Rattle.xmp_tree.specs.declared.program.TopItem.TheVariants as top
-use Rattle.xmp_tree.specs.declared.program.Tree.{Tree}
-use Rattle.xmp_walk.specs.Declarations.{listed}
-use Rattle.xmp_tree.specs.declared.parts.Inside.{Inside}
-use Rattle.xmp_tree.specs.declared.parts.Image as made_image
-use Rattle.xmp_tree.specs.declared.parts.CommaList.{CommaList}
-use Rattle.xmp_tree.specs.declared.parts.Next.{Next}
-use Rattle.xmp_tree.specs.declared.parts.Link as made_link
-use Rattle.xmp_tree.specs.declared.parts.Reference.{Reference}
-use Rattle.xmp_tree.specs.declared.parts.Call.{Call}
-use Rattle.xmp_tree.specs.declared.expression.Expr as made
-use Rattle.xmp_tree.specs.declared.expression.Expr.TheFolds.{fold-roll-Expr}
-use Rattle.xmp_tree.specs.declared.expression.Expr.TheOpen.{Expr-F}
-use Rattle.xmp_tree.specs.declared.expression.Expr.TheVariants as e
-use Rattle.xmp_tree.specs.Trees as tree
-use Rattle.xmp_tree.specs.View.{expr_view, ref_view, subscripts_view, image_view, arguments_view, rest_view, stmt_view, items_view}
+use Rattle.xmp_syntax.specs.declared.parts.Name.{Name}
+use Rattle.xmp_syntax.specs.declared.parts.Placed.{Placed}
+use Rattle.xmp_syntax.specs.declared.parts.TypeWords.{TypeWords}
+use Rattle.xmp_syntax.specs.declared.parts.TypeWords.TheVariants as tw
+use Rattle.xmp_syntax.specs.declared.declaration.Declarator.{Declarator}
+use Rattle.xmp_syntax.specs.declared.declaration.Declarator.TheVariants as d
+use Rattle.xmp_syntax.specs.declared.declaration.Declaration.{Declaration}
+use Rattle.xmp_syntax.specs.declared.directive.DirectiveLine.{DirectiveLine}
+use Rattle.xmp_syntax.specs.declared.directive.DistForm.{DistForm}
+use Rattle.xmp_syntax.specs.declared.directive.DistForm.TheVariants as f
+use Rattle.xmp_syntax.specs.declared.directive.AlignDimension.{AlignDimension}
+use Rattle.xmp_syntax.specs.declared.directive.AlignDimension.TheVariants as al
+use Rattle.xmp_syntax.specs.declared.directive.Point.{Point}
+use Rattle.xmp_syntax.specs.declared.directive.Point.TheVariants as pt
+use Rattle.xmp_syntax.specs.declared.directive.Section.{Section}
+use Rattle.xmp_syntax.specs.declared.directive.Section.TheVariants as sc
+use Rattle.xmp_syntax.specs.declared.directive.Sections.{Sections}
+use Rattle.xmp_syntax.specs.declared.directive.Mapping.{Mapping}
+use Rattle.xmp_syntax.specs.declared.directive.Mapping.TheVariants as mp
+use Rattle.xmp_syntax.specs.declared.directive.ReductionOperator.{ReductionOperator}
+use Rattle.xmp_syntax.specs.declared.directive.ReductionOperator.TheVariants as ro
+use Rattle.xmp_syntax.specs.declared.directive.Reduction.{Reduction}
+use Rattle.xmp_syntax.specs.declared.directive.LoopLine.{LoopLine}
+use Rattle.xmp_syntax.specs.declared.directive.TaskLine.{TaskLine}
+use Rattle.xmp_syntax.specs.declared.statement.Simple.{Simple}
+use Rattle.xmp_syntax.specs.declared.statement.Simple.TheVariants as si
+use Rattle.xmp_syntax.specs.declared.statement.ForFirst.{ForFirst}
+use Rattle.xmp_syntax.specs.declared.statement.ForFirst.TheVariants as ff
+use Rattle.xmp_syntax.specs.declared.statement.ForHead.{ForHead}
+use Rattle.xmp_syntax.specs.declared.statement.Plain.{Plain}
+use Rattle.xmp_syntax.specs.declared.statement.Plain.TheVariants as pl
+use Rattle.xmp_syntax.specs.declared.statement.BlockItem.{BlockItem}
+use Rattle.xmp_syntax.specs.declared.statement.BlockItem.TheVariants as b
+use Rattle.xmp_syntax.specs.declared.statement.Stmt as made_stmt
+use Rattle.xmp_syntax.specs.declared.program.Function.{Function}
+use Rattle.xmp_syntax.specs.declared.program.Parameters.{Parameters}
+use Rattle.xmp_syntax.specs.declared.program.Parameters.TheVariants as pr
+use Rattle.xmp_syntax.specs.declared.program.TopItem.{TopItem}
+use Rattle.xmp_syntax.specs.declared.program.TopItem.TheVariants as top
+use Rattle.xmp_syntax.specs.declared.program.Tree.{Tree}
+use Rattle.xmp_names.specs.Lists.{listed}
+use Rattle.xmp_syntax.specs.declared.parts.Inside.{Inside}
+use Rattle.xmp_syntax.specs.declared.parts.Image as made_image
+use Rattle.xmp_syntax.specs.declared.parts.CommaList.{CommaList}
+use Rattle.xmp_syntax.specs.declared.parts.Next.{Next}
+use Rattle.xmp_syntax.specs.declared.parts.Link as made_link
+use Rattle.xmp_syntax.specs.declared.parts.Reference.{Reference}
+use Rattle.xmp_syntax.specs.declared.parts.Call.{Call}
+use Rattle.xmp_syntax.specs.declared.expression.Expr as made
+use Rattle.xmp_syntax.specs.declared.expression.Expr.TheFolds.{fold-roll-Expr}
+use Rattle.xmp_syntax.specs.declared.expression.Expr.TheOpen.{Expr-F}
+use Rattle.xmp_syntax.specs.declared.expression.Expr.TheVariants as e
+use Rattle.xmp_syntax.specs.Trees as tree
+use Rattle.xmp_syntax.specs.View.{expr_view, ref_view, subscripts_view, image_view, arguments_view, rest_view, stmt_view, items_view}
 use Rattle.std.specs.Prelude.{ℕ, codes}
-use Rattle.xmp_tree.specs.Spell as sp
-use Rattle.xmp_tree.specs.Spell.{Text, ◌at◌, each, list, next, optional, in_brackets, dims, spell, spell_ref, spell_subscripts, spell_image, spell_arguments, spell_rest, spell_links, expr}
-use Rattle.xmp_tree.proofs.Backward.{back, back_ref, back_subscripts, back_image, back_arguments, back_rest, back_links, back_view}
-use Rattle.xmp_tree.proofs.BackStatements as bs
-use Rattle.xmp_elab.proofs.Unbroken.{both_true}
+use Rattle.xmp_syntax.specs.Spell as sp
+use Rattle.xmp_syntax.specs.Spell.{Text, ◌at◌, each, list, next, optional, in_brackets, dims, spell, spell_ref, spell_subscripts, spell_image, spell_arguments, spell_rest, spell_links, expr}
+use Rattle.xmp_syntax.proofs.Backward.{back, back_ref, back_subscripts, back_image, back_arguments, back_rest, back_links, back_view}
+use Rattle.xmp_syntax.proofs.BackStatements as bs
+use Rattle.xmp_parts.proofs.Unbroken.{both_true}
 use Rattle.xmp_fits.proofs.NumbersLie.{plain_is, if_is, else_is, while_is, for_is, loop_is, task_is, block_is, tasks_are}
 use Rattle.xmp_fits.specs.NumbersLie as n
 use Rattle.xmp_fits.specs.NumbersLie.{number_lies, numbers_lie, numbers_step, subscripts_lie, image_lies, reference_lies, rest_lies, arguments_lie, there_lies}

@@ -8,28 +8,28 @@ use Rattle.xmp_prog.specs.declared.expressions.Expr as prog
 use Rattle.xmp_prog.specs.declared.expressions.Expr.TheVariants as e
 use Rattle.xmp_prog.specs.declared.expressions.Access.{Access, roll-Access}
 use Rattle.xmp_prog.specs.declared.parts.ProgParts.{ProgParts}
-use Rattle.xmp_tree.specs.declared.parts.Inside.{Inside}
-use Rattle.xmp_tree.specs.declared.parts.Image.{Image}
-use Rattle.xmp_tree.specs.declared.parts.CommaList.{CommaList}
-use Rattle.xmp_tree.specs.declared.parts.Next.{Next}
-use Rattle.xmp_tree.specs.declared.parts.Reference.{Reference}
-use Rattle.xmp_tree.specs.declared.parts.Call.{Call}
-use Rattle.xmp_tree.specs.declared.expression.Expr.{Expr}
-use Rattle.xmp_walk.specs.declared.names.Meaning.{Meaning}
-use Rattle.xmp_walk.specs.declared.names.Meaning.TheVariants.{Scalar, Array, Nodes, Template, Function}
-use Rattle.xmp_walk.specs.declared.names.Array as array
-use Rattle.xmp_walk.specs.declared.names.Environment.{Environment}
-use Rattle.xmp_walk.specs.declared.rules.Notes.{Notes}
-use Rattle.xmp_walk.specs.declared.rules.Rule.{Rule}
-use Rattle.xmp_walk.specs.declared.rules.Rule.TheVariants.{N1, N3, N4}
-use Rattle.xmp_walk.specs.declared.typed.Typed.{Typed}
-use Rattle.xmp_walk.specs.declared.typed.Parts.{Parts}
-use Rattle.xmp_walk.specs.declared.world.World.{World}
-use Rattle.xmp_walk.specs.Rules.{unless}
-use Rattle.xmp_walk.specs.Expressions.{no_parts, add, each_subscript, each_next, read_as, cell_of, unknown, call, expr_of, inside_of, next_of, reference_of, arguments_of}
-use Rattle.xmp_walk.specs.Walk.{Run, typed, typed_reference, typed_call, typed_all, typed_constant, is_known, first_place}
-use Rattle.xmp_elab.proofs.Unbroken.{left_none, right_none, left_true, right_true, holds}
-use Rattle.xmp_fits.proofs.KeptRuns.{Ends}
+use Rattle.xmp_syntax.specs.declared.parts.Inside.{Inside}
+use Rattle.xmp_syntax.specs.declared.parts.Image.{Image}
+use Rattle.xmp_syntax.specs.declared.parts.CommaList.{CommaList}
+use Rattle.xmp_syntax.specs.declared.parts.Next.{Next}
+use Rattle.xmp_syntax.specs.declared.parts.Reference.{Reference}
+use Rattle.xmp_syntax.specs.declared.parts.Call.{Call}
+use Rattle.xmp_syntax.specs.declared.expression.Expr.{Expr}
+use Rattle.xmp_names.specs.declared.names.Meaning.{Meaning}
+use Rattle.xmp_names.specs.declared.names.Meaning.TheVariants.{Scalar, Array, Nodes, Template, Function}
+use Rattle.xmp_names.specs.declared.names.Array as array
+use Rattle.xmp_names.specs.declared.names.Environment.{Environment}
+use Rattle.xmp_names.specs.declared.rules.Notes.{Notes}
+use Rattle.xmp_names.specs.declared.rules.Rule.{Rule}
+use Rattle.xmp_names.specs.declared.rules.Rule.TheVariants.{N1, N3, N4}
+use Rattle.xmp_names.specs.declared.typed.Typed.{Typed}
+use Rattle.xmp_names.specs.declared.typed.Parts.{Parts}
+use Rattle.xmp_names.specs.declared.world.World.{World}
+use Rattle.xmp_names.specs.Rules.{unless}
+use Rattle.xmp_names.specs.Expressions.{no_parts, add, each_subscript, each_next, read_as, cell_of, unknown, call, expr_of, inside_of, next_of, reference_of, arguments_of}
+use Rattle.xmp_names.specs.Walk.{Run, typed, typed_reference, typed_call, typed_all, typed_constant, is_known, first_place}
+use Rattle.xmp_parts.proofs.Unbroken.{left_none, right_none, left_true, right_true, holds}
+use Rattle.xmp_fits.proofs.Respected.{Ends}
 use Rattle.xmp_fits.proofs.TermsFit.{EachFits}
 use Rattle.xmp_fits.proofs.OperandsFit.{Fits, Right}
 use Rattle.xmp_fits.proofs.NamesFit.{Tells, PartsRight, add_right, read_right, call_right, ImageRight, full}
@@ -42,15 +42,15 @@ use Rattle.xmp_fits.proofs.TreeNumbers.{expr_right}
 abbrev pub IsPlace : prog.Expr → Type 0
 IsPlace x = ((slot : ℕ) × (at : Place) × (x ≡ e.Scalar slot at)) ⊎ ((a : Access) × (x ≡ e.Cell a))
 
-unknown_place : (notes : Notes) (rule : Rule) (at : Place) → (unknown notes rule at).notes.broken ≡ [] → IsPlace (unknown notes rule at).made
+unknown_place : (notes : Notes) (rule : Rule) (at : Place) → (unknown notes rule at).notes.broken ≡ [] → IsPlace (unknown notes rule at).operand.made
 unknown_place notes rule at n = absurd (full notes.broken (record { rule = rule; at = at }) n)
 
-cell_place : (o : Option array.Array) (k : ℕ) (at : Place) (xs : List prog.Expr) (image : Option prog.Expr) (notes : Notes) → (cell_of o k at xs image notes).notes.broken ≡ [] → IsPlace (cell_of o k at xs image notes).made
+cell_place : (o : Option array.Array) (k : ℕ) (at : Place) (xs : List prog.Expr) (image : Option prog.Expr) (notes : Notes) → (cell_of o k at xs image notes).notes.broken ≡ [] → IsPlace (cell_of o k at xs image notes).operand.made
 cell_place None k at xs image notes n = unknown_place notes N3 at n
 cell_place (Some a) k at xs image notes n = inr (roll-Access (record { array = k; subscripts = xs; image = image; at = at }), refl)
 
 read_place : (env : Environment) (meaning : Option Meaning) (at : Place) (xs : List prog.Expr) (image : Option prog.Expr) (notes : Notes) → (read_as env meaning at xs image notes).notes.broken ≡ [] →
-    IsPlace (read_as env meaning at xs image notes).made
+    IsPlace (read_as env meaning at xs image notes).operand.made
 read_place env (Some (Scalar slot ty)) at xs image notes n = inl (slot, at, refl)
 read_place env (Some (Array k)) at xs image notes n = cell_place (slice_get env.arrays k) k at xs image notes n
 read_place env (Some (Nodes k)) at xs image notes n = unknown_place notes N3 at n
@@ -58,7 +58,7 @@ read_place env (Some (Template k)) at xs image notes n = unknown_place notes N3 
 read_place env (Some (Function k r)) at xs image notes n = unknown_place notes N3 at n
 read_place env None at xs image notes n = unknown_place notes N1 at n
 
-pub reference_place : (env : Environment) (r : Reference Expr) → (reference_of env r).notes.broken ≡ [] → IsPlace (reference_of env r).made
+pub reference_place : (env : Environment) (r : Reference Expr) → (reference_of env r).notes.broken ≡ [] → IsPlace (reference_of env r).operand.made
 reference_place env r n = read_place env (nearest r.name.text env.scopes) r.name.at _ _ _ n
 
 module _ (env : Environment) (p : ProgParts) (t : Tells env p) where
@@ -118,5 +118,5 @@ module _ (p : ProgParts) (w : World) (t : Tells w.names p) where
   pub constant_fits : (x : Expr) → numbers_lie x ≡ true → Gives (λ a. Fits w.names p a × (is_known a.value ≡ true)) w (typed_constant x)
   constant_fits x h n =
       let y : Typed = expr_of w.names x in
-      let before : w.broken ++ y.notes.broken ≡ [] = left_none (w.broken ++ y.notes.broken) (unless (is_known y.value) N4 (first_place x)) n in
-      (expr_right w.names p t x h (right_none w.broken y.notes.broken before), holds (is_known y.value) N4 (first_place x) (right_none (w.broken ++ y.notes.broken) _ n))
+      let before : w.broken ++ y.notes.broken ≡ [] = left_none (w.broken ++ y.notes.broken) (unless (is_known y.operand.value) N4 (first_place x)) n in
+      (expr_right w.names p t x h (right_none w.broken y.notes.broken before), holds (is_known y.operand.value) N4 (first_place x) (right_none (w.broken ++ y.notes.broken) _ n))

@@ -17,8 +17,8 @@ use Rattle.xmp_prog.specs.Terms.{Term, terms_of}
 use Rattle.xmp_prog.specs.Statements.{Statement, Walked, WalkedTask, indices_of, slots_of_point, terms_of_head, slots_beside, statements_of, walk_step, walk_task, walked, writes_of}
 use Rattle.xmp_prog.specs.Fits.{has_coarrays}
 use Rattle.xmp_prog.proofs.Rolls.{at_block, at_counted, at_if, at_loop, at_plain, at_tasks, at_while}
-use Rattle.xmp_walk.specs.Directives.{head_of, nest_in, nest_of, made_task}
-use Rattle.xmp_elab.proofs.Unbroken.{both_true, left_true}
+use Rattle.xmp_directives.specs.Directives.{head_of, nest_in, nest_of, made_task}
+use Rattle.xmp_parts.proofs.Unbroken.{both_true, left_true}
 use Rattle.xmp_fits.proofs.TermsFit.{all_append, or_true}
 use Rattle.xmp_fits.proofs.TermTests.{TermPasses, StatementPasses, is_slot, all_map, all_true}
 use Rattle.xmp_fits.proofs.ClausesHold.{StmtPasses, all_flat}

@@ -7,15 +7,15 @@ use Rattle.std.proofs.lemmas.Option.{same_Some}
 use Rattle.xmp_num.specs.declared.types.Ty.{Ty}
 use Rattle.xmp_scopes.specs.Names.{is_same}
 use Rattle.xmp_prog.specs.declared.parts.ProgParts.{ProgParts}
-use Rattle.xmp_tree.specs.declared.parts.Name as named
-use Rattle.xmp_walk.specs.declared.names.Region.{Region}
-use Rattle.xmp_walk.specs.declared.names.Region.TheVariants as region
-use Rattle.xmp_walk.specs.declared.names.Meaning.TheVariants.{Scalar, Function}
-use Rattle.xmp_walk.specs.declared.names.Signature.{Signature}
-use Rattle.xmp_walk.specs.declared.world.World.{World}
-use Rattle.xmp_walk.specs.Expressions.{is_function, may_call}
-use Rattle.xmp_walk.specs.Walk.{is_main}
-use Rattle.xmp_elab.proofs.Unbroken.{left_true}
+use Rattle.xmp_syntax.specs.declared.parts.Name as named
+use Rattle.xmp_names.specs.declared.names.Region.{Region}
+use Rattle.xmp_names.specs.declared.names.Region.TheVariants as region
+use Rattle.xmp_names.specs.declared.names.Meaning.TheVariants.{Scalar, Function}
+use Rattle.xmp_names.specs.declared.names.Signature.{Signature}
+use Rattle.xmp_names.specs.declared.world.World.{World}
+use Rattle.xmp_names.specs.Expressions.{is_function, may_call}
+use Rattle.xmp_names.specs.Walk.{is_main}
+use Rattle.xmp_parts.proofs.Unbroken.{left_true}
 use Rattle.xmp_fits.proofs.GoodWorlds.{Own, Good, Finished, Reading, Extends}
 use Rattle.xmp_fits.proofs.GoodSteps.{begins_get, true_name}
 use Rattle.xmp_fits.proofs.NamesFit.{Tells, FunctionOf}

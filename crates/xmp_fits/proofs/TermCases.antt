@@ -6,22 +6,23 @@ use Rattle.std.specs.Option.{option_or}
 use Rattle.std.proofs.lemmas.Option.{none-some}
 use Rattle.xmp_scopes.specs.Names as scope
 use Rattle.xmp_scopes.specs.Names.{nearest, depth_of, in_scope}
-use Rattle.xmp_walk.specs.declared.names.Meaning.{Meaning}
-use Rattle.xmp_walk.specs.declared.names.Meaning.TheVariants.{Array}
+use Rattle.xmp_names.specs.declared.names.Meaning.{Meaning}
+use Rattle.xmp_names.specs.declared.names.Meaning.TheVariants.{Array}
 use Rattle.xmp_map.specs.Spread.{sizes_fit}
 use Rattle.xmp_prog.specs.declared.parts.ProgParts.{ProgParts}
 use Rattle.xmp_prog.specs.declared.statements.Stmt as made
-use Rattle.xmp_tree.specs.declared.expression.Expr.{Expr}
-use Rattle.xmp_walk.specs.declared.typed.Operand.{Operand}
-use Rattle.xmp_walk.specs.declared.world.World.{World}
-use Rattle.xmp_walk.specs.Expressions.{is_function, is_first}
-use Rattle.xmp_walk.specs.Walk.{Step, Gave, typed}
+use Rattle.xmp_syntax.specs.declared.expression.Expr.{Expr}
+use Rattle.xmp_names.specs.declared.typed.Operand.{Operand}
+use Rattle.xmp_names.specs.declared.world.World.{World}
+use Rattle.xmp_names.specs.Expressions.{is_function, is_first}
+use Rattle.xmp_names.specs.Walk.{Step, Gave, typed}
 use Rattle.xmp_fits.proofs.Laters.{Scopes, begins_trans, unbroken_before}
 use Rattle.xmp_fits.proofs.GoodWorlds as good_worlds
 use Rattle.xmp_fits.proofs.GoodWorlds.{Own, Good, Extends}
 use Rattle.xmp_fits.proofs.GoodSteps.{Stays, onward_stays, begins_get}
-use Rattle.xmp_fits.proofs.KeptRuns.{Ends, GoesOn}
-use Rattle.xmp_fits.proofs.KeptSteps as kept_steps
+use Rattle.xmp_fits.proofs.KeptRuns.{GoesOn, going}
+use Rattle.xmp_fits.proofs.Respected.{Ends}
+use Rattle.xmp_fits.proofs.RespectedSteps as kept_steps
 use Rattle.xmp_fits.proofs.Holding.{Unbroken, Holds}
 use Rattle.xmp_fits.proofs.TermsFit.{NoneInside}
 use Rattle.xmp_fits.proofs.OperandsFit.{Fits}
@@ -113,4 +114,4 @@ pub operand_read : (own : Own) (w : World) (t : Step Operand) → Good own w →
 operand_read own w (Gave x v) g o f = λ e p r. let s = onward_stays o.onward in let y = tells own w p g (back p w v s r).extends in operand_good own p w v x g (unbroken_before w v o.onward.later e) y s (f p y e)
 
 pub test_good : (own : Own) (x : Expr) → numbers_lie x ≡ true → Holds own (λ w v x. OperandGood v x) (typed x)
-test_good own x n = record { at = λ w g. operand_read own w (typed x w) g ((kept_steps.typed x).kept.at w) (λ p t. typed_fits p w t x n) }
+test_good own x n = record { at = λ w g. operand_read own w (typed x w) g ((kept_steps.typed going x).kept.at w) (λ p t. typed_fits p w t x n) }

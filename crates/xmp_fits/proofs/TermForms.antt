@@ -24,9 +24,9 @@ use Rattle.xmp_prog.specs.Terms.{Of, Element, Typed, typed, type_of, terms_of, t
 use Rattle.xmp_prog.specs.Tests.{is_image, arguments_match, subscripts_fit, is_coarray, right_fits}
 use Rattle.xmp_prog.specs.Fits.{has_coarrays}
 use Rattle.xmp_prog.proofs.Rolls as rolls
-use Rattle.xmp_walk.specs.declared.names.Environment.{Environment}
-use Rattle.xmp_walk.specs.Expressions.{is_function}
-use Rattle.xmp_elab.proofs.Unbroken.{both_true}
+use Rattle.xmp_names.specs.declared.names.Environment.{Environment}
+use Rattle.xmp_names.specs.Expressions.{is_function}
+use Rattle.xmp_parts.proofs.Unbroken.{both_true}
 use Rattle.xmp_fits.proofs.TermsFit.{NoneInside, Seen, TermFits, TypedFits, ExprFits, EachFits, each_terms, all_append, or_true}
 
 pub same_itself : (ty : Ty) → same_type ty ty ≡ true

@@ -10,9 +10,9 @@ use Rattle.xmp_prog.specs.Terms.{Term, type_of, terms_of, slots_of_term}
 use Rattle.xmp_prog.specs.Statements.{Statement, terms_in, slots_beside}
 use Rattle.xmp_prog.specs.Tests.{constant_fits, operands_fit, choice_fits, element_fits, image_fits, is_no_element, asks_no_node, calls_below, arguments_fit, assignment_fits, is_no_sync, stands_in_function}
 use Rattle.xmp_prog.specs.Fits.{has_coarrays, PrintFits}
-use Rattle.xmp_walk.specs.declared.names.Environment.{Environment}
-use Rattle.xmp_walk.specs.declared.typed.Operand.{Operand}
-use Rattle.xmp_walk.specs.Expressions.{is_function}
+use Rattle.xmp_names.specs.declared.names.Environment.{Environment}
+use Rattle.xmp_names.specs.declared.typed.Operand.{Operand}
+use Rattle.xmp_names.specs.Expressions.{is_function}
 use Rattle.xmp_fits.proofs.TermsFit.{NoneInside, Seen, TermFits}
 use Rattle.xmp_fits.proofs.ValuesLie.{Lies}
 use Rattle.xmp_fits.proofs.OperandsFit.{Fits, IsConst}

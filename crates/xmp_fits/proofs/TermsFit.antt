@@ -9,10 +9,10 @@ use Rattle.xmp_prog.specs.declared.parts.ProgParts.{ProgParts}
 use Rattle.xmp_prog.specs.Terms.{Term, Typed, typed, type_of, terms_of, slots_of_term}
 use Rattle.xmp_prog.specs.Tests.{constant_fits, operands_fit, choice_fits, element_fits, image_fits, is_no_element, asks_no_node, calls_below, arguments_fit}
 use Rattle.xmp_prog.specs.Fits.{has_coarrays}
-use Rattle.xmp_tree.specs.declared.parts.Name as named
-use Rattle.xmp_walk.specs.declared.names.Meaning.TheVariants.{Scalar, Array}
-use Rattle.xmp_walk.specs.declared.names.Environment.{Environment}
-use Rattle.xmp_walk.specs.Expressions.{is_function, is_first, may_name}
+use Rattle.xmp_syntax.specs.declared.parts.Name as named
+use Rattle.xmp_names.specs.declared.names.Meaning.TheVariants.{Scalar, Array}
+use Rattle.xmp_names.specs.declared.names.Environment.{Environment}
+use Rattle.xmp_names.specs.Expressions.{is_function, is_first, may_name}
 
 -- ---- lists
 

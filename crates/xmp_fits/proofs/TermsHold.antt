@@ -23,30 +23,30 @@ use Rattle.xmp_prog.specs.Fits.{has_coarrays}
 use Rattle.xmp_prog.specs.Terms.{Typed, terms_of, typed_step, access_step}
 use Rattle.xmp_prog.specs.Statements.{slots_of_point}
 use Rattle.xmp_prog.proofs.Rolls as rolls
-use Rattle.xmp_tree.specs.declared.directive.Sections.{Sections}
-use Rattle.xmp_tree.specs.declared.directive.DirectiveLine.{DirectiveLine}
-use Rattle.xmp_tree.specs.declared.directive.TaskLine.{TaskLine}
-use Rattle.xmp_tree.specs.declared.statement.ForHead.{ForHead}
-use Rattle.xmp_tree.specs.declared.statement.Plain.TheVariants as plain
+use Rattle.xmp_syntax.specs.declared.directive.Sections.{Sections}
+use Rattle.xmp_syntax.specs.declared.directive.DirectiveLine.{DirectiveLine}
+use Rattle.xmp_syntax.specs.declared.directive.TaskLine.{TaskLine}
+use Rattle.xmp_syntax.specs.declared.statement.ForHead.{ForHead}
+use Rattle.xmp_syntax.specs.declared.statement.Plain.TheVariants as plain
 use Rattle.xmp_walk.specs.declared.loops.First.{First}
 use Rattle.xmp_walk.specs.declared.loops.Shape.{Shape}
-use Rattle.xmp_walk.specs.declared.loop_lines.LoopParts.{LoopParts}
-use Rattle.xmp_walk.specs.declared.typed.Operand.{Operand}
-use Rattle.xmp_walk.specs.declared.world.World.{World}
-use Rattle.xmp_walk.specs.Expressions.{is_function}
+use Rattle.xmp_directives.specs.declared.loop_lines.LoopParts.{LoopParts}
+use Rattle.xmp_names.specs.declared.typed.Operand.{Operand}
+use Rattle.xmp_names.specs.declared.world.World.{World}
+use Rattle.xmp_names.specs.Expressions.{is_function}
 use Rattle.xmp_walk.specs.Statements.{right_side, one, first_of, shape_of, shape_by, shape_at, is_bump, compared_at, added_by}
-use Rattle.xmp_walk.specs.Typing.{is_of}
+use Rattle.xmp_names.specs.Typing.{is_of}
 use Rattle.xmp_walk.specs.Counted.{is_counted, bound_of}
-use Rattle.xmp_walk.specs.Rules.{unless}
-use Rattle.xmp_walk.specs.declared.rules.Rule.TheVariants.{M7}
-use Rattle.xmp_walk.specs.Directives as directives
-use Rattle.xmp_walk.specs.Directives.{made_of_point, made_loop, made_task, nest_of}
-use Rattle.xmp_elab.proofs.Unbroken.{left_none, left_true}
+use Rattle.xmp_names.specs.Rules.{unless}
+use Rattle.xmp_names.specs.declared.rules.Rule.TheVariants.{M7}
+use Rattle.xmp_directives.specs.Directives as directives
+use Rattle.xmp_directives.specs.Directives.{made_of_point, made_loop, made_task, nest_of}
+use Rattle.xmp_parts.proofs.Unbroken.{left_none, left_true}
 use Rattle.xmp_fits.proofs.GoodWorlds.{Own}
 use Rattle.xmp_fits.proofs.GoodSteps.{Stays, onward_stays}
-use Rattle.xmp_fits.proofs.KeptRuns.{goes_trans}
-use Rattle.xmp_fits.proofs.KeptDirectives as kept
-use Rattle.xmp_fits.proofs.KeptSteps as kept_steps
+use Rattle.xmp_fits.proofs.KeptRuns.{goes_trans, going}
+use Rattle.xmp_fits.proofs.RespectedSteps as kept_steps
+use Rattle.xmp_fits.proofs.RespectedDirectives as kept
 use Rattle.xmp_fits.proofs.Laters.{unbroken_before}
 use Rattle.xmp_fits.proofs.Endings.{opened, later_at, directed}
 use Rattle.xmp_fits.proofs.Holding.{Unbroken, Holds, unbroken_map}
@@ -201,8 +201,8 @@ loop_good word v parts n x l fit =
     let test : Bool = directives.loop_right parts.names parts.points (nest_of n x).0 in
     let u : World = record v { broken = v.broken ++ unless test M7 word } in
     carried StmtGood u (directives.use_template parts.template word (map directives.is_indexed parts.points) u) (λ _. made_loop (unwrap_or parts.template 0) parts.points (nest_of n x) parts.reductions word)
-    ((kept.use_kept parts.template word (map directives.is_indexed parts.points)).at u)
-    (λ w a q. stmt_stays v w _ (onward_stays (goes_trans ((kept_steps.judge test M7 word).kept.at v) q).onward) (loop_here v (unwrap_or parts.template 0) parts n x word l fit))
+    ((kept.use_kept going parts.template word (map directives.is_indexed parts.points)).at u)
+    (λ w a q. stmt_stays v w _ (onward_stays (goes_trans ((kept_steps.judge going test M7 word).kept.at v) q).onward) (loop_here v (unwrap_or parts.template 0) parts n x word l fit))
 
 -- ---- tasks
 
@@ -210,7 +210,7 @@ set_holds : (own : Own) (before : List NodeSet) (l : TaskLine) → Holds own (λ
 set_holds own before l = record {
   at = λ w g.
       opened (directives.set_of false l.line.word l.set (directed l.line.word w)) _ (λ x v. v.broken ≡ [] → InNone v) (λ nodes v1 e1. λ none.
-      let l1 = later_at (directives.set_of false l.line.word l.set) (directed l.line.word w) nodes v1 (kept.set_of false l.line.word l.set).kept e1 in
+      let l1 = later_at (directives.set_of false l.line.word l.set) (directed l.line.word w) nodes v1 (kept.set_of going false l.line.word l.set).kept e1 in
       let n1 = left_none v1.broken _ none in
       let n0 = unbroken_before (directed l.line.word w) v1 l1.onward.later n1 in
       none_stays (directed l.line.word w) v1 l1 ((directive_holds own l.line.word).at w g n0));

@@ -3,20 +3,20 @@ use Rattle.std.proofs.Common.{subst, List, [], ◌∷◌}
 use Rattle.std.specs.Prelude.{⊤, None, Some}
 use Rattle.std.specs.List.{AllByRecursion}
 use Rattle.xmp_base.specs.declared.place.Place.{Place}
-use Rattle.xmp_tree.specs.declared.parts.Inside.{Inside}
-use Rattle.xmp_tree.specs.declared.expression.Expr.{Expr}
-use Rattle.xmp_tree.specs.declared.directive.DirectiveLine.{DirectiveLine}
-use Rattle.xmp_tree.specs.declared.directive.LoopLine.{LoopLine}
-use Rattle.xmp_tree.specs.declared.directive.TaskLine.{TaskLine}
-use Rattle.xmp_tree.specs.declared.statement.Plain.{Plain}
-use Rattle.xmp_tree.specs.declared.statement.ForHead.{ForHead}
-use Rattle.xmp_tree.specs.declared.statement.BlockItem.{BlockItem}
-use Rattle.xmp_tree.specs.declared.statement.BlockItem.TheVariants as b
-use Rattle.xmp_tree.specs.declared.statement.Stmt.{Stmt}
-use Rattle.xmp_tree.specs.declared.statement.Stmt.TheVariants as s
-use Rattle.xmp_tree.specs.Trees as tree
-use Rattle.xmp_tree.specs.View.{stmt_view}
-use Rattle.xmp_tree.proofs.BackStatements.{back, back_items, back_tasks, back_view}
+use Rattle.xmp_syntax.specs.declared.parts.Inside.{Inside}
+use Rattle.xmp_syntax.specs.declared.expression.Expr.{Expr}
+use Rattle.xmp_syntax.specs.declared.directive.DirectiveLine.{DirectiveLine}
+use Rattle.xmp_syntax.specs.declared.directive.LoopLine.{LoopLine}
+use Rattle.xmp_syntax.specs.declared.directive.TaskLine.{TaskLine}
+use Rattle.xmp_syntax.specs.declared.statement.Plain.{Plain}
+use Rattle.xmp_syntax.specs.declared.statement.ForHead.{ForHead}
+use Rattle.xmp_syntax.specs.declared.statement.BlockItem.{BlockItem}
+use Rattle.xmp_syntax.specs.declared.statement.BlockItem.TheVariants as b
+use Rattle.xmp_syntax.specs.declared.statement.Stmt.{Stmt}
+use Rattle.xmp_syntax.specs.declared.statement.Stmt.TheVariants as s
+use Rattle.xmp_syntax.specs.Trees as tree
+use Rattle.xmp_syntax.specs.View.{stmt_view}
+use Rattle.xmp_syntax.proofs.BackStatements.{back, back_items, back_tasks, back_view}
 
 -- What stands in a block: a statement of which P holds, or something else.
 abbrev pub ItemIs : {A : Type 0} → (A → Type 0) → BlockItem A → Type 0

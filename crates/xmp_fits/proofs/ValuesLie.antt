@@ -17,10 +17,10 @@ use Rattle.xmp_num.proofs.BitLaws.{wide_fits, closed, and_laws, or_laws, xor_law
 use Rattle.xmp_prog.specs.Numbers.{lies_in}
 use Rattle.xmp_prog.specs.Terms.{result_of}
 use Rattle.xmp_prog.specs.Tests.{is_shift}
-use Rattle.xmp_walk.specs.declared.typed.Value.{Value}
-use Rattle.xmp_walk.specs.declared.typed.Value.TheVariants.{Named, Trapping, Known}
-use Rattle.xmp_walk.specs.Typing.{known, binary_value, is_zero, truth_value, both_value, either_value, converted, is_named, picked, chosen_value}
-use Rattle.xmp_elab.proofs.Unbroken.{both_true, left_true}
+use Rattle.xmp_names.specs.declared.typed.Value.{Value}
+use Rattle.xmp_names.specs.declared.typed.Value.TheVariants.{Named, Trapping, Known}
+use Rattle.xmp_names.specs.Typing.{known, binary_value, is_zero, truth_value, both_value, either_value, converted, is_named, picked, chosen_value}
+use Rattle.xmp_parts.proofs.Unbroken.{both_true, left_true}
 
 -- ---- the two ways to say it
 

@@ -7,19 +7,19 @@ use Rattle.xmp_prog.specs.declared.parts.ProgParts.{ProgParts}
 use Rattle.xmp_prog.specs.declared.statements.Stmt.{Stmt}
 use Rattle.xmp_prog.specs.Fits.{DirectivesFit, MappingsFit, all_statements, has_coarrays}
 use Rattle.xmp_prog.specs.Tests.{counted_fits, is_image, is_spread}
-use Rattle.xmp_tree.specs.declared.program.Tree.{Tree}
-use Rattle.xmp_walk.specs.declared.world.World.{World}
-use Rattle.xmp_walk.specs.MappingRules.{mapping_rules}
-use Rattle.xmp_elab.specs.Narrow.{is_count}
-use Rattle.xmp_elab.specs.Parts.{IsParts, MadeAfter}
+use Rattle.xmp_syntax.specs.declared.program.Tree.{Tree}
+use Rattle.xmp_names.specs.declared.world.World.{World}
+use Rattle.xmp_mapping_rules.specs.MappingRules.{mapping_rules}
+use Rattle.xmp_parts.specs.Narrow.{is_count}
+use Rattle.xmp_parts.specs.Parts.{IsParts, MadeAfter}
 use Rattle.xmp_walk.specs.Program.{program_of, with_count}
-use Rattle.xmp_elab.specs.Verdict.{broken_in, verdict, verdict_of, world_after}
-use Rattle.xmp_walk.specs.Walk.{Step, Gave}
+use Rattle.xmp_parts.specs.Verdict.{broken_in, verdict, verdict_of, world_after}
+use Rattle.xmp_names.specs.Walk.{Step, Gave}
 use Rattle.xmp_fits.proofs.DirectivesWhole.{Right, coarrays_right, counted_right, directives_right, mappings_right, spread_right}
 use Rattle.xmp_fits.proofs.Endings.{same_world}
 use Rattle.xmp_fits.specs.NumbersLie.{tree_lies}
-use Rattle.xmp_elab.proofs.Unbroken.{left_none}
-use Rattle.xmp_elab.proofs.Verdicts.{no_verdict, unbroken}
+use Rattle.xmp_parts.proofs.Unbroken.{left_none}
+use Rattle.xmp_parts.proofs.Verdicts.{no_verdict, unbroken}
 
 -- The world that the walk ends in, with no rule broken.
 pub record Ended (t : Tree) (given : Option ℕ) (p : ProgParts) : Type 0 where

@@ -5,43 +5,43 @@ use Rattle.xmp_base.specs.declared.place.Place.{Place}
 use Rattle.xmp_lex.specs.declared.token.TokenKind.{TokenKind}
 use Rattle.xmp_lex.specs.declared.token.TokenKind.TheVariants as t
 use Rattle.xmp_prog.specs.Numbers.{lies_in}
-use Rattle.xmp_tree.specs.declared.declaration.Declaration.{Declaration}
-use Rattle.xmp_tree.specs.declared.declaration.Declarator.TheVariants as declarator
-use Rattle.xmp_tree.specs.declared.declaration.Declarator.{Declarator}
-use Rattle.xmp_tree.specs.declared.directive.DistForm.TheVariants as form
-use Rattle.xmp_tree.specs.declared.directive.DistForm.{DistForm}
-use Rattle.xmp_tree.specs.declared.directive.LoopLine.{LoopLine}
-use Rattle.xmp_tree.specs.declared.directive.Mapping.TheVariants as mapping
-use Rattle.xmp_tree.specs.declared.directive.Mapping.{Mapping}
-use Rattle.xmp_tree.specs.declared.directive.Point.TheVariants as point
-use Rattle.xmp_tree.specs.declared.directive.Point.{Point}
-use Rattle.xmp_tree.specs.declared.directive.Section.TheVariants as section
-use Rattle.xmp_tree.specs.declared.directive.Section.{Section}
-use Rattle.xmp_tree.specs.declared.directive.Sections.{Sections}
-use Rattle.xmp_tree.specs.declared.directive.TaskLine.{TaskLine}
-use Rattle.xmp_tree.specs.declared.expression.Expr.TheOpen.{Expr-F}
-use Rattle.xmp_tree.specs.declared.expression.Expr.{Expr, fold-Expr}
-use Rattle.xmp_tree.specs.declared.expression.Expr.{Expr}
-use Rattle.xmp_tree.specs.declared.parts.CommaList.{CommaList}
-use Rattle.xmp_tree.specs.declared.parts.Image.{Image}
-use Rattle.xmp_tree.specs.declared.parts.Inside.{Inside}
-use Rattle.xmp_tree.specs.declared.parts.Next.{Next}
-use Rattle.xmp_tree.specs.declared.parts.Reference.{Reference}
-use Rattle.xmp_tree.specs.declared.program.TopItem.TheVariants as top
-use Rattle.xmp_tree.specs.declared.program.TopItem.{TopItem}
-use Rattle.xmp_tree.specs.declared.program.Tree.{Tree}
-use Rattle.xmp_tree.specs.declared.statement.BlockItem.TheVariants as b
-use Rattle.xmp_tree.specs.declared.statement.BlockItem.{BlockItem}
-use Rattle.xmp_tree.specs.declared.statement.ForFirst.TheVariants as for_first
-use Rattle.xmp_tree.specs.declared.statement.ForFirst.{ForFirst}
-use Rattle.xmp_tree.specs.declared.statement.ForHead.{ForHead}
-use Rattle.xmp_tree.specs.declared.statement.Plain.TheVariants as plain
-use Rattle.xmp_tree.specs.declared.statement.Plain.{Plain}
-use Rattle.xmp_tree.specs.declared.statement.Simple.TheVariants as simple
-use Rattle.xmp_tree.specs.declared.statement.Simple.{Simple}
-use Rattle.xmp_tree.specs.declared.statement.Stmt.TheOpen.{Stmt-F}
-use Rattle.xmp_tree.specs.declared.statement.Stmt.{Stmt, fold-Stmt}
-use Rattle.xmp_walk.specs.Declarations.{listed}
+use Rattle.xmp_syntax.specs.declared.declaration.Declaration.{Declaration}
+use Rattle.xmp_syntax.specs.declared.declaration.Declarator.TheVariants as declarator
+use Rattle.xmp_syntax.specs.declared.declaration.Declarator.{Declarator}
+use Rattle.xmp_syntax.specs.declared.directive.DistForm.TheVariants as form
+use Rattle.xmp_syntax.specs.declared.directive.DistForm.{DistForm}
+use Rattle.xmp_syntax.specs.declared.directive.LoopLine.{LoopLine}
+use Rattle.xmp_syntax.specs.declared.directive.Mapping.TheVariants as mapping
+use Rattle.xmp_syntax.specs.declared.directive.Mapping.{Mapping}
+use Rattle.xmp_syntax.specs.declared.directive.Point.TheVariants as point
+use Rattle.xmp_syntax.specs.declared.directive.Point.{Point}
+use Rattle.xmp_syntax.specs.declared.directive.Section.TheVariants as section
+use Rattle.xmp_syntax.specs.declared.directive.Section.{Section}
+use Rattle.xmp_syntax.specs.declared.directive.Sections.{Sections}
+use Rattle.xmp_syntax.specs.declared.directive.TaskLine.{TaskLine}
+use Rattle.xmp_syntax.specs.declared.expression.Expr.TheOpen.{Expr-F}
+use Rattle.xmp_syntax.specs.declared.expression.Expr.{Expr, fold-Expr}
+use Rattle.xmp_syntax.specs.declared.expression.Expr.{Expr}
+use Rattle.xmp_syntax.specs.declared.parts.CommaList.{CommaList}
+use Rattle.xmp_syntax.specs.declared.parts.Image.{Image}
+use Rattle.xmp_syntax.specs.declared.parts.Inside.{Inside}
+use Rattle.xmp_syntax.specs.declared.parts.Next.{Next}
+use Rattle.xmp_syntax.specs.declared.parts.Reference.{Reference}
+use Rattle.xmp_syntax.specs.declared.program.TopItem.TheVariants as top
+use Rattle.xmp_syntax.specs.declared.program.TopItem.{TopItem}
+use Rattle.xmp_syntax.specs.declared.program.Tree.{Tree}
+use Rattle.xmp_syntax.specs.declared.statement.BlockItem.TheVariants as b
+use Rattle.xmp_syntax.specs.declared.statement.BlockItem.{BlockItem}
+use Rattle.xmp_syntax.specs.declared.statement.ForFirst.TheVariants as for_first
+use Rattle.xmp_syntax.specs.declared.statement.ForFirst.{ForFirst}
+use Rattle.xmp_syntax.specs.declared.statement.ForHead.{ForHead}
+use Rattle.xmp_syntax.specs.declared.statement.Plain.TheVariants as plain
+use Rattle.xmp_syntax.specs.declared.statement.Plain.{Plain}
+use Rattle.xmp_syntax.specs.declared.statement.Simple.TheVariants as simple
+use Rattle.xmp_syntax.specs.declared.statement.Simple.{Simple}
+use Rattle.xmp_syntax.specs.declared.statement.Stmt.TheOpen.{Stmt-F}
+use Rattle.xmp_syntax.specs.declared.statement.Stmt.{Stmt, fold-Stmt}
+use Rattle.xmp_names.specs.Lists.{listed}
 
 -- Whether the number that a token is, if it is one, lies in its type.
 abbrev pub number_lies : TokenKind → Bool

@@ -1,11 +1,11 @@
 // The parts of a program fit.
 ghost use Rattle.std.specs.Prelude.{◌≡◌, ℕ, IsTrue, None, Option, true};
-ghost use Rattle.xmp_tree.specs.declared.program.Tree.{Tree};
+ghost use Rattle.xmp_syntax.specs.declared.program.Tree.{Tree};
 ghost use Rattle.xmp_prog.specs.declared.parts.ProgParts.{ProgParts};
 ghost use Rattle.xmp_prog.specs.Fits.{PartsFit};
-ghost use Rattle.xmp_elab.specs.Narrow.{is_count};
-ghost use Rattle.xmp_elab.specs.Parts.{IsParts};
-ghost use Rattle.xmp_elab.specs.Verdict.{verdict};
+ghost use Rattle.xmp_parts.specs.Narrow.{is_count};
+ghost use Rattle.xmp_parts.specs.Parts.{IsParts};
+ghost use Rattle.xmp_parts.specs.Verdict.{verdict};
 ghost use Rattle.xmp_fits.specs.NumbersLie.{tree_lies};
 
 /// For every tree whose numbers lie in their types, and a number of nodes that is missing or 1 to 16: where no rule of names or mappings breaks, the

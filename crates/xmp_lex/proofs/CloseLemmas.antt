@@ -9,7 +9,7 @@ use Rattle.xmp_lex.specs.declared.token.TokenKind.{TokenKind}
 use Rattle.xmp_lex.specs.declared.token.TokenKind.TheVariants as t
 use Rattle.xmp_lex.specs.Expand.{Definition, body_of, IsBody}
 use Rattle.xmp_lex.specs.Lines.{Closes, closes, IsFinished}
-use Rattle.xmp_lex.specs.Output.{is_close, IsClosePlace, Defines}
+use Rattle.xmp_lex.specs.Output.{is_close}
 
 pub close_is : (k : TokenKind) → is_close k ≡ true → k ≡ t.Close
 close_is (t.Name n) e = absurd (true≢false (sym e))
@@ -54,35 +54,19 @@ line_of (x ∷ ts) h = by x.kind refl h (λ g. line_of ts g) where
   by t.Close e g next = record { body = []; close = x; rest = ts; line = refl; is_body = All-nil (λ (y : Token). y.kind ≢ t.Close); closes = e }
   by t.Finish e g next = absurd g
 
-pub closes_not : (ts : List Token) → Closes ts → ((k : ℕ) (x : Token) → k < length ts → slice_get ts k ≡ Some x → is_close x.kind ≡ false) → ⊥
-closes_not ts h none =
-    let l = line_of ts h in
-    let n : length l.body < length ts = (let z = ap length l.line in omega (arith, length-append l.body (l.close ∷ l.rest))) in
-    let g : slice_get ts (length l.body) ≡ Some l.close = slice_get-get_or ts (length l.body) l.close n ∙ ap (λ us. Some (get_or us (length l.body) l.close)) l.line ∙ ap Some (get_or-append_seam l.body l.close l.rest l.close) in
-    true≢false (sym (ap is_close l.closes) ∙ none (length l.body) l.close n g)
-
-pub defined : (known new : List Definition) (name : List ℕ) (behind body back rest : List Token) (n : ℕ) → IsClosePlace behind n → body ≡ take n behind → back ≡ drop n behind → rest ≡ drop 1 back
-    → None ≡ body_of known name → new ≡ known ++ (name, body) ∷ [] → Defines known new name behind rest
-defined known new name behind body back rest n p b k r o a = let d : Token = record { kind = t.Close; at = record { line = 1; column = 1 } } in let z : Token = get_or behind n d in record {
-  body = body;
-  close = z;
-  line = sym (take-append-drop n behind) ∙ ap (λ us. take n behind ++ us) (drop-cons behind n d p.within) ∙ ap (λ us. us ++ z ∷ drop (suc n) behind) (sym b) ∙ ap (λ us. body ++ z ∷ us) (sym tail);
-  is_body = λ i e l. close_not _ (before i e l);
-  closes = close_is z.kind (p.here z (slice_get-get_or behind n d p.within));
-  is_new = sym o;
-  added = a;
-}
-  where
-    tail : rest ≡ drop (suc n) behind
-    tail = r ∙ ap (drop 1) k ∙ drop-drop 1 n behind ∙ ap (λ m. drop m behind) one where
-      one : n + 1 ≡ suc n
-      one = omega arith
-
-    before : (i : ℕ) (e : Token) → i < length body → is_close (get_or body i e).kind ≡ false
-    before i e l =
-        let w : i < n = (let q = ap length b in omega (arith, length-take n behind)) in
-        let q : get_or body i e ≡ get_or behind i e = ap (λ us. get_or us i e) b ∙ get_or-take n behind i e w in
-        ap (λ (y : Token). is_close y.kind) q ∙ p.before i (get_or behind i e) w (slice_get-get_or behind i e (let m = p.within in omega arith))
+-- tokens before a line's Close are no Close: what is left of the line
+pub left_open : (body : List Token) (x : Token) (rest : List Token) → is_close x.kind ≡ false → Closes (x ∷ rest) → Closes rest
+left_open body x rest f h = by x.kind f h where
+  by : (k : TokenKind) → is_close k ≡ false → closes k (Closes rest) → Closes rest
+  by (t.Name n) e g = g
+  by (t.Word w) e g = g
+  by (t.Number v ty) e g = g
+  by (t.Text bytes) e g = g
+  by (t.Mark m) e g = g
+  by (t.Define n) e g = absurd g
+  by t.Pragma e g = absurd g
+  by t.Close e g = absurd (true≢false e)
+  by t.Finish e g = absurd g
 
 -- tokens that end in a Finish
 fin_cons : (x : Token) (ts : List Token) → IsFinished ts → IsFinished (x ∷ ts)

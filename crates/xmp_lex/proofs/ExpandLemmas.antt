@@ -2,6 +2,7 @@
 use Rattle.std.proofs.Common.{◌≡◌, ◌<◌, ◌≤◌, ◌-◌, ◌++◌, ◌⊎◌, inl, inr, ℕ, zero, suc, List, [], ◌∷◌, length, refl, sym, ap, ◌∙◌, subst, arith, true, Option, Some, None, append_assoc, append-nil, All, length-append}
 use Rattle.std.proofs.lemmas.List.Elements.{All-nil, All-cons, All-head, All-tail, All-append}
 use Rattle.std.proofs.Math.Seq.{get_or-append_seam}
+use Rattle.xmp_base.specs.Limits.{token_limit}
 use Rattle.xmp_base.specs.declared.place.Place.{Place}
 use Rattle.xmp_base.specs.declared.refusal.Refusal.{Refusal}
 use Rattle.xmp_base.specs.declared.refusal.Fault.{Fault}
@@ -11,7 +12,6 @@ use Rattle.xmp_lex.specs.declared.token.Token.{Token}
 use Rattle.xmp_lex.specs.declared.token.TokenKind.{TokenKind}
 use Rattle.xmp_lex.specs.declared.token.TokenKind.TheVariants as t
 use Rattle.xmp_lex.specs.declared.output.Output.{Output}
-use Rattle.xmp_lex.specs.Cut.{token_limit}
 use Rattle.xmp_lex.specs.Expand.{Definition, definition_of, body_of, Event, again, Replaces, done, keep, replace, IsDefine, Expands, end, token, define, define_again, tokens_of, counts, BreaksMacroRule, twice, too_many, Expanded, BreaksMacros, IsMacroRefusal}
 use Rattle.xmp_lex.specs.Lines.{IsClosed, IsClosedBehind, IsFinished}
 use Rattle.xmp_lex.specs.Output.{Puts, Overflows, breaks_macro, IsSecond, Steps, BreaksAt}
@@ -102,12 +102,12 @@ text_next tokens known new x behind rest old output i (t.Mark m) e s = text_put 
 text_next tokens known new x behind rest old output i (t.Define name) e s =
     let d = s.0 in record {
       sofar = i.sofar;
-      to_come = λ later p. i.to_come later (subst (λ us. Expands known (x ∷ us) later) (sym d.line) (define known x d.close name d.body rest later e d.is_new d.is_body d.closes (subst (λ ds. Expands ds rest later) d.added p)));
+      to_come = λ later p. i.to_come later (subst (λ us. Expands known (x ∷ us) later) (sym d.is_line.line) (define known x d.is_line.close name d.body rest later e d.is_new d.is_line.is_body d.is_line.closes (subst (λ ds. Expands ds rest later) d.added p)));
       once = i.once;
       out_is = ap (λ (o : Output). o.tokens.items) s.1 ∙ i.out_is;
       count_is = ap (λ (o : Output). o.count) s.1 ∙ i.count_is;
       few = subst (λ (o : Output). o.count ≤ token_limit) (sym s.1) i.few;
-      closed = closed_behind d.body d.close rest (subst IsClosed d.line i.closed.1);
+      closed = closed_behind d.body d.is_line.close rest (subst IsClosed d.is_line.line i.closed.1);
     }
 text_next tokens known new x behind rest old output i t.Pragma e s = text_put tokens known new x behind rest old output i (not_define x _ e (λ z. z)) s
 text_next tokens known new x behind rest old output i t.Close e s = text_put tokens known new x behind rest old output i (not_define x _ e (λ z. z)) s

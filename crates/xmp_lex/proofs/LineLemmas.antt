@@ -3,10 +3,11 @@ use Rattle.std.proofs.Common.{◌≡◌, ◌≢◌, ◌++◌, ℕ, List, [], ◌
 use Rattle.xmp_lex.specs.declared.token.Token.{Token}
 use Rattle.xmp_lex.specs.declared.token.TokenKind.{TokenKind}
 use Rattle.xmp_lex.specs.declared.token.TokenKind.TheVariants as t
-use Rattle.xmp_lex.specs.declared.mode.Mode.{Mode}
-use Rattle.xmp_lex.specs.declared.mode.Mode.TheVariants as mode
+use Rattle.xmp_lex.specs.LineStates.{LineState}
+use Rattle.xmp_lex.specs.LineStates as state
 use Rattle.xmp_lex.specs.Pieces.{Spelled, name, word, number, quoted, mark, define, include, pragma, other_pragma}
-use Rattle.xmp_lex.specs.Cut.{Piece, white, comment, token, hash, line_space, skip, close, IsOutside, IsHashLine, behind_white, behind_token, at_end, Front, Cuts, none, piece, placed, ending, Cut}
+use Rattle.xmp_lex.specs.Cut.{Piece, white, comment, token, hash, line_space, skip, close, Front, Cuts, none, piece, placed, ending, Cut}
+use Rattle.xmp_lex.specs.LineStates.{IsOutside, IsHashLine, behind_white, behind_token, at_end}
 use Rattle.xmp_lex.proofs.CloseLemmas.{fin_append}
 use Rattle.xmp_lex.specs.Lines.{IsFinished, closes, Closes, IsClosed, IsClosedBehind}
 
@@ -103,8 +104,8 @@ pub record OpenLine (ts : List Token) : Type 0 where
   pub plain : ArePlain body
 
 -- the lines so far, at each mode
-abbrev pub Lines : Mode → List Token → Type 0
-Lines mode.Directive ts = OpenLine ts
+abbrev pub Lines : LineState → List Token → Type 0
+Lines state.directive ts = OpenLine ts
 Lines _ ts = IsClosed ts
 
 plain_last : (ts : List Token) (x : Token) → IsPlain x.kind → IsClosed ts → IsClosed (ts ++ x ∷ [])
@@ -146,64 +147,64 @@ closed_last ts c e o = subst IsClosed (sym (ap (λ us. us ++ c ∷ []) o.are ∙
     by t.Close = tt
     by t.Finish = tt
 
-same : (ts : List Token) (x : Mode) → Lines x ts → Lines x (ts ++ [])
+same : (ts : List Token) (x : LineState) → Lines x ts → Lines x (ts ++ [])
 same ts x h = subst (Lines x) (sym (append-nil ts)) h
 
-after_white : (ts : List Token) (x : Mode) (b : Bool) → IsOutside x → Lines x ts → Lines (behind_white x b) ts
-after_white ts mode.Start true o h = h
-after_white ts mode.Start false o h = h
-after_white ts mode.Middle true o h = h
-after_white ts mode.Middle false o h = h
-after_white ts mode.Directive b o h = absurd o
-after_white ts mode.Ignored b o h = absurd o
+after_white : (ts : List Token) (x : LineState) (b : Bool) → IsOutside x → Lines x ts → Lines (behind_white x b) ts
+after_white ts state.fresh true o h = h
+after_white ts state.fresh false o h = h
+after_white ts state.begun true o h = h
+after_white ts state.begun false o h = h
+after_white ts state.directive b o h = absurd o
+after_white ts state.ignored b o h = absurd o
 
-after_token : (ts : List Token) (x : Mode) (k : Token) → x ≢ mode.Ignored → IsPlain k.kind → Lines x ts → Lines (behind_token x) (ts ++ k ∷ [])
-after_token ts mode.Start k i p h = plain_last ts k p h
-after_token ts mode.Middle k i p h = plain_last ts k p h
-after_token ts mode.Directive k i p h = open_last ts k p h
-after_token ts mode.Ignored k i p h = absurd (i refl)
+after_token : (ts : List Token) (x : LineState) (k : Token) → x ≢ state.ignored → IsPlain k.kind → Lines x ts → Lines (behind_token x) (ts ++ k ∷ [])
+after_token ts state.fresh k i p h = plain_last ts k p h
+after_token ts state.begun k i p h = plain_last ts k p h
+after_token ts state.directive k i p h = open_last ts k p h
+after_token ts state.ignored k i p h = absurd (i refl)
 
 opened : (ts : List Token) (d : Token) → IsClosed ts → OpenLine (ts ++ d ∷ [])
 unfolding ArePlain
 opened ts d h = record { before = ts; head = d; body = []; are = refl; closed = h; plain = tt }
 
-lines_piece : (text : List ℕ) (x y : Mode) (n : ℕ) (out : List (ℕ × TokenKind)) (f : Front) → Piece text x n out y → Lines x f.tokens → Lines y (f.tokens ++ placed f.at text out)
+lines_piece : (text : List ℕ) (x y : LineState) (n : ℕ) (out : List (ℕ × TokenKind)) (f : Front) → Piece text x n out y → Lines x f.tokens → Lines y (f.tokens ++ placed f.at text out)
 lines_piece text x _ n _ f (white _ o w) h = same f.tokens _ (after_white f.tokens x _ o h)
 lines_piece text x _ n _ f (comment _ _ o c) h = same f.tokens x h
 lines_piece text x _ n _ f (token _ _ kind i s) h = after_token f.tokens x _ i (spelled_plain text n kind s) h
 lines_piece text _ _ n _ f (hash _ _ _ b (define m k r hd s p)) h = opened f.tokens _ h
-lines_piece text _ _ n _ f (hash _ _ _ b (include m hd e)) h = same f.tokens mode.Ignored h
-lines_piece text _ _ n _ f (hash _ _ _ b (pragma m k hd r e)) h = opened f.tokens _ h
-lines_piece text _ _ n _ f (hash _ _ _ b (other_pragma m k hd r e)) h = same f.tokens mode.Ignored h
+lines_piece text _ _ n _ f (hash _ _ _ b (include m hd e)) h = same f.tokens state.ignored h
+lines_piece text _ _ n _ f (hash _ _ _ b (pragma m x)) h = opened f.tokens _ h
+lines_piece text _ _ n _ f (hash _ _ _ b (other_pragma m w o)) h = same f.tokens state.ignored h
 lines_piece text x _ n _ f (line_space _ _ o g) h = same f.tokens x h
-lines_piece text _ _ n _ f (skip e g u) h = same f.tokens mode.Ignored h
+lines_piece text _ _ n _ f (skip e g u) h = same f.tokens state.ignored h
 lines_piece text x _ n _ f (close _ o e) h = by x o h where
-  by : (y : Mode) → IsHashLine y → Lines y f.tokens → IsClosed (f.tokens ++ placed f.at text (map (λ k. (0, k)) (at_end y)))
-  by mode.Start o h = absurd o
-  by mode.Middle o h = absurd o
-  by mode.Directive o h = closed_last f.tokens _ refl h
-  by mode.Ignored o h = same f.tokens mode.Start h
+  by : (y : LineState) → IsHashLine y → Lines y f.tokens → IsClosed (f.tokens ++ placed f.at text (map (λ k. (0, k)) (at_end y)))
+  by state.fresh o h = absurd o
+  by state.begun o h = absurd o
+  by state.directive o h = closed_last f.tokens _ refl h
+  by state.ignored o h = same f.tokens state.fresh h
 
-lines_cut : (text : List ℕ) (f : Front) → Cuts text f → Lines f.mode f.tokens
+lines_cut : (text : List ℕ) (f : Front) → Cuts text f → Lines f.state f.tokens
 lines_cut text _ none = tt
-lines_cut text _ (piece f n out x c some p) = lines_piece f.rest f.mode x n out f p (lines_cut text f c)
+lines_cut text _ (piece f n out x c some p) = lines_piece f.rest f.state x n out f p (lines_cut text f c)
 
-closed_ending : (x : Mode) (ts : List Token) (f : Front) → Lines x ts → IsClosed (ts ++ ending x f.at)
-closed_ending mode.Start ts f h = closed_append ts _ h (tt, tt)
-closed_ending mode.Middle ts f h = closed_append ts _ h (tt, tt)
-closed_ending mode.Directive ts f h =
+closed_ending : (x : LineState) (ts : List Token) (f : Front) → Lines x ts → IsClosed (ts ++ ending x f.at)
+closed_ending state.fresh ts f h = closed_append ts _ h (tt, tt)
+closed_ending state.begun ts f h = closed_append ts _ h (tt, tt)
+closed_ending state.directive ts f h =
     let c : Token = record { kind = t.Close; at = f.at } in let e : Token = record { kind = t.Finish; at = f.at } in
     subst IsClosed (append_assoc ts (c ∷ []) (e ∷ [])) (closed_append (ts ++ c ∷ []) (e ∷ []) (closed_last ts c refl h) (tt, tt))
-closed_ending mode.Ignored ts f h = closed_append ts _ h (tt, tt)
+closed_ending state.ignored ts f h = closed_append ts _ h (tt, tt)
 
 pub cut_closed : (text : List ℕ) (tokens : List Token) → Cut text tokens → IsClosed tokens
-cut_closed text tokens c = subst IsClosed (sym c.tokens_are) (closed_ending c.front.mode c.front.tokens c.front (lines_cut text c.front c.cuts))
+cut_closed text tokens c = subst IsClosed (sym c.tokens_are) (closed_ending c.front.state c.front.tokens c.front (lines_cut text c.front c.cuts))
 
-finished_ending : (x : Mode) (f : Front) → IsFinished (ending x f.at)
-finished_ending mode.Start f = refl
-finished_ending mode.Middle f = refl
-finished_ending mode.Directive f = refl
-finished_ending mode.Ignored f = refl
+finished_ending : (x : LineState) (f : Front) → IsFinished (ending x f.at)
+finished_ending state.fresh f = refl
+finished_ending state.begun f = refl
+finished_ending state.directive f = refl
+finished_ending state.ignored f = refl
 
 pub cut_finished : (text : List ℕ) (tokens : List Token) → Cut text tokens → IsFinished tokens
-cut_finished text tokens c = subst IsFinished (sym c.tokens_are) (fin_append c.front.tokens (ending c.front.mode c.front.at) (finished_ending c.front.mode c.front))
+cut_finished text tokens c = subst IsFinished (sym c.tokens_are) (fin_append c.front.tokens (ending c.front.state c.front.at) (finished_ending c.front.state c.front))

@@ -2,12 +2,14 @@
 use Rattle.std.proofs.Common.{◌≡◌, ◌≢◌, ◌≤◌, ◌++◌, ℕ, List, [], ◌∷◌, length, refl, sym, ap, ◌∙◌, subst, arith, true, Some, None, All, length-append, true≢false, append_assoc}
 use Rattle.std.proofs.lemmas.List.Elements.{All-nil, All-cons, All-append, All-head, All-tail}
 use Rattle.std.proofs.Math.Seq.{get_or-append_seam}
+use Rattle.xmp_base.specs.Limits.{token_limit}
 use Rattle.xmp_base.specs.declared.place.Place.{Place}
+use Rattle.xmp_base.specs.declared.refusal.Fault.{Fault}
+use Rattle.xmp_base.specs.declared.refusal.Fault.TheVariants as fault
 use Rattle.xmp_lex.specs.declared.token.Token.{Token}
 use Rattle.xmp_lex.specs.declared.token.TokenKind.{TokenKind}
 use Rattle.xmp_lex.specs.declared.token.TokenKind.TheVariants as t
-use Rattle.xmp_lex.specs.Cut.{token_limit}
-use Rattle.xmp_lex.specs.Expand.{Definition, body_of, moved, Event, out, used, again, Replaces, done, keep, replace, IsDefine, IsBody, Expands, end, token, define, define_again, tokens_of, counts, place_of, IsFine, BreaksMacroRule, twice, too_many, Expanded, BreaksMacros}
+use Rattle.xmp_lex.specs.Expand.{IsMacroRefusal, Definition, body_of, moved, Event, out, used, again, Replaces, done, keep, replace, IsDefine, IsBody, Expands, end, token, define, define_again, tokens_of, counts, place_of, IsFine, BreaksMacroRule, twice, too_many, Expanded, BreaksMacros}
 
 some_is : {X : Type 0} {x y : X} → Some x ≡ Some y → x ≡ y
 some_is e = cc
@@ -129,6 +131,11 @@ fine_breaks es _ _ k (too_many before us e h c f l) = let z = ap length h in let
 
 pub never_both : (tokens result : List Token) (rule : ℕ) (at : Place) → Expanded tokens result → BreaksMacros tokens rule at → ⊥
 never_both tokens result rule at e b = fine_breaks b.events rule at (subst IsFine (one_expansion tokens e.events b.events e.expands b.expands) e.fine) b.breaks
+
+-- where tokens are expanded, no refusal is answered
+pub only_memory : (tokens result : List Token) (e : Fault) → Expanded tokens result → IsMacroRefusal tokens e → e ≡ fault.NoMemory
+only_memory tokens result fault.NoMemory x b = refl
+only_memory tokens result (fault.Refused r) x b = absurd (never_both tokens result r.rule r.at x b.1)
 
 pub one_result : (tokens a b : List Token) → Expanded tokens a → Expanded tokens b → a ≡ b
 one_result tokens a b e f = e.result_is ∙ ap tokens_of (one_expansion tokens e.events f.events e.expands f.expands) ∙ sym f.result_is

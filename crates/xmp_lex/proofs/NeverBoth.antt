@@ -1,17 +1,21 @@
 -- Where a piece is, no rule breaks; and the cut of a text is unique.
 use Rattle.std.proofs.Common.{◌≡◌, ◌≢◌, ◌<◌, ◌≤◌, ◌++◌, ℕ, List, [], ◌∷◌, length, take, drop, get_or, refl, sym, ap, ◌∙◌, arith, subst, true, false, ◌⊎◌, inl, inr, Some, length-append, slice_get}
 use Rattle.std.proofs.lemmas.Option.{slice_get_within}
+use Rattle.xmp_base.specs.Limits.{token_limit}
+use Rattle.xmp_base.specs.declared.refusal.Fault.{Fault}
+use Rattle.xmp_base.specs.declared.refusal.Fault.TheVariants as fault
 use Rattle.xmp_lex.specs.declared.token.Token.{Token}
 use Rattle.xmp_base.specs.declared.place.Place.{Place}
 use Rattle.xmp_lex.specs.declared.token.TokenKind.{TokenKind}
-use Rattle.xmp_lex.specs.declared.mode.Mode.{Mode}
-use Rattle.xmp_lex.specs.declared.mode.Mode.TheVariants as mode
+use Rattle.xmp_lex.specs.LineStates.{LineState}
+use Rattle.xmp_lex.specs.LineStates as state
 use Rattle.xmp_lex.specs.declared.token.Mark.TheVariants as m
 use Rattle.xmp_lex.specs.Bytes.{is_white, is_digit, is_letter, is_word, IsNumber, IsTextEnd, is_end, escaped}
 use Rattle.xmp_lex.specs.Words.{mark_text, BeginsWith}
 use Rattle.xmp_lex.specs.Pieces.{Spelled, name, word, number, quoted, mark, Malformed, stray, unknown_escape, unclosed, no_number, Comment, block, line, Unclosed, LineSpace, IsBlockStart, IsLineStart}
 use Rattle.xmp_lex.specs.Pieces as p
-use Rattle.xmp_lex.specs.Cut.{Piece, white, comment, token, hash, line_space, skip, close, Broken, unclosed_comment, no_form, no_token, IsHashLine, Front, start, after, placed, behind, Cuts, none, piece, Cut, BreaksLexRule, broken, too_many, too_many_last, last, token_limit, ending}
+use Rattle.xmp_lex.specs.Cut.{IsRefused, Piece, white, comment, token, hash, line_space, skip, close, Broken, unclosed_comment, no_form, no_token, Front, start, after, placed, behind, Cuts, none, piece, Cut, BreaksLexRule, broken, too_many, too_many_last, last, ending}
+use Rattle.xmp_lex.specs.LineStates.{IsHashLine}
 use Rattle.xmp_lex.proofs.SpaceLemmas as sp
 use Rattle.xmp_lex.proofs.Unique.{one_run, class, class_of, first_class}
 use Rattle.xmp_lex.proofs.OnePiece.{first_fine, fine, one_piece}
@@ -111,13 +115,13 @@ malformed_space text n rule k (p.splice _ i) j s = j n i
 malformed_space text n rule k (p.comment _ c d) j s = malformed_slash text rule k (sp.slash text n c) s
 malformed_space text n rule k (p.comment_splice i _ c d e) j s = malformed_slash text rule k (sp.slash text i c) s
 
-line_is : (x : Mode) → IsHashLine x → x ≢ mode.Ignored → x ≡ mode.Directive
-line_is mode.Start l i = absurd l
-line_is mode.Middle l i = absurd l
-line_is mode.Directive l i = refl
-line_is mode.Ignored l i = absurd (i refl)
+line_is : (x : LineState) → IsHashLine x → x ≢ state.ignored → x ≡ state.directive
+line_is state.fresh l i = absurd l
+line_is state.begun l i = absurd l
+line_is state.directive l i = refl
+line_is state.ignored l i = absurd (i refl)
 
-pub piece_broken : (text : List ℕ) (x : Mode) (n : ℕ) (out : List (ℕ × TokenKind)) (y : Mode) (rule k : ℕ) → Piece text x n out y → Broken text x rule k → ⊥
+pub piece_broken : (text : List ℕ) (x : LineState) (n : ℕ) (out : List (ℕ × TokenKind)) (y : LineState) (rule k : ℕ) → Piece text x n out y → Broken text x rule k → ⊥
 piece_broken text x n out y rule k (white _ o w) (unclosed_comment _ c) = white_at (get_or text 0 0) 47 w c.begins.0 refl
 piece_broken text x n out y rule k (white _ o w) (no_form e f) = white_at (get_or text 0 0) 35 w e refl
 piece_broken text x n out y rule k (white _ o w) (no_token _ _ _ i h j s) = malformed_white text rule k w s
@@ -142,13 +146,13 @@ piece_broken text x n out y rule k (close _ l e) (no_token _ _ _ i h j r) = malf
 -- one front reaches another by pieces
 pub data Reach : Front → Front → Type 0 where
   here : (f g : Front) → f ≡ g → Reach f g
-  step : (f g : Front) (n : ℕ) (out : List (ℕ × TokenKind)) (x : Mode) → 0 < length f.rest → Piece f.rest f.mode n out x → Reach (after f n out x) g → Reach f g
+  step : (f g : Front) (n : ℕ) (out : List (ℕ × TokenKind)) (x : LineState) → 0 < length f.rest → Piece f.rest f.state n out x → Reach (after f n out x) g → Reach f g
 
-on : (f g : Front) (n : ℕ) (out : List (ℕ × TokenKind)) (x : Mode) → Reach f g → 0 < length g.rest → Piece g.rest g.mode n out x → Reach f (after g n out x)
+on : (f g : Front) (n : ℕ) (out : List (ℕ × TokenKind)) (x : LineState) → Reach f g → 0 < length g.rest → Piece g.rest g.state n out x → Reach f (after g n out x)
 on f g n out x (here _ _ e) l q = subst (λ (h : Front). Reach h (after g n out x)) (sym e) (step g (after g n out x) n out x l q (here (after g n out x) (after g n out x) refl))
 on f g n out x (step _ _ k o y a b r) l q = step f (after g n out x) k o y a b (on (after f k o y) g n out x r l q)
 
-same_after : (f : Front) (n k : ℕ) (o u : List (ℕ × TokenKind)) (x y : Mode) → (n ≡ k) × (o ≡ u) × (x ≡ y) → after f n o x ≡ after f k u y
+same_after : (f : Front) (n k : ℕ) (o u : List (ℕ × TokenKind)) (x y : LineState) → (n ≡ k) × (o ≡ u) × (x ≡ y) → after f n o x ≡ after f k u y
 same_after f n k o u x y e = ap (λ i. after f i o x) e.0 ∙ ap (λ i. after f k i x) e.1 ∙ ap (λ i. after f k u i) e.2
 
 ahead : (text : List ℕ) (g : Front) → Cuts text g → Reach (start text) g
@@ -160,7 +164,7 @@ linear : (a f g : Front) → Reach a f → Reach a g → Reach f g ⊎ Reach g f
 linear a f g (here _ _ e) r = inl (subst (λ (h : Front). Reach h g) e r)
 linear a f g (step _ _ n o x l q r) (here _ _ e) = inr (subst (λ (h : Front). Reach h f) e (step a f n o x l q r))
 linear a f g (step _ _ n o x l q r) (step _ _ k u y m s t) =
-    linear (after a n o x) f g r (subst (λ (h : Front). Reach h g) (same_after a k n u o y x (one_piece a.rest a.mode k n u o y x s q)) t)
+    linear (after a n o x) f g r (subst (λ (h : Front). Reach h g) (same_after a k n u o y x (one_piece a.rest a.state k n u o y x s q)) t)
 
 grows : (f g : Front) → Reach f g → length f.tokens ≤ length g.tokens
 grows f g (here _ _ e) = let h = ap (λ (z : Front). length z.tokens) e in omega arith
@@ -170,9 +174,9 @@ stops : (f g : Front) → length f.rest ≡ 0 → Reach f g → f ≡ g
 stops f g z (here _ _ e) = e
 stops f g z (step _ _ n o x l q r) = absurd (omega arith)
 
-sticks : (f g : Front) (rule k : ℕ) → Broken f.rest f.mode rule k → Reach f g → f ≡ g
+sticks : (f g : Front) (rule k : ℕ) → Broken f.rest f.state rule k → Reach f g → f ≡ g
 sticks f g rule k b (here _ _ e) = e
-sticks f g rule k b (step _ _ n o x l q r) = absurd (piece_broken f.rest f.mode n o x rule k q b)
+sticks f g rule k b (step _ _ n o x l q r) = absurd (piece_broken f.rest f.state n o x rule k q b)
 
 pub never_both : (text : List ℕ) (tokens : List Token) (rule : ℕ) (at : Place) → Cut text tokens → BreaksLexRule text rule at → ⊥
 never_both text tokens rule at c (broken g _ k d few some b) =
@@ -184,7 +188,7 @@ never_both text tokens rule at c (broken g _ k d few some b) =
 never_both text tokens rule at c (too_many g n out x bad d few some q s) =
     let z : length c.front.rest ≡ 0 = ap length c.whole in
     let w : 200000 < length (g.tokens ++ placed g.at g.rest out) = slice_get_within (g.tokens ++ placed g.at g.rest out) token_limit bad s in
-    let many : length c.front.tokens ≤ length tokens = (let e = ap length c.tokens_are in omega (arith, length-append c.front.tokens (ending c.front.mode c.front.at))) in
+    let many : length c.front.tokens ≤ length tokens = (let e = ap length c.tokens_are in omega (arith, length-append c.front.tokens (ending c.front.state c.front.at))) in
     elim (linear (start text) c.front (after g n out x) (ahead text c.front c.cuts) (on (start text) g n out x (ahead text g d) some q)) [
       | inl r ↦ (let e = ap (λ (h : Front). length h.tokens) (stops c.front (after g n out x) z r) in let f = c.few in omega arith)
       | inr r ↦ (let e = grows (after g n out x) c.front r in let f = c.few in omega arith)
@@ -195,6 +199,11 @@ never_both text tokens rule at c (too_many_last g bad d few zr s) =
     let w : 200000 < length (last g) = slice_get_within (last g) token_limit bad s in
     let same : c.front ≡ g = elim (linear (start text) c.front g (ahead text c.front c.cuts) (ahead text g d)) [ inl r ↦ stops c.front g z r | inr r ↦ sym (stops g c.front y r) ] in
     let e = ap length c.tokens_are in let h = ap (λ (v : Front). length (last v)) same in let f = c.few in omega arith
+
+-- where a text is cut, no refusal is answered
+pub only_memory : (text : List ℕ) (tokens : List Token) (e : Fault) → Cut text tokens → IsRefused text e → e ≡ fault.NoMemory
+only_memory text tokens fault.NoMemory c b = refl
+only_memory text tokens (fault.Refused r) c b = absurd (never_both text tokens r.rule r.at c b.1)
 
 pub one_cut : (text : List ℕ) (tokens others : List Token) → Cut text tokens → Cut text others → tokens ≡ others
 one_cut text tokens others c d =
@@ -223,7 +232,7 @@ malformed_one text r s k j (no_number n2 h e2 g2) (unknown_escape n _ q e c l b 
 malformed_one text r s k j (no_number n2 h e2 g2) (unclosed n q e c) = absurd (quote_digit (get_or text 0 0) q h)
 malformed_one text r s k j (no_number n h e g) (no_number n2 h2 e2 g2) = (refl, refl)
 
-broken_one : (text : List ℕ) (x : Mode) (r s k j : ℕ) → Broken text x r k → Broken text x s j → (r ≡ s) × (k ≡ j)
+broken_one : (text : List ℕ) (x : LineState) (r s k j : ℕ) → Broken text x r k → Broken text x s j → (r ≡ s) × (k ≡ j)
 broken_one text x r s k j (unclosed_comment _ o) (unclosed_comment _ q) = (refl, refl)
 broken_one text x r s k j (unclosed_comment _ o) (no_form e f) = absurd (let h = o.begins.0 in omega arith)
 broken_one text x r s k j (unclosed_comment _ o) (no_token _ _ _ i h z q) = absurd (malformed_slash text s j o.begins.0 q)
@@ -234,7 +243,7 @@ broken_one text x r s k j (no_token _ _ _ i h z q) (unclosed_comment _ o) = absu
 broken_one text x r s k j (no_token _ _ _ i h z q) (no_form e f) = absurd (h refl e)
 broken_one text x r s k j (no_token _ _ _ i h z q) (no_token _ _ _ i2 h2 z2 q2) = malformed_one text r s k j q q2
 
-meet : (text : List ℕ) (f g : Front) → Cuts text f → Cuts text g → Reach f g ⊎ Reach g f
+pub meet : (text : List ℕ) (f g : Front) → Cuts text f → Cuts text g → Reach f g ⊎ Reach g f
 meet text f g c d = linear (start text) f g (ahead text f c) (ahead text g d)
 
 some_same : (a b : Token) → Some a ≡ Some b → a ≡ b
@@ -243,35 +252,35 @@ some_same a b e = cc
 abbrev pub Agreed : ℕ → ℕ → Place → Place → Type 0
 Agreed r s a b = (r ≡ s) × (a ≡ b)
 
-same_broken : (f g : Front) (r s k j : ℕ) → f ≡ g → Broken f.rest f.mode r k → Broken g.rest g.mode s j → Agreed r s (behind f.at (take k f.rest)) (behind g.at (take j g.rest))
+same_broken : (f g : Front) (r s k j : ℕ) → f ≡ g → Broken f.rest f.state r k → Broken g.rest g.state s j → Agreed r s (behind f.at (take k f.rest)) (behind g.at (take j g.rest))
 same_broken f g r s k j e b d =
-    let o = broken_one g.rest g.mode r s k j (subst (λ (h : Front). Broken h.rest h.mode r k) e b) d in
+    let o = broken_one g.rest g.state r s k j (subst (λ (h : Front). Broken h.rest h.state r k) e b) d in
     (o.0, ap (λ i. behind f.at (take i f.rest)) o.1 ∙ ap (λ (h : Front). behind h.at (take j h.rest)) e)
 
-broken_many : (text : List ℕ) (f g : Front) (r k n : ℕ) (out : List (ℕ × TokenKind)) (x : Mode) → Cuts text f → length f.tokens ≤ 200000 → Broken f.rest f.mode r k → Cuts text (after g n out x) → 200000 < length (after g n out x).tokens → ⊥
+broken_many : (text : List ℕ) (f g : Front) (r k n : ℕ) (out : List (ℕ × TokenKind)) (x : LineState) → Cuts text f → length f.tokens ≤ 200000 → Broken f.rest f.state r k → Cuts text (after g n out x) → 200000 < length (after g n out x).tokens → ⊥
 broken_many text f g r k n out x c few b d m2 = elim (meet text f (after g n out x) c d) [
   | inl t ↦ (let e = ap (λ (h : Front). length h.tokens) (sticks f (after g n out x) r k b t) in omega arith)
   | inr t ↦ (let e = grows (after g n out x) f t in omega arith)
 ]
 
-last_many : (text : List ℕ) (f g : Front) (n : ℕ) (out : List (ℕ × TokenKind)) (x : Mode) → Cuts text f → length f.tokens ≤ 200000 → length f.rest ≡ 0 → Cuts text (after g n out x) → 200000 < length (after g n out x).tokens → ⊥
+last_many : (text : List ℕ) (f g : Front) (n : ℕ) (out : List (ℕ × TokenKind)) (x : LineState) → Cuts text f → length f.tokens ≤ 200000 → length f.rest ≡ 0 → Cuts text (after g n out x) → 200000 < length (after g n out x).tokens → ⊥
 last_many text f g n out x c few z d m2 = elim (meet text f (after g n out x) c d) [
   | inl t ↦ (let e = ap (λ (h : Front). length h.tokens) (stops f (after g n out x) z t) in omega arith)
   | inr t ↦ (let e = grows (after g n out x) f t in omega arith)
 ]
 
-broken_last : (text : List ℕ) (f g : Front) (r k : ℕ) → Cuts text f → 0 < length f.rest → Broken f.rest f.mode r k → Cuts text g → length g.rest ≡ 0 → ⊥
+broken_last : (text : List ℕ) (f g : Front) (r k : ℕ) → Cuts text f → 0 < length f.rest → Broken f.rest f.state r k → Cuts text g → length g.rest ≡ 0 → ⊥
 broken_last text f g r k c some b d z = elim (meet text f g c d) [
   | inl t ↦ (let e = ap (λ (h : Front). length h.rest) (sticks f g r k b t) in omega arith)
   | inr t ↦ (let e = ap (λ (h : Front). length h.rest) (stops g f z t) in omega arith)
 ]
 
 -- the front at which the limit is passed
-passing : (f g : Front) (n k : ℕ) (o u : List (ℕ × TokenKind)) (x y : Mode) → Reach f g → Piece f.rest f.mode n o x → Piece g.rest g.mode k u y → length g.tokens ≤ 200000 → 200000 < length (after f n o x).tokens → after f n o x ≡ after g k u y
+passing : (f g : Front) (n k : ℕ) (o u : List (ℕ × TokenKind)) (x y : LineState) → Reach f g → Piece f.rest f.state n o x → Piece g.rest g.state k u y → length g.tokens ≤ 200000 → 200000 < length (after f n o x).tokens → after f n o x ≡ after g k u y
 passing f g n k o u x y (here _ _ e) p2 q few m2 =
-    same_after f n k o u x y (one_piece f.rest f.mode n k o u x y p2 (subst (λ (h : Front). Piece h.rest h.mode k u y) (sym e) q)) ∙ ap (λ (h : Front). after h k u y) e
+    same_after f n k o u x y (one_piece f.rest f.state n k o u x y p2 (subst (λ (h : Front). Piece h.rest h.state k u y) (sym e) q)) ∙ ap (λ (h : Front). after h k u y) e
 passing f g n k o u x y (step _ _ i w z l a r) p2 q few m2 =
-    let e = ap (λ (h : Front). length h.tokens) (same_after f n i o w x z (one_piece f.rest f.mode n i o w x z p2 a)) in
+    let e = ap (λ (h : Front). length h.tokens) (same_after f n i o w x z (one_piece f.rest f.state n i o w x z p2 a)) in
     let h = grows (after f i w z) g r in absurd (omega arith)
 
 one_bad : (f g : Front) (a b : Token) → f ≡ g → slice_get f.tokens token_limit ≡ Some a → slice_get g.tokens token_limit ≡ Some b → Agreed 5 5 a.at b.at

@@ -2,17 +2,18 @@
 use Rattle.std.proofs.Common.{◌≡◌, ◌+◌, ◌==◌, ◌&&◌, ℕ, List, [], ◌∷◌, take, drop, get_or, refl, sym, ap, ◌∙◌, arith, subst, true, Bool, not}
 use Rattle.xmp_lex.specs.declared.token.TokenKind.{TokenKind}
 use Rattle.xmp_lex.specs.declared.token.TokenKind.TheVariants as t
-use Rattle.xmp_lex.specs.declared.mode.Mode.{Mode}
-use Rattle.xmp_lex.specs.declared.mode.Mode.TheVariants as mode
+use Rattle.xmp_lex.specs.LineStates.{LineState}
+use Rattle.xmp_lex.specs.LineStates as state
 use Rattle.xmp_lex.specs.declared.token.Mark.{Mark}
 use Rattle.xmp_lex.specs.declared.token.Mark.TheVariants as m
 use Rattle.xmp_lex.specs.Bytes.{is_white, is_digit, is_letter, IsRun}
 use Rattle.xmp_lex.specs.Words.{mark_text}
 use Rattle.xmp_lex.specs.Pieces.{Spelled, name, word, number, quoted, mark, Comment, block, line, Unclosed, LineSpace, LineSpaces, LineHead, LineForm, define, include, pragma, other_pragma, IsBlockStart, IsLineStart}
 use Rattle.xmp_lex.specs.Pieces as p
-use Rattle.xmp_lex.specs.Cut.{Piece, white, comment, token, hash, line_space, skip, close, IsOutside, IsHashLine, behind_token}
+use Rattle.xmp_lex.specs.Cut.{Piece, white, comment, token, hash, line_space, skip, close}
+use Rattle.xmp_lex.specs.LineStates.{IsOutside, IsHashLine, behind_token}
 use Rattle.xmp_lex.proofs.SpaceLemmas.{one_comment, one_space, slash, backslash}
-use Rattle.xmp_lex.proofs.Heads.{one_head}
+use Rattle.xmp_lex.proofs.Heads.{one_head, one_line_word, one_xmp}
 use Rattle.xmp_lex.proofs.Unique.{one_spelled, first_of, one_run}
 
 -- bytes that begin a token: no white space, `#` or `\`
@@ -127,13 +128,13 @@ space_feed text n (p.splice _ j) h = let b = backslash text n j in omega arith
 space_feed text n (p.comment _ c d) h = let b = slash text n c in omega arith
 space_feed text n (p.comment_splice i _ c d e) h = let b = slash text i c in omega arith
 
-out_line : (x : Mode) → IsOutside x → IsHashLine x → ⊥
-out_line mode.Start o l = l
-out_line mode.Middle o l = l
-out_line mode.Directive o l = o
-out_line mode.Ignored o l = o
+out_line : (x : LineState) → IsOutside x → IsHashLine x → ⊥
+out_line state.fresh o l = l
+out_line state.begun o l = l
+out_line state.directive o l = o
+out_line state.ignored o l = o
 
-abbrev pub Same : ℕ → ℕ → List (ℕ × TokenKind) → List (ℕ × TokenKind) → Mode → Mode → Type 0
+abbrev pub Same : ℕ → ℕ → List (ℕ × TokenKind) → List (ℕ × TokenKind) → LineState → LineState → Type 0
 Same n k out out2 y z = (n ≡ k) × (out ≡ out2) × (y ≡ z)
 
 codes_apart : (a b : ℕ) (v w : List ℕ) (i : ℕ) → v ≡ w → get_or v i 0 ≡ a → get_or w i 0 ≡ b → (a ≡ b → ⊥) → ⊥
@@ -154,30 +155,30 @@ define_same text n j k l r q e s z =
     define_out : (a b : ℕ) (c d : List ℕ) → a ≡ b → c ≡ d → one_out a (t.Define c) ≡ one_out b (t.Define d)
     define_out a b c d h g = cc
 
-pub one_form : (text : List ℕ) (n k : ℕ) (out out2 : List (ℕ × TokenKind)) (y z : Mode) → LineForm text n out y → LineForm text k out2 z → Same n k out out2 y z
+pub one_form : (text : List ℕ) (n k : ℕ) (out out2 : List (ℕ × TokenKind)) (y z : LineState) → LineForm text n out y → LineForm text k out2 z → Same n k out out2 y z
 one_form text n k out out2 y z (define n1 k1 r1 h1 s1 p1) (define n2 k2 r2 h2 s2 p2) = let d = define_same text n1 n2 k1 k2 r1 r2 (one_head text n1 n2 _ _ h1 h2).0 s1 s2 in (d.0, d.1, refl)
 one_form text n k out out2 y z (define n1 k1 r1 h1 s1 p1) (include n2 h2 e2) = absurd (let e = ap (λ xs. get_or xs 0 0) (one_head text n1 n2 _ _ h1 h2).1 in omega arith)
-one_form text n k out out2 y z (define n1 k1 r1 h1 s1 p1) (pragma n2 k2 h2 r2 e2) = absurd (let e = ap (λ xs. get_or xs 0 0) (one_head text n1 n2 _ _ h1 h2).1 in omega arith)
-one_form text n k out out2 y z (define n1 k1 r1 h1 s1 p1) (other_pragma n2 k2 h2 r2 e2) = absurd (let e = ap (λ xs. get_or xs 0 0) (one_head text n1 n2 _ _ h1 h2).1 in omega arith)
+one_form text n k out out2 y z (define n1 k1 r1 h1 s1 p1) (pragma n2 x2) = absurd (let e = ap (λ xs. get_or xs 0 0) (one_line_word text h1.front x2.head.front _ _ h1.line_word x2.head.line_word).1 in omega arith)
+one_form text n k out out2 y z (define n1 k1 r1 h1 s1 p1) (other_pragma n2 w2 o2) = absurd (let e = ap (λ xs. get_or xs 0 0) (one_line_word text h1.front n2 _ _ h1.line_word w2).1 in omega arith)
 one_form text n k out out2 y z (include n1 h1 e1) (define n2 k2 r2 h2 s2 p2) = absurd (let e = ap (λ xs. get_or xs 0 0) (one_head text n1 n2 _ _ h1 h2).1 in omega arith)
 one_form text n k out out2 y z (include n1 h1 e1) (include n2 h2 e2) = ((one_head text n1 n2 _ _ h1 h2).0, refl, refl)
-one_form text n k out out2 y z (include n1 h1 e1) (pragma n2 k2 h2 r2 e2) = absurd (let e = ap (λ xs. get_or xs 0 0) (one_head text n1 n2 _ _ h1 h2).1 in omega arith)
-one_form text n k out out2 y z (include n1 h1 e1) (other_pragma n2 k2 h2 r2 e2) = absurd (let e = ap (λ xs. get_or xs 0 0) (one_head text n1 n2 _ _ h1 h2).1 in omega arith)
-one_form text n k out out2 y z (pragma n1 k1 h1 r1 e1) (define n2 k2 r2 h2 s2 p2) = absurd (let e = ap (λ xs. get_or xs 0 0) (one_head text n1 n2 _ _ h1 h2).1 in omega arith)
-one_form text n k out out2 y z (pragma n1 k1 h1 r1 e1) (include n2 h2 e2) = absurd (let e = ap (λ xs. get_or xs 0 0) (one_head text n1 n2 _ _ h1 h2).1 in omega arith)
-one_form text n k out out2 y z (pragma n1 k1 h1 r1 e1) (pragma n2 k2 h2 r2 e2) = (let e = one_run (drop n1 text) k1 k2 r1 (subst (λ i. IsRun (drop i text) k2) (sym (one_head text n1 n2 _ _ h1 h2).0) r2) in let a = (one_head text n1 n2 _ _ h1 h2).0 in omega arith, refl, refl)
-one_form text n k out out2 y z (pragma n1 k1 h1 r1 e1) (other_pragma n2 k2 h2 r2 e2) = absurd (let e = one_run (drop n1 text) k1 k2 r1 (subst (λ i. IsRun (drop i text) k2) (sym (one_head text n1 n2 _ _ h1 h2).0) r2) in e2 (ap (λ i. take i (drop n2 text)) (sym e) ∙ ap (λ i. take k1 (drop i text)) (sym (one_head text n1 n2 _ _ h1 h2).0) ∙ e1))
-one_form text n k out out2 y z (other_pragma n1 k1 h1 r1 e1) (define n2 k2 r2 h2 s2 p2) = absurd (let e = ap (λ xs. get_or xs 0 0) (one_head text n1 n2 _ _ h1 h2).1 in omega arith)
-one_form text n k out out2 y z (other_pragma n1 k1 h1 r1 e1) (include n2 h2 e2) = absurd (let e = ap (λ xs. get_or xs 0 0) (one_head text n1 n2 _ _ h1 h2).1 in omega arith)
-one_form text n k out out2 y z (other_pragma n1 k1 h1 r1 e1) (pragma n2 k2 h2 r2 e2) = absurd (let e = one_run (drop n1 text) k1 k2 r1 (subst (λ i. IsRun (drop i text) k2) (sym (one_head text n1 n2 _ _ h1 h2).0) r2) in e1 (ap (λ i. take i (drop n1 text)) e ∙ ap (λ i. take k2 (drop i text)) (one_head text n1 n2 _ _ h1 h2).0 ∙ e2))
-one_form text n k out out2 y z (other_pragma n1 k1 h1 r1 e1) (other_pragma n2 k2 h2 r2 e2) = ((one_head text n1 n2 _ _ h1 h2).0, refl, refl)
+one_form text n k out out2 y z (include n1 h1 e1) (pragma n2 x2) = absurd (let e = ap (λ xs. get_or xs 0 0) (one_line_word text h1.front x2.head.front _ _ h1.line_word x2.head.line_word).1 in omega arith)
+one_form text n k out out2 y z (include n1 h1 e1) (other_pragma n2 w2 o2) = absurd (let e = ap (λ xs. get_or xs 0 0) (one_line_word text h1.front n2 _ _ h1.line_word w2).1 in omega arith)
+one_form text n k out out2 y z (pragma n1 x1) (define n2 k2 r2 h2 s2 p2) = absurd (let e = ap (λ xs. get_or xs 0 0) (one_line_word text x1.head.front h2.front _ _ x1.head.line_word h2.line_word).1 in omega arith)
+one_form text n k out out2 y z (pragma n1 x1) (include n2 h2 e2) = absurd (let e = ap (λ xs. get_or xs 0 0) (one_line_word text x1.head.front h2.front _ _ x1.head.line_word h2.line_word).1 in omega arith)
+one_form text n k out out2 y z (pragma n1 x1) (pragma n2 x2) = (one_xmp text n1 n2 x1 x2, refl, refl)
+one_form text n k out out2 y z (pragma n1 x1) (other_pragma n2 w2 o2) = absurd (o2 n1 x1)
+one_form text n k out out2 y z (other_pragma n1 w1 o1) (define n2 k2 r2 h2 s2 p2) = absurd (let e = ap (λ xs. get_or xs 0 0) (one_line_word text n1 h2.front _ _ w1 h2.line_word).1 in omega arith)
+one_form text n k out out2 y z (other_pragma n1 w1 o1) (include n2 h2 e2) = absurd (let e = ap (λ xs. get_or xs 0 0) (one_line_word text n1 h2.front _ _ w1 h2.line_word).1 in omega arith)
+one_form text n k out out2 y z (other_pragma n1 w1 o1) (pragma n2 x2) = absurd (o1 n2 x2)
+one_form text n k out out2 y z (other_pragma n1 w1 o1) (other_pragma n2 w2 o2) = ((one_line_word text n1 n2 _ _ w1 w2).0, refl, refl)
 
-token_same : (text : List ℕ) (x : Mode) (n k : ℕ) (a b : TokenKind) → Spelled text n a → Spelled text k b → Same n k ((0, a) ∷ []) ((0, b) ∷ []) (behind_token x) (behind_token x)
+token_same : (text : List ℕ) (x : LineState) (n k : ℕ) (a b : TokenKind) → Spelled text n a → Spelled text k b → Same n k ((0, a) ∷ []) ((0, b) ∷ []) (behind_token x) (behind_token x)
 token_same text x n k a b s r = let o = one_spelled text n k a b s r in (o.0, out_same a b o.1, refl) where
   out_same : (c d : TokenKind) → c ≡ d → one_out 0 c ≡ one_out 0 d
   out_same c d h = cc
 
-pub one_piece : (text : List ℕ) (x : Mode) (n k : ℕ) (out out2 : List (ℕ × TokenKind)) (y z : Mode) → Piece text x n out y → Piece text x k out2 z → Same n k out out2 y z
+pub one_piece : (text : List ℕ) (x : LineState) (n k : ℕ) (out out2 : List (ℕ × TokenKind)) (y z : LineState) → Piece text x n out y → Piece text x k out2 z → Same n k out out2 y z
 one_piece text x n k out out2 y z (white _ o1 w1) (white _ o2 w2) = (refl, refl, refl)
 one_piece text x n k out out2 y z (white _ o1 w1) (comment _ n2 o2 c2) = absurd (white_comment text _ w1 c2)
 one_piece text x n k out out2 y z (white _ o1 w1) (token _ n2 k2 g2 s2) = absurd (fine_white (get_or text 0 0) (first_fine text _ _ s2) w1)

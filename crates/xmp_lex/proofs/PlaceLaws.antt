@@ -5,7 +5,7 @@ use Rattle.std.proofs.lemmas.List.Elements.{All-nil, All-append, All-map}
 use Rattle.xmp_base.specs.declared.place.Place.{Place}
 use Rattle.xmp_lex.specs.declared.token.Token.{Token}
 use Rattle.xmp_lex.specs.declared.token.TokenKind.{TokenKind}
-use Rattle.xmp_lex.specs.declared.mode.Mode.{Mode}
+use Rattle.xmp_lex.specs.LineStates.{LineState}
 use Rattle.xmp_lex.specs.Cut.{behind, step, Front, Cuts, none, piece, placed, ending, Cut, IsPlaceOf}
 
 abbrev first : Place
@@ -41,9 +41,9 @@ places text _ (piece f n out x c some p) = let i = places text f c in record {
       (All-map (λ (y : Token). IsPlaceOf text y.at) (λ (o : ℕ × TokenKind). (let z : Token = record { kind = o.1; at = behind f.at (take o.0 f.rest) } in z)) out (λ k o l. (i.bytes + (get_or out k o).0, further text f i (get_or out k o).0)));
 }
 
-ending_at : (text : List ℕ) (f : Front) → IsAt text f → (x : Mode) → All (λ (y : Token). IsPlaceOf text y.at) (ending x f.at)
+ending_at : (text : List ℕ) (f : Front) → IsAt text f → (x : LineState) → All (λ (y : Token). IsPlaceOf text y.at) (ending x f.at)
 ending_at text f i x = All-map (λ (y : Token). IsPlaceOf text y.at) (λ (k : TokenKind). (let z : Token = record { kind = k; at = f.at } in z)) _ (λ k o l. (i.bytes, i.at_is))
 
 pub token_places : (text : List ℕ) (tokens : List Token) → Cut text tokens → All (λ x. IsPlaceOf text x.at) tokens
 token_places text tokens c = let i = places text c.front c.cuts in
-    subst (All (λ x. IsPlaceOf text x.at)) (sym c.tokens_are) (All-append (λ (y : Token). IsPlaceOf text y.at) c.front.tokens (ending c.front.mode c.front.at) i.tokens (ending_at text c.front i c.front.mode))
+    subst (All (λ x. IsPlaceOf text x.at)) (sym c.tokens_are) (All-append (λ (y : Token). IsPlaceOf text y.at) c.front.tokens (ending c.front.state c.front.at) i.tokens (ending_at text c.front i c.front.state))

@@ -1,12 +1,12 @@
 -- The stack of uses, in the forms that the code's goals have.
 use Rattle.std.proofs.Common.{◌≡◌, ◌≤◌, ◌+◌, ◌++◌, ℕ, List, [], ◌∷◌, length, refl, sym, ap, ◌∙◌, subst, arith, Some, None, append_assoc, append-nil, length-append, Result, Ok, Err, OnOk, IfErr}
+use Rattle.xmp_base.specs.Limits.{token_limit}
 use Rattle.xmp_base.specs.declared.place.Place.{Place}
 use Rattle.xmp_base.specs.declared.refusal.Fault.{Fault}
 use Rattle.xmp_base.specs.declared.refusal.Fault.TheVariants as fault
 use Rattle.xmp_lex.specs.declared.token.Token.{Token}
 use Rattle.xmp_lex.specs.declared.definitions.Use.{Use}
 use Rattle.xmp_lex.specs.declared.output.Output.{Output}
-use Rattle.xmp_lex.specs.Cut.{token_limit}
 use Rattle.xmp_lex.specs.Expand.{Definition, definition_of, moved, Event, out, used, Replaces, done, keep, replace, tokens_of}
 use Rattle.xmp_lex.specs.Output.{Pending, none, within, names_of, frame, frames, PutsOut, Puts, Overflows, IsFull, IsStopped, Advances}
 use Rattle.xmp_lex.proofs.ReplaceLemmas.{deep, definition_deep, pending_done, pending_keep, pending_use, pending_of, pending_some, result_of, some_event}

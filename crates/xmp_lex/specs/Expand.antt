@@ -3,6 +3,7 @@ use Rattle.std.specs.Prelude.{◌≡◌, ◌≢◌, ◌≤◌, ℕ, List, [], �
 use Rattle.std.specs.List.{list_any}
 use Rattle.std.specs.Map.{lookup}
 use Rattle.std.specs.Cmp.Lexicographic.{pointwise}
+use Rattle.xmp_base.specs.Limits.{token_limit}
 use Rattle.xmp_base.specs.declared.place.Place.{Place}
 use Rattle.xmp_base.specs.declared.refusal.Fault.{Fault}
 use Rattle.xmp_base.specs.declared.refusal.Fault.TheVariants as fault
@@ -10,7 +11,6 @@ use Rattle.xmp_base.specs.declared.refusal.Phase.TheVariants as phase
 use Rattle.xmp_lex.specs.declared.token.Token.{Token}
 use Rattle.xmp_lex.specs.declared.token.TokenKind.{TokenKind}
 use Rattle.xmp_lex.specs.declared.token.TokenKind.TheVariants as t
-use Rattle.xmp_lex.specs.Cut.{token_limit}
 
 -- a definition: a name and its tokens
 abbrev pub Definition : Type 0

@@ -1,5 +1,6 @@
 -- What the functions below `lex` find, in the form that their answers have.
 use Rattle.std.specs.Prelude.{◌≡◌, ◌≤◌, ◌<◌, ◌++◌, ℕ, List, length, Bool, true, false, take, slice_index_or, slice_get, Some, None, ⊤, option_to_list, IfSome}
+use Rattle.xmp_base.specs.Limits.{token_limit}
 use Rattle.xmp_base.specs.declared.place.Place.{Place}
 use Rattle.xmp_base.specs.declared.refusal.Fault.{Fault}
 use Rattle.xmp_base.specs.declared.refusal.Fault.TheVariants as fault
@@ -17,10 +18,12 @@ use Rattle.xmp_lex.specs.declared.tokens.PieceError.{PieceError}
 use Rattle.xmp_lex.specs.declared.tokens.PieceError.TheVariants as error
 use Rattle.xmp_lex.specs.declared.tokens.Meaning.{Meaning}
 use Rattle.xmp_lex.specs.declared.tokens.Meaning.TheVariants as meaning
+use Rattle.xmp_lex.specs.LineStates.{LineState}
+use Rattle.xmp_lex.specs.LineStates as state
 use Rattle.xmp_lex.specs.Bytes.{content, content_of, escape_value, IsBadEscape}
 use Rattle.xmp_lex.specs.Words.{BeginsWith, mark_text}
 use Rattle.xmp_lex.specs.Pieces.{IsBlockStart, IsLineStart, Comment, Unclosed, LineSpace, Spelled, Malformed}
-use Rattle.xmp_lex.specs.Cut.{Piece, Broken, behind, token_limit}
+use Rattle.xmp_lex.specs.Cut.{Piece, Broken, behind}
 
 -- none of the first n marks is at the front
 abbrev pub IsNone : List Mark → List ℕ → ℕ → Type 0
@@ -62,12 +65,19 @@ abbrev pub IsMeaning : List ℕ → ℕ → Meaning → Type 0
 IsMeaning text n (meaning.Text bytes) = (bytes ≡ content text n) × ((j : ℕ) → j < n → IsBadEscape text j → ⊥)
 IsMeaning text n (meaning.Unknown k) = (k < n) × IsBadEscape text k × ((j : ℕ) → j < k → IsBadEscape text j → ⊥)
 
+-- how the line stands, as the code keeps it
+abbrev pub state_of : Mode → LineState
+state_of mode.Start = state.fresh
+state_of mode.Middle = state.begun
+state_of mode.Directive = state.directive
+state_of mode.Ignored = state.ignored
+
 -- a piece and a broken rule, as the code finds them
-abbrev pub IsPiece : List ℕ → Mode → NextPiece → Type 0
-IsPiece text x c = Piece text x c.length (option_to_list c.token) c.mode × (c.length ≤ length text) × (1 ≤ c.length)
+abbrev pub IsPiece : List ℕ → LineState → NextPiece → Type 0
+IsPiece text x c = Piece text x c.length (option_to_list c.token) (state_of c.mode) × (c.length ≤ length text) × (1 ≤ c.length)
     × IfSome c.token (λ o. o.0 ≤ length text)
 
-abbrev pub IsBroken : List ℕ → Mode → PieceError → Type 0
+abbrev pub IsBroken : List ℕ → LineState → PieceError → Type 0
 IsBroken text x error.NoMemory = ⊤
 IsBroken text x (error.Rule rule k) = Broken text x rule k × (k ≤ length text)
 

@@ -1,7 +1,9 @@
 pub mod Bytes
 pub mod Words
+pub mod LineStates
 pub mod Pieces
 pub mod Cut
+pub mod LineStarts
 pub mod Found
 pub mod Lines
 pub mod Expand

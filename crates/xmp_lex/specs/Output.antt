@@ -1,5 +1,6 @@
 -- What the functions below `expand` do, in the form that their answers have.
 use Rattle.std.specs.Prelude.{Bool, true, false, slice_get, ◌≡◌, ◌≤◌, ◌<◌, ◌+◌, ◌*◌, ℕ, List, [], ◌∷◌, ◌++◌, length, map, Some, None, ⊤}
+use Rattle.xmp_base.specs.Limits.{token_limit}
 use Rattle.xmp_base.specs.declared.place.Place.{Place}
 use Rattle.xmp_base.specs.declared.refusal.Fault.{Fault}
 use Rattle.xmp_base.specs.declared.refusal.Fault.TheVariants as fault
@@ -9,7 +10,6 @@ use Rattle.xmp_lex.specs.declared.token.TokenKind.TheVariants as t
 use Rattle.xmp_lex.specs.declared.output.Output.{Output}
 use Rattle.xmp_lex.specs.declared.token.TokenKind.{TokenKind}
 use Rattle.xmp_lex.specs.declared.definitions.Use.{Use}
-use Rattle.xmp_lex.specs.Cut.{token_limit}
 use Rattle.xmp_lex.specs.Expand.{Definition, Event, Replaces, moved, tokens_of, body_of, IsBody}
 
 -- the refusal by a rule E
@@ -68,13 +68,17 @@ pub record Advances (known : List Definition) (at : Place) (before after : List 
   pub put : PutsOut events old new
   pub smaller : length after < length before + 2 * length events
 
--- a definition is read: its tokens, and what follows its line
-pub record Defines (known new : List Definition) (name : List ℕ) (behind rest : List Token) : Type 0 where
-  pub body : List Token
+-- the tokens of a line before its Close, and what follows it
+pub record IsLine (body behind rest : List Token) : Type 0 where
   pub close : Token
   pub line : behind ≡ body ++ close ∷ rest
   pub is_body : IsBody body
   pub closes : close.kind ≡ t.Close
+
+-- a definition is read: its tokens, and what follows its line
+pub record Defines (known new : List Definition) (name : List ℕ) (behind rest : List Token) : Type 0 where
+  pub body : List Token
+  pub is_line : IsLine body behind rest
   pub is_new : body_of known name ≡ None
   pub added : new ≡ known ++ (name, body) ∷ []
 
@@ -85,12 +89,6 @@ IsSecond known name at (fault.Refused r) = (fault.Refused r ≡ breaks_macro 1 a
 abbrev pub is_close : TokenKind → Bool
 is_close t.Close = true
 is_close _ = false
-
--- the first Close
-pub record IsClosePlace (tokens : List Token) (n : ℕ) : Type 0 where
-  pub within : n < length tokens
-  pub here : (x : Token) → slice_get tokens n ≡ Some x → is_close x.kind ≡ true
-  pub before : (k : ℕ) (x : Token) → k < n → slice_get tokens k ≡ Some x → is_close x.kind ≡ false
 
 -- expansion goes on behind a token of this kind: a definition is read, or events are put out
 abbrev pub Steps : TokenKind → List Definition → List Definition → Token → List Token → List Token → Output → Output → Type 0

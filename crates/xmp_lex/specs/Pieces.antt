@@ -7,8 +7,8 @@ use Rattle.xmp_lex.specs.declared.token.Mark.{Mark}
 use Rattle.xmp_lex.specs.declared.token.Reserved.{Reserved}
 use Rattle.xmp_num.specs.declared.types.Ty.{Ty}
 use Rattle.xmp_num.specs.declared.types.Ty.TheVariants as ty
-use Rattle.xmp_lex.specs.declared.mode.Mode.{Mode}
-use Rattle.xmp_lex.specs.declared.mode.Mode.TheVariants as mode
+use Rattle.xmp_lex.specs.LineStates.{LineState}
+use Rattle.xmp_lex.specs.LineStates as state
 use Rattle.xmp_lex.specs.Bytes.{is_white, is_digit, is_letter, is_word, IsRun, IsLine, IsBlock, IsTextEnd, IsBadEscape, content, IsNumber, has_suffix, IsClose}
 use Rattle.xmp_lex.specs.Words.{IsMark, word_text, mark_text, BeginsWith}
 
@@ -78,21 +78,37 @@ pub data LineSpaces : List ℕ → ℕ → Type 0 where
   done : (text : List ℕ) → ((n : ℕ) → LineSpace text n → ⊥) → (Unclosed text → ⊥) → LineSpaces text 0
   more : (text : List ℕ) (n k m : ℕ) → LineSpace text n → LineSpaces (drop n text) k → m ≡ n + k → LineSpaces text m
 
--- the `#`, the white space behind it, the word and the white space behind that
-pub record LineHead (text : List ℕ) (n : ℕ) (word : List ℕ) : Type 0 where
+-- the `#`, the white space behind it and the word: n bytes
+pub record LineWord (text : List ℕ) (n : ℕ) (word : List ℕ) : Type 0 where
   pub begins : slice_index text 0 ≡ 35
   pub first : ℕ
   pub run : ℕ
-  pub second : ℕ
   pub line_space : LineSpaces (drop 1 text) first
   pub is_run : IsRun (drop (1 + first) text) run
   pub word_is : word ≡ take run (drop (1 + first) text)
-  pub space_behind : LineSpaces (drop (1 + first + run) text) second
-  pub length_is : n ≡ 1 + first + run + second
+  pub length_is : n ≡ 1 + first + run
 
--- A `#` line by its form: n bytes of it, the tokens that they give and where, and how the line goes on.
-pub data LineForm (text : List ℕ) : ℕ → List (ℕ × TokenKind) → Mode → Type 0 where
-  define : (n k : ℕ) (r : List ℕ) → LineHead text n (codes "define") → Spelled (drop n text) k (t.Name r) → slice_index (drop n text) k ≢ 40 → LineForm text (n + k) ((n, t.Define r) ∷ []) mode.Directive
-  include : (n : ℕ) → LineHead text n (codes "include") → slice_index (drop n text) 0 ≡ 60 → LineForm text n [] mode.Ignored
-  pragma : (n k : ℕ) → LineHead text n (codes "pragma") → IsRun (drop n text) k → take k (drop n text) ≡ codes "xmp" → LineForm text (n + k) ((0, t.Pragma) ∷ []) mode.Directive
-  other_pragma : (n k : ℕ) → LineHead text n (codes "pragma") → IsRun (drop n text) k → take k (drop n text) ≢ codes "xmp" → LineForm text n [] mode.Ignored
+-- the same with the white space behind the word
+pub record LineHead (text : List ℕ) (n : ℕ) (word : List ℕ) : Type 0 where
+  pub front : ℕ
+  pub second : ℕ
+  pub line_word : LineWord text front word
+  pub space_behind : LineSpaces (drop front text) second
+  pub length_is : n ≡ front + second
+
+-- `#pragma xmp`, with the white space before `xmp`: n bytes
+pub record XmpHead (text : List ℕ) (n : ℕ) : Type 0 where
+  pub front : ℕ
+  pub run : ℕ
+  pub head : LineHead text front (codes "pragma")
+  pub is_run : IsRun (drop front text) run
+  pub is_xmp : take run (drop front text) ≡ codes "xmp"
+  pub length_is : n ≡ front + run
+
+-- A `#` line by its form: n bytes of it, the tokens that they give and where, and how the line goes on. `#pragma` is one with anything
+-- behind it.
+pub data LineForm (text : List ℕ) : ℕ → List (ℕ × TokenKind) → LineState → Type 0 where
+  define : (n k : ℕ) (r : List ℕ) → LineHead text n (codes "define") → Spelled (drop n text) k (t.Name r) → slice_index (drop n text) k ≢ 40 → LineForm text (n + k) ((n, t.Define r) ∷ []) state.directive
+  include : (n : ℕ) → LineHead text n (codes "include") → slice_index (drop n text) 0 ≡ 60 → LineForm text n [] state.ignored
+  pragma : (n : ℕ) → XmpHead text n → LineForm text n ((0, t.Pragma) ∷ []) state.directive
+  other_pragma : (n : ℕ) → LineWord text n (codes "pragma") → ((k : ℕ) → XmpHead text k → ⊥) → LineForm text n [] state.ignored

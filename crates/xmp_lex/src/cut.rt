@@ -1,13 +1,16 @@
 //! A text cut into tokens.
-ghost use Rattle.std.specs.Prelude.{◌≡◌, ◌≢◌, ◌+◌, ◌<◌, ◌≤◌, ℕ, IfOk, IfErr, IfSome, option_to_list, OnOk, [], ◌∷◌, length, slice_index, false, true, ◌++◌, ◌==◌, None, ◌^◌};
+ghost use Rattle.std.specs.Prelude.{List, ◌≡◌, ◌≢◌, ◌+◌, ◌<◌, ◌≤◌, ℕ, IfOk, IfErr, IfSome, option_to_list, OnOk, [], ◌∷◌, length, slice_index, false, true, ◌++◌, ◌==◌, None, ◌^◌};
 ghost use Rattle.xmp_lex.specs.Bytes.{is_white};
 ghost use Rattle.xmp_lex.specs.Pieces.{Splice, IsBlockStart, IsLineStart};
 ghost use Rattle.xmp_lex.specs.Found.{IsLineSpace};
 ghost use Rattle.xmp_lex.specs.declared.spaces.Found.TheVariants.{Nothing};
-ghost use Rattle.xmp_lex.specs.declared.mode.Mode.TheVariants.{Start, Directive, Ignored};
+ghost use Rattle.xmp_base.specs.declared.refusal.Fault.TheVariants as fault;
+ghost use Rattle.xmp_lex.specs.declared.token.Token.{Token};
+ghost use Rattle.xmp_lex.specs.LineStates.{fresh, directive, ignored, IsOutside, behind_white, behind_token};
 ghost use Rattle.xmp_lex.specs.Lines.{IsFinished, IsClosed};
-ghost use Rattle.xmp_lex.specs.Cut.{IsRefused, Cut, behind, step, behind_white, behind_token, IsOutside, placed, ending};
-ghost use Rattle.xmp_lex.specs.Found.{IsPiece, IsBroken, IsTooMany, IsWithin, refusal, is_directive, breaks};
+ghost use Rattle.xmp_lex.specs.Cut.{IsRefused, Cut, behind, step, placed, ending};
+ghost use Rattle.xmp_lex.specs.Found.{state_of, IsPiece, IsBroken, IsTooMany, IsWithin, refusal, is_directive, breaks};
+ghost use Rattle.xmp_base.specs.Limits.{token_limit, source_limit};
 
 use crate::bytes::{byte_at, from, front, is_white};
 use crate::hash::hash;
@@ -16,7 +19,7 @@ use crate::spaces::{Found, comment, line_space};
 use crate::token::{Token, TokenKind};
 use crate::tokens::{PieceError, token_at};
 use std::alloc::Global;
-use xmp_base::{Fault, Phase, Place, Refusal};
+use xmp_base::{Fault, Phase, Place, Refusal, TOKEN_LIMIT};
 
 /// A piece: its length, the token that it gives and where that begins in it, and how the line goes on.
 #[derive(Drop)]
@@ -26,7 +29,8 @@ pub struct NextPiece {
     pub mode: Mode,
 }
 
-fn gives_nothing(length: usize, mode: Mode) -> NextPiece
+/// A piece that gives no token.
+pub fn gives_nothing(length: usize, mode: Mode) -> NextPiece
     ensures { result ≡ record { length = length; token = None; mode = mode } }
 {
     NextPiece {
@@ -37,15 +41,15 @@ fn gives_nothing(length: usize, mode: Mode) -> NextPiece
 }
 
 fn plain(alloc: Global, mode: Mode, text: &[u8]) -> Result<NextPiece, PieceError>
-    requires mode { mode ≢ Ignored }
-    requires hash { mode ≡ Start → slice_index text.now 0 ≢ 35 }
-    requires splice { mode ≡ Directive → (n : ℕ) → Splice text.now n → ⊥ }
+    requires mode { state_of mode ≢ ignored }
+    requires hash { state_of mode ≡ fresh → slice_index text.now 0 ≢ 35 }
+    requires splice { state_of mode ≡ directive → (n : ℕ) → Splice text.now n → ⊥ }
     requires block { IsBlockStart text.now → ⊥ }
     requires line { IsLineStart text.now → ⊥ }
     requires some { 0 < length text.now }
     requires white { is_white (slice_index text.now 0) ≡ false }
-    ensures ok { IfOk result (λ c. IsPiece text.now mode c) }
-    ensures err { IfErr result (λ e. IsBroken text.now mode e) }
+    ensures ok { IfOk result (λ c. IsPiece text.now (state_of mode) c) }
+    ensures err { IfErr result (λ e. IsBroken text.now (state_of mode) e) }
 {
     match token_at(alloc, text) {
         Err(bad) => Err(bad),
@@ -59,12 +63,12 @@ fn plain(alloc: Global, mode: Mode, text: &[u8]) -> Result<NextPiece, PieceError
 
 /// A piece outside of `#` lines, behind its comments.
 fn outside(alloc: Global, mode: Mode, text: &[u8]) -> Result<NextPiece, PieceError>
-    requires mode { IsOutside mode }
+    requires mode { IsOutside (state_of mode) }
     requires block { IsBlockStart text.now → ⊥ }
     requires line { IsLineStart text.now → ⊥ }
     requires some { 0 < length text.now }
-    ensures ok { IfOk result (λ c. IsPiece text.now mode c) }
-    ensures err { IfErr result (λ e. IsBroken text.now mode e) }
+    ensures ok { IfOk result (λ c. IsPiece text.now (state_of mode) c) }
+    ensures err { IfErr result (λ e. IsBroken text.now (state_of mode) e) }
 {
     let first = byte_at(text, 0);
     if is_white(first) {
@@ -77,8 +81,8 @@ fn outside(alloc: Global, mode: Mode, text: &[u8]) -> Result<NextPiece, PieceErr
 }
 
 fn is_start(mode: Mode) -> bool
-    ensures yes { result ≡ true → mode ≡ Start }
-    ensures no { result ≡ false → mode ≢ Start }
+    ensures yes { result ≡ true → state_of mode ≡ fresh }
+    ensures no { result ≡ false → state_of mode ≢ fresh }
 {
     match mode {
         Mode::Start => true,
@@ -87,7 +91,7 @@ fn is_start(mode: Mode) -> bool
 }
 
 fn behind_white(mode: Mode, byte: u8) -> Mode
-    ensures { result ≡ behind_white mode (byte == 10) }
+    ensures { state_of result ≡ behind_white (state_of mode) (byte == 10) }
 {
     if byte == b'\n' { Mode::Start } else { mode }
 }
@@ -96,8 +100,8 @@ fn behind_white(mode: Mode, byte: u8) -> Mode
 fn in_line(alloc: Global, text: &[u8]) -> Result<NextPiece, PieceError>
     requires line_space { IsLineSpace text.now Nothing }
     requires some { 0 < length text.now }
-    ensures ok { IfOk result (λ c. IsPiece text.now Directive c) }
-    ensures err { IfErr result (λ e. IsBroken text.now Directive e) }
+    ensures ok { IfOk result (λ c. IsPiece text.now directive c) }
+    ensures err { IfErr result (λ e. IsBroken text.now directive e) }
 {
     if byte_at(text, 0) == b'\n' {
         return Ok(NextPiece {
@@ -112,7 +116,7 @@ fn in_line(alloc: Global, text: &[u8]) -> Result<NextPiece, PieceError>
 fn ignored(text: &[u8]) -> NextPiece
     requires line_space { IsLineSpace text.now Nothing }
     requires some { 0 < length text.now }
-    ensures { IsPiece text.now Ignored result }
+    ensures { IsPiece text.now ignored result }
 {
     if byte_at(text, 0) == b'\n' {
         gives_nothing(1, Mode::Start)
@@ -124,8 +128,8 @@ fn ignored(text: &[u8]) -> NextPiece
 /// The piece at the front of a text.
 pub fn piece_at(alloc: Global, mode: Mode, text: &[u8]) -> Result<NextPiece, PieceError>
     requires { 0 < length text.now }
-    ensures ok { IfOk result (λ c. IsPiece text.now mode c) }
-    ensures err { IfErr result (λ e. IsBroken text.now mode e) }
+    ensures ok { IfOk result (λ c. IsPiece text.now (state_of mode) c) }
+    ensures err { IfErr result (λ e. IsBroken text.now (state_of mode) e) }
 {
     match mode {
         Mode::Start => piece_outside(alloc, Mode::Start, text),
@@ -144,10 +148,10 @@ pub fn piece_at(alloc: Global, mode: Mode, text: &[u8]) -> Result<NextPiece, Pie
 }
 
 fn piece_outside(alloc: Global, mode: Mode, text: &[u8]) -> Result<NextPiece, PieceError>
-    requires mode { IsOutside mode }
+    requires mode { IsOutside (state_of mode) }
     requires some { 0 < length text.now }
-    ensures ok { IfOk result (λ c. IsPiece text.now mode c) }
-    ensures err { IfErr result (λ e. IsBroken text.now mode e) }
+    ensures ok { IfOk result (λ c. IsPiece text.now (state_of mode) c) }
+    ensures err { IfErr result (λ e. IsBroken text.now (state_of mode) e) }
 {
     match comment(text) {
         Found::Unclosed => Err(PieceError::Rule(2, 0)),
@@ -157,7 +161,7 @@ fn piece_outside(alloc: Global, mode: Mode, text: &[u8]) -> Result<NextPiece, Pi
 }
 
 fn behind_token(mode: Mode) -> Mode
-    ensures { result ≡ behind_token mode }
+    ensures { state_of result ≡ behind_token (state_of mode) }
 {
     match mode {
         Mode::Start => Mode::Middle,
@@ -212,12 +216,12 @@ fn refused(rule: u16, at: Place) -> Fault
 
 /// Puts down a token, where it is not one too many.
 fn push(tokens: &mut Vec<Token>, kind: TokenKind, at: Place) -> Result<(), Fault>
-    requires { length tokens.old.items ≤ 200000 }
+    requires { length tokens.old.items ≤ token_limit }
     ensures ok { OnOk result ((tokens.new.items ≡ tokens.old.items ++ record { kind = kind; at = at } ∷ [])
-        × (length tokens.new.items ≤ 200000)) }
+        × (length tokens.new.items ≤ token_limit)) }
     ensures err { IfErr result (λ e. IsTooMany tokens.old.items (record { kind = kind; at = at } ∷ []) e) }
 {
-    if tokens.len() == 200000 {
+    if tokens.len() == TOKEN_LIMIT {
         return Err(refused(5, at));
     }
     match tokens.push(Token { kind, at }) {
@@ -233,12 +237,12 @@ fn put(
     at: Place,
     rest: &[u8],
 ) -> Result<(), Fault>
-    requires few { length tokens.old.items ≤ 200000 }
+    requires few { length tokens.old.items ≤ token_limit }
     requires within { IfSome token (λ o. o.0 ≤ length rest.now) }
     requires line { at.line + length rest.now < 2 ^ 31 }
     requires column { at.column + length rest.now < 2 ^ 31 }
     ensures ok { OnOk result ((tokens.new.items ≡ tokens.old.items ++ placed at rest.now (option_to_list token))
-        × (length tokens.new.items ≤ 200000)) }
+        × (length tokens.new.items ≤ token_limit)) }
     ensures err { IfErr result (λ e. IsTooMany tokens.old.items (placed at rest.now (option_to_list token)) e) }
 {
     match token {
@@ -252,9 +256,9 @@ fn put(
 
 /// Puts down the tokens at the end of a text.
 fn finish(tokens: &mut Vec<Token>, mode: Mode, at: Place) -> Result<(), Fault>
-    requires { length tokens.old.items ≤ 200000 }
-    ensures ok { OnOk result ((tokens.new.items ≡ tokens.old.items ++ ending mode at) × (length tokens.new.items ≤ 200000)) }
-    ensures err { IfErr result (λ e. IsTooMany tokens.old.items (ending mode at) e) }
+    requires { length tokens.old.items ≤ token_limit }
+    ensures ok { OnOk result ((tokens.new.items ≡ tokens.old.items ++ ending (state_of mode) at) × (length tokens.new.items ≤ token_limit)) }
+    ensures err { IfErr result (λ e. IsTooMany tokens.old.items (ending (state_of mode) at) e) }
 {
     if !is_directive(mode) {
         return push(tokens, TokenKind::Finish, at);
@@ -282,13 +286,22 @@ fn refusal(bad: PieceError, at: Place, rest: &[u8]) -> Fault
 ///
 /// A text has at most 1,048,576 bytes. Time and memory grow with its length.
 pub fn lex(alloc: Global, text: &[u8]) -> Result<Vec<Token>, Fault>
-    requires { length text.now ≤ 1048576 }
+    requires { length text.now ≤ source_limit }
     ensures ok { IfOk result (λ tokens. Cut text.now tokens.items) }
     ensures err { IfErr result (IsRefused text.now) }
+    ensures no_other { (tokens : List Token) → Cut text.now tokens → IfErr result (λ e. e ≡ fault.NoMemory) }
 
     // What `expand` asks for.
     ensures finished { IfOk result (λ tokens. IsFinished tokens.items) }
     ensures closed { IfOk result (λ tokens. IsClosed tokens.items) }
+{
+    cut_all(alloc, text)
+}
+
+fn cut_all(alloc: Global, text: &[u8]) -> Result<Vec<Token>, Fault>
+    requires { length text.now ≤ source_limit }
+    ensures ok { IfOk result (λ tokens. Cut text.now tokens.items) }
+    ensures err { IfErr result (IsRefused text.now) }
 {
     let mut tokens: Vec<Token> = Vec::new(alloc);
     let mut rest = text;

@@ -11,20 +11,20 @@ use xmp_base::NoMemory;
 
 /// The names that are defined so far, each with its tokens.
 #[derive(Drop)]
-pub struct Definitions<'a> {
-    bodies: IndexMap<&'a [u8], &'a [Token]>,
+pub struct Definitions {
+    bodies: IndexMap<Vec<u8>, Vec<Token>>,
 }
 
-impl<'a> Model for Definitions<'a> {
+impl Model for Definitions {
     ghost use Rattle.std.specs.Prelude.{List, map};
     ghost use Rattle.xmp_lex.specs.Expand.{Definition};
 
     ghost Value = { List Definition };
 
-    ghost view = { λ d. map (λ e. (e.0.now, e.1.now)) d.bodies.entries };
+    ghost view = { λ d. map (λ e. (e.0.items, e.1.items)) d.bodies.entries };
 }
 
-impl<'a> Definitions<'a> {
+impl Definitions {
     pub fn new(alloc: Global) -> Self
         ensures { result ≡ [] }
     {
@@ -34,21 +34,24 @@ impl<'a> Definitions<'a> {
     }
 
     /// The tokens that a name is defined as.
-    pub fn body_of(&self, name: &[u8]) -> Option<&'a [Token]>
+    pub fn body_of(&self, name: &[u8]) -> Option<&[Token]>
         ensures { option_map (λ b. b.now) result ≡ body_of self.now name.now }
     {
         match self.bodies.get(name) {
-            Some(body) => Some(*body),
+            Some(body) => Some(body.as_slice()),
             None => None,
         }
     }
 
     /// Defines a name that isn't defined yet.
-    pub fn add(&mut self, name: &'a [u8], body: &'a [Token]) -> Result<(), NoMemory>
+    pub fn add(&mut self, alloc: Global, name: &[u8], body: Vec<Token>) -> Result<(), NoMemory>
         requires { body_of self.old name.now ≡ None }
-        ensures { OnOk result (self.new ≡ self.old ++ (name.now, body.now) ∷ []) }
+        ensures { OnOk result (self.new ≡ self.old ++ (name.now, body.items) ∷ []) }
     {
-        match self.bodies.insert(name, body) {
+        let Ok(key) = Vec::from_slice(alloc, name) else {
+            return Err(NoMemory);
+        };
+        match self.bodies.insert(key, body) {
             Ok(_) => Ok(()),
             Err(_) => Err(NoMemory),
         }

@@ -1,27 +1,23 @@
 // Macros are replaced.
-ghost use Rattle.std.specs.Prelude.{◌≡◌, ◌+◌, ◌<◌, ◌≤◌, [], ◌∷◌, ◌++◌, IfOk, IfErr, OnOk, option_map, MatchOption, Some, false};
+ghost use Rattle.std.specs.Prelude.{List, ◌≡◌, ◌+◌, ◌≤◌, [], ◌∷◌, ◌++◌, IfOk, IfErr, OnOk, option_map, Some, false, is_some};
 ghost use Rattle.std.specs.List.{list_any};
 ghost use Rattle.xmp_lex.specs.Expand.{same, out, used, Replaces, moved, definition_of, Expanded, IsMacroRefusal};
+ghost use Rattle.xmp_lex.specs.declared.token.Token.{Token};
 ghost use Rattle.xmp_lex.specs.Lines.{IsFinished, IsClosed, Closes, IsClosedBehind};
-ghost use Rattle.xmp_lex.specs.Output.{frame, frames, Puts, PutsOut, Overflows, Advances, IsFull, IsStopped, names_of, is_close, IsClosePlace, Defines, IsSecond, Steps, BreaksAt};
-ghost use Rattle.xmp_base.specs.declared.refusal.Fault.TheVariants.{NoMemory};
+ghost use Rattle.xmp_lex.specs.Output.{frame, frames, Puts, PutsOut, Overflows, Advances, IsFull, IsStopped, names_of, is_close, Defines, IsSecond, IsLine, Steps, BreaksAt};
+ghost use Rattle.xmp_base.specs.declared.refusal.Fault.TheVariants as fault;
+ghost use Rattle.xmp_base.specs.Limits.{token_limit};
 
 use crate::definitions::{Definitions, Hidden, Use};
-use crate::output::{Output, count_name, put, refused};
+use crate::output::{Output, count_name, put, put_copy, refused, room_for};
 use crate::token::{Token, TokenKind};
 use std::alloc::Global;
-use xmp_base::{Fault, Place};
-
-/// The first token and those behind it.
-fn front(tokens: &[Token]) -> Option<(&Token, &[Token])>
-    ensures { MatchOption result (tokens.now ≡ []) (λ p. tokens.now ≡ p.0.now ∷ p.1.now) }
-{
-    tokens.split_first()
-}
+use std::collections::VecDeque;
+use xmp_base::{Fault, NoMemory, Place, first_and_rest};
 
 /// The use that a token is, if it is a name that is replaced.
 fn use_of<'a>(
-    definitions: &Definitions<'a>,
+    definitions: &'a Definitions,
     hidden: &Hidden<'a>,
     kind: &'a TokenKind,
 ) -> Option<Use<'a>>
@@ -49,7 +45,7 @@ fn open<'a>(uses: &mut Vec<Use<'a>>, hidden: &mut Hidden<'a>, inner: Use<'a>) ->
     requires { list_any (same inner.name.now) hidden.old ≡ false }
     ensures uses { OnOk result (uses.new.items ≡ uses.old.items ++ inner.entry ∷ []) }
     ensures hidden { OnOk result (hidden.new ≡ hidden.old ++ inner.entry.name.now ∷ []) }
-    ensures err { IfErr result (λ fault. fault ≡ NoMemory) }
+    ensures err { IfErr result (λ e. e ≡ fault.NoMemory) }
 {
     match hidden.hide(inner.name) {
         Err(_) => Err(Fault::NoMemory),
@@ -60,7 +56,7 @@ fn open<'a>(uses: &mut Vec<Use<'a>>, hidden: &mut Hidden<'a>, inner: Use<'a>) ->
 /// Puts a use back, with the tokens that it has left.
 fn resume<'a>(uses: &mut Vec<Use<'a>>, left: Use<'a>) -> Result<(), Fault>
     ensures ok { OnOk result (uses.new.items ≡ uses.old.items ++ left.entry ∷ []) }
-    ensures err { IfErr result (λ fault. fault ≡ NoMemory) }
+    ensures err { IfErr result (λ e. e ≡ fault.NoMemory) }
 {
     match uses.push(left) {
         Err(_) => Err(Fault::NoMemory),
@@ -71,20 +67,20 @@ fn resume<'a>(uses: &mut Vec<Use<'a>>, left: Use<'a>) -> Result<(), Fault>
 /// Takes the next token of the innermost use, which is off the stack for that.
 fn advance<'a>(
     alloc: Global,
-    definitions: &Definitions<'a>,
+    definitions: &'a Definitions,
     current: Use<'a>,
     at: Place,
     uses: &mut Vec<Use<'a>>,
     hidden: &mut Hidden<'a>,
     output: &mut Output,
 ) -> Result<(), Fault>
-    requires few { output.old.count ≤ 200000 }
+    requires few { output.old.count ≤ token_limit }
     requires names { hidden.old ≡ names_of (frames uses.old.items ++ frame current ∷ []) }
     ensures ok { OnOk result (Advances definitions.now at (frames uses.old.items ++ frame current.entry ∷ [])
         (frames uses.new.items) hidden.new output.old output.new) }
     ensures err { IfErr result (IsStopped output.old.count current.entry.rest.now at) }
 {
-    match front(current.rest) {
+    match first_and_rest(current.rest) {
         None => {
             hidden.show_last();
             Ok(())
@@ -111,12 +107,12 @@ fn keep<'a>(
     uses: &mut Vec<Use<'a>>,
     output: &mut Output,
 ) -> Result<(), Fault>
-    requires few { output.old.count ≤ 200000 }
+    requires few { output.old.count ≤ token_limit }
     ensures uses { OnOk result (uses.new.items ≡ uses.old.items ++ left.entry ∷ []) }
     ensures put { OnOk result (PutsOut (out (record { kind = kind.now; at = at }) ∷ []) output.old output.new) }
     ensures err { IfErr result (IsFull output.old.count at) }
 {
-    match put(output, alloc, kind, at) {
+    match put_copy(output, alloc, kind, at) {
         Err(fault) => Err(fault),
         Ok(()) => resume(uses, left),
     }
@@ -131,7 +127,7 @@ fn enter<'a>(
     hidden: &mut Hidden<'a>,
     output: &mut Output,
 ) -> Result<(), Fault>
-    requires few { output.old.count ≤ 200000 }
+    requires few { output.old.count ≤ token_limit }
     requires shown { list_any (same inner.name.now) hidden.old ≡ false }
     ensures uses { OnOk result (uses.new.items ≡ uses.old.items ++ left.entry ∷ [] ++ inner.entry ∷ []) }
     ensures hidden { OnOk result (hidden.new ≡ hidden.old ++ inner.entry.name.now ∷ []) }
@@ -150,12 +146,12 @@ fn enter<'a>(
 /// Puts out what a use comes to.
 fn replace<'a>(
     alloc: Global,
-    definitions: &Definitions<'a>,
+    definitions: &'a Definitions,
     first: Use<'a>,
     at: Place,
     output: &mut Output,
 ) -> Result<(), Fault>
-    requires { output.old.count ≤ 200000 }
+    requires { output.old.count ≤ token_limit }
     ensures ok { OnOk result (Puts (Replaces definitions.now (first.entry.name.now ∷ []) (moved at first.entry.rest.now)) output.old output.new) }
     ensures err { IfErr result (Overflows (Replaces definitions.now (first.entry.name.now ∷ []) (moved at first.entry.rest.now)) output.old at) }
 {
@@ -182,19 +178,19 @@ fn replace<'a>(
     Ok(())
 }
 
-/// Puts out what a token of the text comes to.
-fn put_token<'a>(
+/// Puts out what a token of the text comes to, which stays where it is.
+fn replace_token<'a>(
     alloc: Global,
-    definitions: &Definitions<'a>,
+    definitions: &'a Definitions,
     token: &'a Token,
     output: &mut Output,
 ) -> Result<(), Fault>
-    requires { output.old.count ≤ 200000 }
+    requires { output.old.count ≤ token_limit }
     ensures ok { OnOk result (Puts (Replaces definitions.now [] (token.now ∷ [])) output.old output.new) }
     ensures err { IfErr result (Overflows (Replaces definitions.now [] (token.now ∷ [])) output.old token.now.at) }
 {
     match use_of(definitions, &Hidden::new(alloc), &token.kind) {
-        None => put(output, alloc, &token.kind, token.at),
+        None => put_copy(output, alloc, &token.kind, token.at),
         Some(first) => match count_name(output, token.at) {
             Err(fault) => Err(fault),
             Ok(()) => replace(alloc, definitions, first, token.at, output),
@@ -202,17 +198,31 @@ fn put_token<'a>(
     }
 }
 
-/// Where a line's Close stands.
-fn close_at(tokens: &[Token]) -> usize
-    requires { Closes tokens.now }
-    ensures { IsClosePlace tokens.now result }
+/// Whether a token of the text is replaced.
+fn is_replaced(definitions: &Definitions, kind: &TokenKind) -> bool
+    ensures { result ≡ is_some (definition_of definitions.now [] kind.now) }
 {
-    for (i, token) in tokens.iter().enumerate() {
-        if is_close(&token.kind) {
-            return i;
-        }
+    match kind {
+        TokenKind::Name(name) => definitions.body_of(name.as_slice()).is_some(),
+        _ => false,
     }
-    tokens.len()
+}
+
+/// Puts out what a token of the text comes to: itself where it is not replaced.
+fn put_token(
+    alloc: Global,
+    definitions: &Definitions,
+    token: Token,
+    output: &mut Output,
+) -> Result<(), Fault>
+    requires { output.old.count ≤ token_limit }
+    ensures ok { OnOk result (Puts (Replaces definitions.now [] (token ∷ [])) output.old output.new) }
+    ensures err { IfErr result (Overflows (Replaces definitions.now [] (token ∷ [])) output.old token.at) }
+{
+    if is_replaced(definitions, &token.kind) {
+        return replace_token(alloc, definitions, &token, output);
+    }
+    put(output, token)
 }
 
 fn is_close(kind: &TokenKind) -> bool
@@ -224,50 +234,58 @@ fn is_close(kind: &TokenKind) -> bool
     }
 }
 
-/// Reads a definition, and gives what follows its line.
-fn define<'a>(
-    definitions: &mut Definitions<'a>,
-    name: &'a [u8],
+/// Takes the tokens of a line and its Close.
+fn line(alloc: Global, rest: &mut VecDeque<Token>) -> Result<Vec<Token>, NoMemory>
+    requires { Closes rest.old.items }
+    ensures { IfOk result (λ body. IsLine body.items rest.old.items rest.new.items) }
+{
+    let mut body = Vec::new(alloc);
+    while let Some(token) = rest.pop_front() {
+        if is_close(&token.kind) {
+            return Ok(body);
+        }
+        body.push(token)?;
+    }
+    Ok(body)
+}
+
+/// Reads a definition up to the end of its line.
+fn define(
+    alloc: Global,
+    definitions: &mut Definitions,
+    name: &[u8],
     at: Place,
-    behind: &'a [Token],
-) -> Result<&'a [Token], Fault>
-    requires { Closes behind.now }
-    ensures ok { IfOk result (λ rest. Defines definitions.old definitions.new name.now behind.now rest.now) }
+    rest: &mut VecDeque<Token>,
+) -> Result<(), Fault>
+    requires { Closes rest.old.items }
+    ensures ok { OnOk result (Defines definitions.old definitions.new name.now rest.old.items rest.new.items) }
     ensures err { IfErr result (IsSecond definitions.old name.now at) }
 {
-    match definitions.body_of(name) {
-        Some(_) => Err(refused(1, at)),
-        None => {
-            let n = close_at(behind);
-            let (body, rest) = behind.split_at(n);
-            match definitions.add(name, body) {
-                Err(_) => Err(Fault::NoMemory),
-                Ok(()) => Ok(rest.split_at(1).1),
-            }
-        }
+    if definitions.body_of(name).is_some() {
+        return Err(refused(1, at));
     }
+    let body = line(alloc, rest)?;
+    definitions.add(alloc, name, body)?;
+    Ok(())
 }
 
 /// Goes on with the text behind a token.
-fn step<'a>(
+fn step(
     alloc: Global,
-    definitions: &mut Definitions<'a>,
-    token: &'a Token,
-    behind: &'a [Token],
+    definitions: &mut Definitions,
+    token: Token,
+    rest: &mut VecDeque<Token>,
     output: &mut Output,
-) -> Result<&'a [Token], Fault>
-    requires few { output.old.count ≤ 200000 }
-    requires closed { IsClosedBehind token.now.kind behind.now }
-    ensures ok { IfOk result (λ rest. Steps token.now.kind definitions.old definitions.new token.now behind.now rest.now output.old output.new) }
-    ensures err { IfErr result (BreaksAt token.now.kind definitions.old token.now output.old) }
+) -> Result<(), Fault>
+    requires few { output.old.count ≤ token_limit }
+    requires closed { IsClosedBehind token.kind rest.old.items }
+    ensures ok { OnOk result (Steps token.kind definitions.old definitions.new token rest.old.items rest.new.items output.old output.new) }
+    ensures err { IfErr result (BreaksAt token.kind definitions.old token output.old) }
 {
-    match &token.kind {
-        TokenKind::Define(name) => define(definitions, name.as_slice(), token.at, behind),
-        _ => match put_token(alloc, definitions, token, output) {
-            Err(fault) => Err(fault),
-            Ok(()) => Ok(behind),
-        },
+    if let TokenKind::Define(name) = &token.kind {
+        return define(alloc, definitions, name.as_slice(), token.at, rest);
     }
+    put_token(alloc, definitions, token, output)
 }
 
 /// The text's tokens, with each name that is defined replaced by its definition's tokens, and without the definitions.
@@ -278,28 +296,26 @@ pub fn expand(alloc: Global, tokens: Vec<Token>) -> Result<Vec<Token>, Fault>
     requires closed { IsClosed tokens.items }
     ensures ok { IfOk result (λ expanded. Expanded tokens.items expanded.items) }
     ensures err { IfErr result (IsMacroRefusal tokens.items) }
+    ensures no_other { (expanded : List Token) → Expanded tokens.items expanded → IfErr result (λ e. e ≡ fault.NoMemory) }
     ensures finished { IfOk result (λ expanded. IsFinished expanded.items) }
 {
-    expand_all(alloc, tokens.as_slice())
+    expand_all(alloc, tokens)
 }
 
-fn expand_all(alloc: Global, tokens: &[Token]) -> Result<Vec<Token>, Fault>
-    requires finished { IsFinished tokens.now }
-    requires closed { IsClosed tokens.now }
-    ensures ok { IfOk result (λ expanded. Expanded tokens.now expanded.items) }
-    ensures err { IfErr result (IsMacroRefusal tokens.now) }
+fn expand_all(alloc: Global, tokens: Vec<Token>) -> Result<Vec<Token>, Fault>
+    requires finished { IsFinished tokens.items }
+    requires closed { IsClosed tokens.items }
+    ensures ok { IfOk result (λ expanded. Expanded tokens.items expanded.items) }
+    ensures err { IfErr result (IsMacroRefusal tokens.items) }
     ensures finished { IfOk result (λ expanded. IsFinished expanded.items) }
 {
     let mut definitions = Definitions::new(alloc);
-    let mut output = Output {
-        tokens: Vec::new(alloc),
-        count: 0,
-    };
-    let mut rest = tokens;
-    while let Some((token, behind)) = front(rest) {
-        match step(alloc, &mut definitions, token, behind, &mut output) {
+    let mut output = room_for(alloc, tokens.len())?;
+    let mut rest = VecDeque::from(tokens);
+    while let Some(token) = rest.pop_front() {
+        match step(alloc, &mut definitions, token, &mut rest, &mut output) {
             Err(fault) => return Err(fault),
-            Ok(left) => rest = left,
+            Ok(()) => {}
         }
     }
     Ok(output.tokens)

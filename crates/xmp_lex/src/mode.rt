@@ -1,7 +1,7 @@
 // How far a line has come.
 
 /// Where on its line a piece begins.
-#[derive(Clone, Copy, Debug, PartialEq, Eq)]
+#[derive(Clone, Copy)]
 pub enum Mode {
     /// nothing but white space and comments since the line began
     Start,

@@ -7,7 +7,7 @@ ghost use Rattle.xmp_lex.specs.Found.{IsLineSpace, IsComment};
 use crate::bytes::{block, byte_at, from, is_white, line};
 
 /// What stands at the front: nothing of the kind, an open comment, or so many bytes.
-#[derive(Clone, Copy, Debug, PartialEq, Eq)]
+#[derive(Clone, Copy)]
 pub enum Found {
     Nothing,
     Unclosed,

@@ -5,15 +5,6 @@ use std::alloc::Global;
 use xmp_base::{Bytes, NoMemory, Place};
 use xmp_num::Ty;
 
-/// A list of these bytes.
-pub fn bytes_of(alloc: Global, bytes: &[u8]) -> Result<Bytes, NoMemory>
-    ensures { IfOk result (λ b. b ≡ bytes.now) }
-{
-    let mut copy = Bytes::new(alloc);
-    copy.push_all(bytes)?;
-    Ok(copy)
-}
-
 #[derive(Clone, Copy, Debug, PartialEq, Eq)]
 pub enum Reserved {
     Int,
@@ -102,12 +93,15 @@ impl TokenKind {
         ensures { IfOk result (λ kind. kind ≡ self.now) }
     {
         match self {
-            TokenKind::Name(name) => Ok(TokenKind::Name(bytes_of(alloc, name.as_slice())?)),
+            TokenKind::Name(name) => Ok(TokenKind::Name(Bytes::copy_of(alloc, name.as_slice())?)),
             TokenKind::Word(word) => Ok(TokenKind::Word(*word)),
             TokenKind::Number(value, ty) => Ok(TokenKind::Number(*value, *ty)),
-            TokenKind::Text(text) => Ok(TokenKind::Text(bytes_of(alloc, text.as_slice())?)),
+            TokenKind::Text(text) => Ok(TokenKind::Text(Bytes::copy_of(alloc, text.as_slice())?)),
             TokenKind::Mark(mark) => Ok(TokenKind::Mark(*mark)),
-            TokenKind::Define(name) => Ok(TokenKind::Define(bytes_of(alloc, name.as_slice())?)),
+            TokenKind::Define(name) => Ok(TokenKind::Define(Bytes::copy_of(
+                alloc,
+                name.as_slice(),
+            )?)),
             TokenKind::Pragma => Ok(TokenKind::Pragma),
             TokenKind::Close => Ok(TokenKind::Close),
             TokenKind::Finish => Ok(TokenKind::Finish),

@@ -7,14 +7,14 @@ ghost use Rattle.xmp_lex.specs.Found.{Taken, IsMalformed, IsMeaning, Pushed};
 use crate::bytes::{
     byte_at, escapes, from, front, has_suffix, is_digit, is_letter, number_of, run, text_end,
 };
-use crate::token::{TokenKind, bytes_of};
+use crate::token::TokenKind;
 use crate::words::{mark_at, mark_text, word_of};
 use std::alloc::Global;
 use xmp_base::{Bytes, NoMemory};
 use xmp_num::Ty;
 
 /// Want of memory, or a rule that breaks, so many bytes on.
-#[derive(Clone, Copy, Debug, PartialEq, Eq)]
+#[derive(Clone, Copy)]
 pub enum PieceError {
     NoMemory,
     Rule(u16, usize),
@@ -138,7 +138,7 @@ fn word(alloc: Global, text: &[u8]) -> Result<(usize, TokenKind), PieceError>
     match word_of(spelled) {
         Some(word) => Ok((n, TokenKind::Word(word))),
         None => {
-            let bytes = bytes_of(alloc, spelled)?;
+            let bytes = Bytes::copy_of(alloc, spelled)?;
             Ok((n, TokenKind::Name(bytes)))
         }
     }

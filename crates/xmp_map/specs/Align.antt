@@ -1,6 +1,7 @@
 -- How the dimensions of an array are aligned with those of a template, and why a map is refused.
 use Rattle.std.specs.Prelude.{ℕ, Bool, true, false, ◌+◌, ◌&&◌, ◌||◌, ◌==◌, nat_le, nat_lt, List, [], ◌∷◌, slice_get, is_none, ℤ, pos, negsuc, Option, Some, None, if◌then◌else◌}
 use Rattle.std.specs.List.{list_all, count_by}
+use Rattle.xmp_base.specs.Limits.{size_limit}
 use Rattle.xmp_map.specs.declared.fault.MapError.{MapError}
 use Rattle.xmp_map.specs.declared.fault.MapError.TheVariants.{Align, Shadow}
 use Rattle.xmp_map.specs.declared.spread_dim.SpreadDim.{SpreadDim}
@@ -72,7 +73,7 @@ is_chunked_under (Some s) = has_shadow s.dim.dist
 -- no width is above 4,194,304, and one above 0 stands on a dimension that is aligned with a block or gblock one
 abbrev pub shadow_fits : List SpreadDim → Option ℕ → ℕ → ℕ → Bool
 shadow_fits ss d low high =
-    (nat_le low 4194304 && nat_le high 4194304) && (((low == 0) && (high == 0)) || is_chunked_under (under ss d))
+    (nat_le low size_limit && nat_le high size_limit) && (((low == 0) && (high == 0)) || is_chunked_under (under ss d))
 
 -- the same two tests for one dimension of the array
 abbrev pub is_target : ℕ → List SpreadDim → AlignedDim → Bool

@@ -2,6 +2,7 @@
 
 ghost use Rattle.std.specs.List.{list_all};
 ghost use Rattle.std.specs.Prelude.{true, ◌≡◌, ◌≤◌, ◌∷◌, [], ◌==◌, ◌&&◌, ◌||◌, nat_le, length};
+ghost use Rattle.xmp_base.specs.Limits.{size_limit};
 ghost use Rattle.xmp_map.specs.Spread.{is_whole};
 ghost use Rattle.xmp_map.specs.Shadow.{has_shadow};
 ghost use Rattle.xmp_map.specs.Align.{under, named, names_fit, positions_fit, is_target, is_chunked_under, is_shadow, map_fault, aligned_dim, aligned_dims};
@@ -10,7 +11,8 @@ use crate::aligned::{AlignedDim, Target};
 use crate::fault::MapError;
 use crate::spread_dim::SpreadDim;
 use crate::template::Template;
-use xmp_dist::{Dist, MAX_SIZE};
+use xmp_base::SIZE_LIMIT;
+use xmp_dist::Dist;
 
 const UNUSED: AlignedDim = AlignedDim {
     target: Target {
@@ -98,7 +100,7 @@ fn names_fit(dims: &[AlignedDim], spread: &[SpreadDim; 3]) -> bool
 }
 
 fn positions_fit(offset: i32, extent: u32, under: Option<SpreadDim>) -> bool
-    requires { extent ≤ 4194304 }
+    requires { extent ≤ size_limit }
     ensures { result ≡ positions_fit offset extent under }
 {
     match under {
@@ -108,7 +110,7 @@ fn positions_fit(offset: i32, extent: u32, under: Option<SpreadDim>) -> bool
 }
 
 fn is_target(template: &Template, dim: &AlignedDim) -> bool
-    requires { dim.now.extent ≤ 4194304 }
+    requires { dim.now.extent ≤ size_limit }
     ensures { result ≡ is_target template.now.dims template.now.spread dim.now }
 {
     match dim.target.dim {
@@ -134,7 +136,7 @@ fn is_chunked(under: Option<SpreadDim>) -> bool
 fn is_shadow(template: &Template, dim: &AlignedDim) -> bool
     ensures { result ≡ is_shadow template.now.spread dim.now }
 {
-    if dim.low > MAX_SIZE || dim.high > MAX_SIZE {
+    if dim.low > SIZE_LIMIT || dim.high > SIZE_LIMIT {
         return false;
     }
     if dim.low == 0 && dim.high == 0 {
@@ -145,7 +147,7 @@ fn is_shadow(template: &Template, dim: &AlignedDim) -> bool
 
 // The first reason that refuses a map.
 pub fn fault(template: &Template, dims: &[AlignedDim; 3]) -> Option<MapError>
-    requires { list_all (λ l. nat_le l.extent 4194304) dims.now ≡ true }
+    requires { list_all (λ l. nat_le l.extent size_limit) dims.now ≡ true }
     ensures { result ≡ map_fault template.now.dims template.now.spread dims.now }
 {
     let [a, b, c] = dims;

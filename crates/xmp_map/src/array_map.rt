@@ -2,6 +2,7 @@
 
 ghost use Rattle.std.specs.Prelude.{IsTrue, is_none, map, drop, ◌≤◌, nat_le, nat_lt, ◌&&◌};
 ghost use Rattle.std.specs.List.{list_all};
+ghost use Rattle.xmp_base.specs.Limits.{cell_limit};
 ghost use Rattle.xmp_map.specs.RowMajor.{product};
 ghost use Rattle.xmp_dist.specs.Valid.{is_extent};
 ghost use Rattle.xmp_map.specs.Align.{is_unused, map_fault};
@@ -24,7 +25,7 @@ pub struct ArrayMap {
     ghost rest: { IsTrue (list_all is_unused (drop dims aligned)) },
     ghost fits: { IsTrue (is_none (map_fault template.dims template.spread aligned)) },
     ghost extents: { IsTrue (list_all (λ l. is_extent l.extent) aligned) },
-    ghost small: { product (map (λ l. l.extent) aligned) ≤ 4194304 },
+    ghost small: { product (map (λ l. l.extent) aligned) ≤ cell_limit },
 }
 
 /// A cell of an array, by its subscripts; unused ones are 0.
@@ -54,7 +55,7 @@ impl ArrayMap {
         requires targets { length target.now ≡ length extents.now }
         requires shadows { length shadow.now ≡ length extents.now }
         requires sizes { IsTrue (list_all is_extent extents.now) }
-        requires cells { product extents.now ≤ 4194304 }
+        requires cells { product extents.now ≤ cell_limit }
         ensures parts { IfOk result (λ m. (m.template ≡ template.now) × (m.dims ≡ length extents.now)
             × (m.aligned ≡ aligned_dims extents.now target.now shadow.now)) }
         ensures cause { MatchResult result
@@ -157,8 +158,8 @@ impl ArrayMap {
     fn sides(&self, node: u32) -> [u32; 3]
         requires { node < node_count self.now }
         ensures sides { result ≡ held_counts self.now node }
-        ensures pair { slice_index result 0 * slice_index result 1 ≤ 4194304 }
-        ensures small { product result ≤ 4194304 }
+        ensures pair { slice_index result 0 * slice_index result 1 ≤ cell_limit }
+        ensures small { product result ≤ cell_limit }
     {
         let at = self.grid_place(node);
         let [first, second, third] = &self.aligned;

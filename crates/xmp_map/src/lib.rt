@@ -19,6 +19,3 @@ pub use fault::MapError;
 pub use grid::{Grid, NodeSet};
 pub use spread_dim::SpreadDim;
 pub use template::Template;
-
-#[cfg(test)]
-mod tests;

@@ -1,6 +1,7 @@
 // Row-major numbers in boxes of three dimensions, and tests of three numbers.
 
 ghost use Rattle.std.specs.Prelude.{◌≡◌, ◌≤◌, ◌<◌, ◌+◌, ◌*◌, ◌&&◌, ◌∷◌, [], nat_le, nat_lt, slice_index};
+ghost use Rattle.xmp_base.specs.Limits.{cell_limit};
 ghost use Rattle.xmp_map.specs.RowMajor.{product, row_major, unravel};
 ghost use Rattle.xmp_map.specs.Boxes.{IsInside};
 ghost use Rattle.xmp_map.specs.Nodes.{is_grid};
@@ -8,7 +9,7 @@ ghost use Rattle.xmp_map.specs.Nodes.{is_grid};
 // The subscripts of the cell with the number `n`.
 pub fn unravel(sizes: &[u32; 3], n: u32) -> [u32; 3]
     requires below { n < product sizes.now }
-    requires small { product sizes.now ≤ 4194304 }
+    requires small { product sizes.now ≤ cell_limit }
     ensures subscripts { result ≡ unravel sizes.now n }
     ensures inside { IsInside result sizes.now }
 {
@@ -19,8 +20,8 @@ pub fn unravel(sizes: &[u32; 3], n: u32) -> [u32; 3]
 
 // The number of cells.
 pub fn product(sizes: &[u32; 3]) -> u32
-    requires pair { slice_index sizes.now 0 * slice_index sizes.now 1 ≤ 4194304 }
-    requires small { product sizes.now ≤ 4194304 }
+    requires pair { slice_index sizes.now 0 * slice_index sizes.now 1 ≤ cell_limit }
+    requires small { product sizes.now ≤ cell_limit }
     ensures { result ≡ product sizes.now }
 {
     let [planes, rows, columns] = *sizes;
@@ -29,8 +30,8 @@ pub fn product(sizes: &[u32; 3]) -> u32
 
 // The number of the cell with these subscripts.
 pub fn row_major(sizes: &[u32; 3], at: &[u32; 3]) -> u32
-    requires pair { slice_index sizes.now 0 * slice_index sizes.now 1 ≤ 4194304 }
-    requires small { product sizes.now ≤ 4194304 }
+    requires pair { slice_index sizes.now 0 * slice_index sizes.now 1 ≤ cell_limit }
+    requires small { product sizes.now ≤ cell_limit }
     requires inside { IsInside at.now sizes.now }
     ensures number { result ≡ row_major sizes.now at.now }
     ensures below { result < product sizes.now }

@@ -2,6 +2,7 @@
 
 ghost use Rattle.std.specs.Prelude.{◌≡◌, ◌≤◌, ◌<◌, ◌+◌, ◌↔◌, ◌⊎◌, IsTrue, Some, None, if◌then◌else◌, true, ℕ};
 ghost use Rattle.xmp_dist.specs.Count.{count_below};
+ghost use Rattle.xmp_base.specs.Limits.{size_limit};
 ghost use Rattle.xmp_map.specs.Shadow.{has_shadow, holds_at};
 
 use xmp_dist::{Dim, Dist};
@@ -11,8 +12,8 @@ use xmp_dist::{Dim, Dist};
 pub fn held_below(dim: &Dim, c: u32, low: u32, high: u32, offset: u32, n: u32) -> u32
     requires node { c < dim.now.nodes }
     requires inside { n + offset ≤ dim.now.size }
-    requires low_fits { low ≤ 4194304 }
-    requires high_fits { high ≤ 4194304 }
+    requires low_fits { low ≤ size_limit }
+    requires high_fits { high ≤ size_limit }
     requires shadow { (has_shadow dim.now.dist ≡ true) ⊎ ((low ≡ 0) × (high ≡ 0)) }
     ensures { result ≡ count_below (λ x. holds_at dim.now c low high (x + offset)) n }
 {
@@ -34,8 +35,8 @@ pub fn held_below(dim: &Dim, c: u32, low: u32, high: u32, offset: u32, n: u32) -
 pub fn local_of(dim: &Dim, c: u32, low: u32, high: u32, offset: u32, x: u32) -> Option<u32>
     requires node { c < dim.now.nodes }
     requires inside { x + offset < dim.now.size }
-    requires low_fits { low ≤ 4194304 }
-    requires high_fits { high ≤ 4194304 }
+    requires low_fits { low ≤ size_limit }
+    requires high_fits { high ≤ size_limit }
     requires shadow { (has_shadow dim.now.dist ≡ true) ⊎ ((low ≡ 0) × (high ≡ 0)) }
     ensures { result
         ≡ (if holds_at dim.now c low high (x + offset)

@@ -9,7 +9,8 @@ ghost use Rattle.xmp_map.specs.Spread.{is_whole, spread, spreads, chunk_fits, ch
 use crate::fault::MapError;
 use crate::grid::Grid;
 use crate::spread_dim::SpreadDim;
-use xmp_dist::{Dim, Dist, MAX_SIZE};
+use xmp_base::SIZE_LIMIT;
+use xmp_dist::{Dim, Dist};
 
 fn spread(dist: Dist) -> u32
     ensures { result ≡ spread dist }
@@ -36,7 +37,7 @@ pub fn spreads(dists: &[Dist]) -> u32
 fn is_extent(n: u32) -> bool
     ensures { result ≡ is_extent n }
 {
-    1 <= n && n <= MAX_SIZE
+    1 <= n && n <= SIZE_LIMIT
 }
 
 // One to three sizes, filled up to three by 1.

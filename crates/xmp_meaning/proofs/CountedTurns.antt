@@ -8,14 +8,16 @@ use Rattle.xmp_prog.specs.declared.statements.LoopHead.{LoopHead}
 use Rattle.xmp_meaning.specs.declared.ends.Flow.{Flow}
 use Rattle.xmp_meaning.specs.declared.ends.Flow.TheVariants.{Next, Returned}
 use Rattle.xmp_meaning.specs.Runs.{State, Step, Gave, Ended, Run, and_then, ◌>>=◌, pure, set_scalar}
+use Rattle.xmp_meaning.specs.Blocks.{after, then_run, choose, turns}
 use Rattle.xmp_meaning.specs.Context.{Context}
-use Rattle.xmp_meaning.specs.Loops.{after, then_run, choose, is_inside, inside, step_up, turn_count, turns}
+use Rattle.xmp_meaning.specs.Handlers.{Handlers}
+use Rattle.xmp_meaning.specs.Loops.{is_inside, inside, step_up, turn_count}
 use Rattle.xmp_meaning.specs.Laws.{IsCounted, CountedTurns, repeated}
 use Rattle.xmp_meaning.proofs.Sequences.{flows_associate}
 use Rattle.xmp_meaning.proofs.Counting.{turns_are_counted}
 
-module _ {X : Type 0} (cx : Context) (head : LoopHead) (body : Run X Flow) (fits : State X → Bool) (from to : ℤ)
-    (c : IsCounted X cx head body fits from to) where
+module _ {X : Type 0} (h : Handlers X) (cx : Context) (head : LoopHead) (body : Run X Flow) (fits : State X → Bool) (from to : ℤ)
+    (c : IsCounted X h cx head body fits from to) where
   abbrev count : ℕ
   count = turn_count from (wrap Int to) head.inclusive head.step
 
@@ -27,7 +29,7 @@ module _ {X : Type 0} (cx : Context) (head : LoopHead) (body : Run X Flow) (fits
 
   -- the test holds at each of the turns
   tested : (k : ℕ) → k < count → (s : State X) → fits s ≡ true → slice_get s.scalars head.index.number ≡ Some (index_at k)
-      → inside cx head s ≡ Gave true s
+      → inside h cx head s ≡ Gave true s
   tested k lt s fit at =
       ap (λ r. and_then r (λ t. pure (is_inside head.inclusive (unwrap_or (slice_get s.scalars head.index.number) (pos 0)) (wrap Int t)))) (c.bound_is s fit)
       ∙ ap (λ o. Gave (is_inside head.inclusive (unwrap_or o (pos 0)) (wrap Int to)) s) at
@@ -49,7 +51,7 @@ module _ {X : Type 0} (cx : Context) (head : LoopHead) (body : Run X Flow) (fits
   next_turn n k = set_scalar head.index.number (index_at (suc k)) >>= (λ u. repeated head n (suc k) from body)
 
   counted_from : (n k : ℕ) → n + k ≡ count → (s : State X) → fits s ≡ true → slice_get s.scalars head.index.number ≡ Some (index_at k)
-      → turns n (inside cx head) (then_run body (step_up head)) s ≡ repeated head n k from body s
+      → turns n (inside h cx head) (then_run body (step_up head)) s ≡ repeated head n k from body s
   unfolding next_turn
   counted_from zero k e s fit at = refl
   counted_from (suc n) k e s fit at =
@@ -66,13 +68,13 @@ module _ {X : Type 0} (cx : Context) (head : LoopHead) (body : Run X Flow) (fits
       lt = omega (arith, e)
 
       loop : Run X Flow
-      loop = turns n (inside cx head) (then_run body (step_up head))
+      loop = turns n (inside h cx head) (then_run body (step_up head))
 
 index_at_first : (from : ℤ) (step : ℕ) → from ≡ from +ℤ pos (0 * step)
 index_at_first from step = grind (arith, ints)
 
 pub counted_turns : (X : Type 0) → CountedTurns X
-counted_turns X cx head body fits from to c s fit at =
-    counted_from cx head body fits from to c (turn_count from (wrap Int to) head.inclusive head.step) 0
+counted_turns X h cx head body fits from to c s fit at =
+    counted_from h cx head body fits from to c (turn_count from (wrap Int to) head.inclusive head.step) 0
     (let q : turn_count from (wrap Int to) head.inclusive head.step + 0 ≡ turn_count from (wrap Int to) head.inclusive head.step = omega arith in q)
     s fit (at ∙ ap Some (index_at_first from head.step))

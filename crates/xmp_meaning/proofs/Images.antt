@@ -10,16 +10,18 @@ use Rattle.xmp_meaning.specs.declared.outcome.Outcome.{Outcome}
 use Rattle.xmp_meaning.specs.declared.outcome.Outcome.TheVariants as outcome
 use Rattle.xmp_meaning.specs.declared.ends.Flow.TheVariants.{Next}
 use Rattle.xmp_meaning.specs.Runs.{State, Step, Gave, Ended, Run, and_then, ◌>>=◌, pure, step_of, take_step}
-use Rattle.xmp_meaning.specs.Context.{Context}
 use Rattle.xmp_prog.specs.Fits.{node_count}
+use Rattle.xmp_meaning.specs.Blocks.{each}
+use Rattle.xmp_meaning.specs.Layouts.{Whole}
+use Rattle.xmp_meaning.specs.Context.{Context}
+use Rattle.xmp_meaning.specs.Handlers.{erased}
 use Rattle.xmp_meaning.specs.Expressions.{after_call}
 use Rattle.xmp_meaning.specs.Loops.{turn}
-use Rattle.xmp_meaning.specs.Directives.{erased}
 use Rattle.xmp_meaning.specs.Calls.{main_context}
 use Rattle.xmp_meaning.specs.Programs.{no_writes, beginning, told, outcome_of, serial_end, serial}
 use Rattle.xmp_meaning.specs.Phases.{Memory, at_image, next_phase, image_run, image_runs, applied_row, applied, memory_after, stopped, printed_in, goes_on, phase_outcome, phases_from}
 use Rattle.xmp_meaning.specs.Laws.{bare, OneImage}
-use Rattle.xmp_meaning.proofs.Keeps.{Joins, Keeps, KeepsDirectives, turns_kept, tasks_kept}
+use Rattle.xmp_meaning.proofs.Keeps.{Joins, Keeps, KeepsHandlers, each_kept, turns_kept, tasks_kept}
 use Rattle.xmp_meaning.proofs.RelatedStatements.{keeps-program}
 use Rattle.xmp_meaning.proofs.Stays.{Any, all_any}
 
@@ -48,7 +50,7 @@ alike_on : {A B : Type 0} (p : Run (Unit {0}) A) (q : Run (List Memory) A) (f : 
     → Alike A p q → ((a : A) → Alike B (f a) (g a)) → Alike B (p >>= f) (q >>= g)
 alike_on p q f g h i s none = alike_step f g i (p (bare s)) (q s) (h s none)
 
-alike_joins : Joins (Unit {0}) (List Memory) Alike
+alike_joins : Joins (State (Unit {0})) (State (List Memory)) Alike
 alike_joins = record { gives = λ a s none. (refl, none); goes_on = λ {A} {B} {p} {q} {f} {g} h i. alike_on p q f g h i }
 
 alike_call : (s : State (List Memory)) → NoneKnown s → (r : Step (Unit {0}) ℤ) → GoesAlike ℤ (after_call (bare s) r) (after_call s r)
@@ -82,13 +84,18 @@ alike cx = record {
 alike_sync : (p : ProgParts) → Alike Flow (pure Next) (λ s. next_phase p s.extra s)
 alike_sync p s none = subst (λ ms. GoesAlike Flow (Gave Next (bare s)) (next_phase p ms s)) (sym none) tt
 
-alike_directives : (p : ProgParts) → KeepsDirectives (Unit {0}) (List Memory) Alike erased (at_image p)
-alike_directives p = record {
+alike_handlers : (p : ProgParts) → KeepsHandlers (Unit {0}) (List Memory) Any Alike erased (at_image p)
+alike_handlers p = record {
+  get = λ row at s none. (refl, none);
+  put = λ row may at v s none. (refl, none);
   loop = λ directive around around' body body' h i. h body body' i;
   reflect = λ arrays s none. (refl, none);
   barrier = λ s none. (refl, none);
   bcast = λ variables nodes s none. (refl, none);
-  gmove = λ target source m m' w w' h i. alike_on m m' w w' h i;
+  gmove = λ target source aim aim' read read' write write' h i j.
+      alike_on aim aim' (λ a. each (map read a.sources) [] >>= write a.targets) (λ a. each (map read' a.sources) [] >>= write' a.targets) h
+      (λ a. alike_on (each (map read a.sources) []) (each (map read' a.sources) []) (write a.targets) (write' a.targets)
+      (each_kept alike_joins read read' i a.sources []) (j a.targets));
   tasks = λ ts us all. tasks_kept alike_joins ts us all;
   sync = alike_sync p;
 }
@@ -116,26 +123,26 @@ one_run p one = ap (λ n. map (λ image. image_run p image []) (range_with_len 0
 
 abbrev phase_of : ProgParts → Outcome → List (Step (List Memory) Flow) → Outcome
 phase_of p following runs =
-    phase_outcome (stopped [] runs) (goes_on runs) (outcome.Ended (printed_in runs) (told p p.arrays (memory_after (no_writes p) runs))) following
+    phase_outcome (stopped [] runs) (goes_on runs) (outcome.Ended (printed_in runs) (told p p.arrays (memory_after (no_writes Whole p) runs))) following
 
 phase_alone : (p : ProgParts) (following : Outcome) (u : Step (Unit {0}) Flow) (r : Step (List Memory) Flow) → GoesAlike Flow u r
     → ((t : State (List Memory)) → r ≢ Ended PhaseEnd t) → phase_of p following (r ∷ []) ≡ outcome_of p u
 phase_alone p following u (Gave flow s) h never =
-    ap (λ out. outcome.Ended out (told p p.arrays (applied (no_writes p) s.arrays (no_writes p)))) (append-nil s.out)
-    ∙ ap (λ rows. outcome.Ended s.out (told p p.arrays rows)) (applied_alone (no_writes p) s.arrays)
+    ap (λ out. outcome.Ended out (told p p.arrays (applied (no_writes Whole p) s.arrays (no_writes Whole p)))) (append-nil s.out)
+    ∙ ap (λ rows. outcome.Ended s.out (told p p.arrays rows)) (applied_alone (no_writes Whole p) s.arrays)
     ∙ sym (ap (outcome_of p) h.0)
 phase_alone p following u (Ended (Trapped kind at) s) h never = sym (ap (outcome_of p) h)
 phase_alone p following u (Ended OutOfSteps s) h never = sym (ap (outcome_of p) h)
 phase_alone p following u (Ended PhaseEnd s) h never = absurd (never s refl)
 
 goes_alike : (p : ProgParts) → GoesAlike Flow (serial_end p [] 0) (image_run p 0 [])
-goes_alike p = keeps-program (main_context p 0 []) (alike (main_context p 0 [])) (alike_directives p) (all_any _) (all_any _) (all_any _) (beginning p 0 []) refl
+goes_alike p = keeps-program (main_context p 0 []) (alike (main_context p 0 [])) (alike_handlers p) (all_any _) (all_any _) (all_any _) (beginning Whole p 0 []) refl
 
 one_phase : (p : ProgParts) (n : ℕ) → node_count p ≡ 1 → ((t : State (List Memory)) → image_run p 0 [] ≢ Ended PhaseEnd t)
     → phases_from p (suc n) [] [] ≡ serial p [] 0
 unfolding phases_from
 one_phase p n one never =
-    ap (λ runs. phase_of p (phases_from p n (memory_after (no_writes p) runs ∷ []) (printed_in runs)) runs) (one_run p one)
+    ap (λ runs. phase_of p (phases_from p n (memory_after (no_writes Whole p) runs ∷ []) (printed_in runs)) runs) (one_run p one)
     ∙ phase_alone p _ (serial_end p [] 0) (image_run p 0 []) (goes_alike p) never
 
 pub one_image : (p : ProgParts) → OneImage p

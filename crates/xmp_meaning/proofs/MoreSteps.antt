@@ -8,15 +8,17 @@ use Rattle.xmp_meaning.specs.declared.ends.End.TheVariants.{Trapped, OutOfSteps,
 use Rattle.xmp_meaning.specs.declared.ends.Flow.{Flow}
 use Rattle.xmp_meaning.specs.declared.ends.Flow.TheVariants.{Next, Returned}
 use Rattle.xmp_meaning.specs.Runs.{State, Step, Gave, Ended, Run, and_then, ◌>>=◌, pure, step_of, state_of}
+use Rattle.xmp_meaning.specs.Blocks.{after, then_run, choose, turns}
+use Rattle.xmp_meaning.specs.Layouts.{Whole}
 use Rattle.xmp_meaning.specs.Context.{Context}
+use Rattle.xmp_meaning.specs.Handlers.{erased}
 use Rattle.xmp_meaning.specs.Expressions.{after_call}
-use Rattle.xmp_meaning.specs.Loops.{after, then_run, choose, turns, turn}
-use Rattle.xmp_meaning.specs.Directives.{erased}
+use Rattle.xmp_meaning.specs.Loops.{turn}
 use Rattle.xmp_meaning.specs.Statements.{stmt_of}
 use Rattle.xmp_meaning.specs.Calls.{frame, bind, returned, invoke_some, context, call_of, main_context}
 use Rattle.xmp_meaning.specs.Programs.{beginning, outcome_of, serial, serial_end}
 use Rattle.xmp_meaning.specs.Laws.{richer, SameWithMore, SameOutcome}
-use Rattle.xmp_meaning.proofs.Keeps.{Joins, Keeps, KeepsDirectives, tasks_kept}
+use Rattle.xmp_meaning.proofs.Keeps.{Keeps, KeepsHandlers, erased_kept}
 use Rattle.xmp_meaning.proofs.RelatedStatements.{keeps-stmt, keeps-program}
 use Rattle.xmp_meaning.proofs.Stays.{Any, all_any}
 
@@ -51,9 +53,6 @@ module _ (more : ℕ) where
 
     goes_on_richly : {A B : Type 0} (p q : Run X A) (f g : A → Run X B) → Richly A p q → ((a : A) → Richly B (f a) (g a)) → Richly B (p >>= f) (q >>= g)
     goes_on_richly p q f g h i s = rich_on s.steps f g (p s) (q (richer more s)) (h s) (λ a t le. i a t)
-
-    richly_joins : Joins X X Richly
-    richly_joins = record { gives = gives_richly; goes_on = λ {A} {B} {p} {q} {f} {g} h i. goes_on_richly p q f g h i }
 
     -- ---- loops
     module _ (test test' : Run X Bool) (body body' : Run X Flow) (h : Richly Bool test test') (i : Richly Flow body body') where
@@ -112,16 +111,8 @@ module _ (more : ℕ) where
           turns_richly test test' body body' h i (suc s.steps) (suc (s.steps + more)) (omega arith) s (omega arith);
     }
 
-    pub richly_erased : KeepsDirectives X X Richly erased erased
-    richly_erased = record {
-      loop = λ directive around around' body body' h i. h body body' i;
-      reflect = λ arrays. gives_richly Next;
-      barrier = gives_richly Next;
-      bcast = λ variables nodes. gives_richly Next;
-      gmove = λ target source m m' w w' h i. goes_on_richly m m' w w' h i;
-      tasks = λ ts us all. tasks_kept richly_joins ts us all;
-      sync = gives_richly Next;
-    }
+    pub richly_erased : (cx : Context) → CallsRichly cx → KeepsHandlers X X Any Richly erased erased
+    richly_erased cx calls = erased_kept (richly cx calls)
 
   -- ---- calls
   bind_richly : (p : ProgParts) (slots : List ℕ) (vs : List ℤ) → Richly {X = Unit {0}} (Unit {0}) (bind p slots vs) (bind p slots vs)
@@ -133,7 +124,7 @@ module _ (more : ℕ) where
   invoke_richly cx calls None vs = gives_richly (pos 0)
   invoke_richly cx calls (Some f) vs =
       goes_on_richly (bind cx.program f.parameters vs) (bind cx.program f.parameters vs) (λ u. value) (λ u. value) (bind_richly cx.program f.parameters vs)
-      (λ u. goes_on_richly statement statement convert convert (keeps-stmt cx (richly cx calls) richly_erased f.body (all_any _) (all_any _))
+      (λ u. goes_on_richly statement statement convert convert (keeps-stmt cx (richly cx calls) (richly_erased cx calls) f.body (all_any _) (all_any _))
       (λ flow. gives_richly (wrap f.result (returned flow))))
     where
       statement : Run (Unit {0}) Flow
@@ -166,7 +157,10 @@ module _ (more : ℕ) where
 
   pub more_steps : (p : ProgParts) (input : List ℕ) (steps : ℕ) → SameOutcome (serial p input steps) (serial p input (steps + more))
   more_steps p input steps = same_outcome p (serial_end p input steps) (serial_end p input (steps + more))
-      (keeps-program cx (richly cx (calls_richly p 0 input (length p.functions))) richly_erased (all_any _) (all_any _) (all_any _) (beginning p steps tt)).same
+      (keeps-program cx (richly cx calls) (richly_erased cx calls) (all_any _) (all_any _) (all_any _) (beginning Whole p steps tt)).same
     where
       cx : Context
       cx = main_context p 0 input
+
+      calls : CallsRichly cx
+      calls = calls_richly p 0 input (length p.functions)

@@ -1,22 +1,23 @@
 -- What every part of a run respects, where its primitives do: a reflexive and transitive relation between the state before and the state after.
-use Rattle.std.proofs.Common.{◌≡◌, ◌++◌, ℕ, zero, suc, ℤ, Bool, true, false, List, [], ◌∷◌, map, refl}
+use Rattle.std.proofs.Common.{◌≡◌, ◌++◌, ℕ, zero, suc, ℤ, Bool, true, false, List, refl}
 use Rattle.std.specs.Prelude.{slice_set}
 use Rattle.xmp_meaning.specs.declared.ends.Flow.{Flow}
 use Rattle.xmp_meaning.specs.declared.ends.Flow.TheVariants.{Next, Returned}
-use Rattle.xmp_meaning.specs.Cells.{with_cell}
+use Rattle.xmp_meaning.specs.Cells.{write_in}
 use Rattle.xmp_meaning.specs.Runs.{State, Step, Gave, Ended, Run, and_then, pure, step_of, state_of}
+use Rattle.xmp_meaning.specs.Blocks.{after, then_run, choose, turns}
 use Rattle.xmp_meaning.specs.Context.{Context}
+use Rattle.xmp_meaning.specs.Handlers.{erased}
 use Rattle.xmp_meaning.specs.Expressions.{call}
-use Rattle.xmp_meaning.specs.Loops.{after, then_run, block, choose, turns, turn}
-use Rattle.xmp_meaning.specs.Directives.{TaskRun, task_run, erased}
-use Rattle.xmp_meaning.proofs.Keeps.{Keeps, KeepsDirectives, AllAlike}
+use Rattle.xmp_meaning.specs.Loops.{turn}
+use Rattle.xmp_meaning.proofs.Keeps.{Keeps, KeepsHandlers, erased_kept}
 
 -- The relation, and that the primitives respect it: writes of scalars in S and of cells of arrays in T.
 pub record Respected (X : Type 0) (cx : Context) (S T : ℕ → Type 0) (K : State X → State X → Type 0) : Type 0 where
   pub same : (s : State X) → K s s
   pub then : (s t u : State X) → K s t → K t u → K s u
   pub scalars : (s : State X) (slot : ℕ) (v : ℤ) → S slot → K s (record s { scalars = slice_set s.scalars slot v })
-  pub arrays : (s : State X) (row at : ℕ) (v : ℤ) → T row → K s (record s { arrays = with_cell s.arrays row at v })
+  pub arrays : (s : State X) (row : ℕ) (at v : ℤ) → T row → K s (record s { arrays = write_in s.arrays row at v })
   pub out : (s : State X) (text : List ℕ) → K s (record s { out = s.out ++ text })
   pub taken : (s : State X) (n : ℕ) → K s (record s { taken = n })
   pub steps : (s : State X) (n : ℕ) → s.steps ≡ suc n → K s (record s { steps = n })
@@ -71,20 +72,5 @@ module _ {X : Type 0} {cx : Context} {S T : ℕ → Type 0} {K : State X → Sta
         (λ t. respects_then t (λ u. body) (step_of t.steps t) (respects_step t t.steps refl) (λ u. i)) s;
   }
 
-  respects_block : (ts us : List (TaskRun X)) → AllAlike X X Respects ts us → (s : State X) → K s (state_of (block (map task_run ts) s))
-  respects_block [] us alike s = r.same s
-  respects_block (t ∷ ts) [] alike s = absurd alike
-  respects_block (t ∷ ts) (u ∷ us) alike s =
-      respects_then s (λ flow. after flow (block (map task_run ts))) (t.run s) (alike.0.runs s)
-      (λ flow. respects_after flow (block (map task_run ts)) (respects_block ts us alike.1))
-
-  pub keeps_erased : KeepsDirectives X X Respects erased erased
-  keeps_erased = record {
-    loop = λ directive around around' body body' h i. h body body' i;
-    reflect = λ arrays s. r.same s;
-    barrier = λ s. r.same s;
-    bcast = λ variables nodes s. r.same s;
-    gmove = λ target source m m' w w' h i s. respects_then s w (m s) (h s) i;
-    tasks = respects_block;
-    sync = λ s. r.same s;
-  }
+  pub keeps_erased : KeepsHandlers X X T Respects erased erased
+  keeps_erased = erased_kept keeps

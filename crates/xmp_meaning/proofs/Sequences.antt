@@ -2,58 +2,58 @@
 use Rattle.std.proofs.Common.{◌≡◌, ◌+◌, ◌++◌, ℕ, zero, suc, Bool, true, false, [], ◌∷◌, refl, sym, ap, ◌∙◌, arith}
 use Rattle.xmp_meaning.specs.declared.ends.Flow.{Flow}
 use Rattle.xmp_meaning.specs.declared.ends.Flow.TheVariants.{Next, Returned}
-use Rattle.xmp_meaning.specs.Runs.{State, Step, Gave, Ended, Run, and_then, pure}
-use Rattle.xmp_meaning.specs.Loops.{after, then_run, block, choose, turns}
+use Rattle.xmp_meaning.specs.Runs.{StepIn, Gave, Ended, RunIn, and_then, pure}
+use Rattle.xmp_meaning.specs.Blocks.{after, then_run, block, choose, turns}
 use Rattle.xmp_meaning.specs.Laws.{IsAssociative, StatementsAssociate, BlocksJoin, TurnsAdd, EndsAreFinal}
 
-steps_associate : {X A B C : Type 0} (r : Step X A) (f : A → Run X B) (g : B → Run X C)
+steps_associate : {S A B C : Type 0} (r : StepIn S A) (f : A → RunIn S B) (g : B → RunIn S C)
     → and_then (and_then r f) g ≡ and_then r (λ a s. and_then (f a s) g)
 steps_associate (Gave a s) f g = refl
 steps_associate (Ended e s) f g = refl
 
-pub associative : (X A B C : Type 0) → IsAssociative X A B C
-associative X A B C p f g s = steps_associate (p s) f g
+pub associative : (S A B C : Type 0) → IsAssociative S A B C
+associative S A B C p f g s = steps_associate (p s) f g
 
 -- what follows both, by what the first statement gave
-pub flows_associate : {X : Type 0} (r : Step X Flow) (q t : Run X Flow)
+pub flows_associate : {S : Type 0} (r : StepIn S Flow) (q t : RunIn S Flow)
     → and_then (and_then r (λ flow. after flow q)) (λ flow. after flow t) ≡ and_then r (λ flow. after flow (then_run q t))
 flows_associate (Gave Next s) q t = refl
 flows_associate (Gave (Returned v) s) q t = refl
 flows_associate (Ended e s) q t = refl
 
-pub statements_associate : (X : Type 0) → StatementsAssociate X
-statements_associate X p q r s = flows_associate (p s) q r
+pub statements_associate : (S : Type 0) → StatementsAssociate S
+statements_associate S p q r s = flows_associate (p s) q r
 
 -- what follows a flow, where what follows `Next` is the same
-pub same_after : {X : Type 0} (r : Step X Flow) (q t : Run X Flow) → ((s : State X) → q s ≡ t s)
+pub same_after : {S : Type 0} (r : StepIn S Flow) (q t : RunIn S Flow) → ((s : S) → q s ≡ t s)
     → and_then r (λ flow. after flow q) ≡ and_then r (λ flow. after flow t)
 same_after (Gave Next s) q t same = same s
 same_after (Gave (Returned v) s) q t same = refl
 same_after (Ended e s) q t same = refl
 
-pub blocks_join : (X : Type 0) → BlocksJoin X
-blocks_join X [] qs s = refl
-blocks_join X (p ∷ ps) qs s =
-    same_after (p s) (block (ps ++ qs)) (then_run (block ps) (block qs)) (blocks_join X ps qs)
+pub blocks_join : (S : Type 0) → BlocksJoin S
+blocks_join S [] qs s = refl
+blocks_join S (p ∷ ps) qs s =
+    same_after (p s) (block (ps ++ qs)) (then_run (block ps) (block qs)) (blocks_join S ps qs)
     ∙ sym (flows_associate (p s) (block ps) (block qs))
 
-no_more_turns : (X : Type 0) (m : ℕ) (test : Run X Bool) (body : Run X Flow) (t : State X) → test t ≡ Gave false t → turns m test body t ≡ Gave Next t
-no_more_turns X zero test body t e = refl
-no_more_turns X (suc m) test body t e = ap (λ r. and_then r (λ more. choose more (then_run body (turns m test body)) (pure Next))) e
+no_more_turns : (S : Type 0) (m : ℕ) (test : RunIn S Bool) (body : RunIn S Flow) (t : S) → test t ≡ Gave false t → turns m test body t ≡ Gave Next t
+no_more_turns S zero test body t e = refl
+no_more_turns S (suc m) test body t e = ap (λ r. and_then r (λ more. choose more (then_run body (turns m test body)) (pure Next))) e
 
-pub turns_add : (X : Type 0) → TurnsAdd X
-turns_add X zero m test body stays s = ap (λ (k : ℕ). turns k test body s) (let e : zero + m ≡ m = omega arith in e)
-turns_add X (suc n) m test body stays s =
-    ap (λ (k : ℕ). turns k test body s) (let e : suc n + m ≡ suc (n + m) = omega arith in e) ∙ at_test (turns_add X n m test body stays) (test s) refl
+pub turns_add : (S : Type 0) → TurnsAdd S
+turns_add S zero m test body stays s = ap (λ (k : ℕ). turns k test body s) (let e : zero + m ≡ m = omega arith in e)
+turns_add S (suc n) m test body stays s =
+    ap (λ (k : ℕ). turns k test body s) (let e : suc n + m ≡ suc (n + m) = omega arith in e) ∙ at_test (turns_add S n m test body stays) (test s) refl
   where
-    at_test : ((t : State X) → turns (n + m) test body t ≡ then_run (turns n test body) (turns m test body) t) → (r : Step X Bool) → test s ≡ r
+    at_test : ((t : S) → turns (n + m) test body t ≡ then_run (turns n test body) (turns m test body) t) → (r : StepIn S Bool) → test s ≡ r
         → and_then r (λ more. choose more (then_run body (turns (n + m) test body)) (pure Next))
         ≡ and_then (and_then r (λ more. choose more (then_run body (turns n test body)) (pure Next))) (λ flow. after flow (turns m test body))
     at_test rest (Gave true t) e =
         same_after (body t) (turns (n + m) test body) (then_run (turns n test body) (turns m test body)) rest
         ∙ sym (flows_associate (body t) (turns n test body) (turns m test body))
-    at_test rest (Gave false t) e = sym (no_more_turns X m test body t (stays s t e))
+    at_test rest (Gave false t) e = sym (no_more_turns S m test body t (stays s t e))
     at_test rest (Ended end t) e = refl
 
-pub ends_are_final : (X A B : Type 0) → EndsAreFinal X A B
-ends_are_final X A B p f s t e is = ap (λ r. and_then r f) is
+pub ends_are_final : (S A B : Type 0) → EndsAreFinal S A B
+ends_are_final S A B p f s t e is = ap (λ r. and_then r f) is

@@ -1,13 +1,13 @@
 -- What a statement leaves as it was: the output so far, and what it doesn't name.
-use Rattle.std.proofs.Common.{◌≡◌, ◌≢◌, ◌++◌, ℕ, zero, suc, ℤ, List, [], ◌∷◌, refl, sym, ap, ◌∙◌, append-nil, append_assoc}
+use Rattle.std.proofs.Common.{◌≡◌, ◌≢◌, ◌++◌, ℕ, zero, suc, ℤ, pos, negsuc, List, [], ◌∷◌, refl, sym, ap, ◌∙◌, append-nil, append_assoc}
 use Rattle.std.specs.Prelude.{slice_get, slice_set}
 use Rattle.std.specs.List.{AllByRecursion}
 use Rattle.xmp_prog.specs.declared.statements.Stmt.{Stmt}
-use Rattle.xmp_meaning.specs.Cells.{row_in}
+use Rattle.xmp_meaning.specs.Cells.{row_in, write_in}
 use Rattle.xmp_meaning.specs.Runs.{State, Step, Gave, Ended, state_of}
 use Rattle.xmp_meaning.specs.Context.{Context}
+use Rattle.xmp_meaning.specs.Handlers.{erased}
 use Rattle.xmp_meaning.specs.Expressions.{after_call}
-use Rattle.xmp_meaning.specs.Directives.{erased}
 use Rattle.xmp_meaning.specs.Statements.{stmt_of}
 use Rattle.xmp_meaning.specs.Writes.{scalars_written, arrays_written}
 use Rattle.xmp_meaning.specs.Laws.{OutputGrows, KeepsScalar, KeepsArray, CallTakesSteps}
@@ -29,6 +29,11 @@ set_other (x ∷ xs) zero zero v ne = absurd (ne refl)
 set_other (x ∷ xs) zero (suc j) v ne = refl
 set_other (x ∷ xs) (suc i) zero v ne = refl
 set_other (x ∷ xs) (suc i) (suc j) v ne = set_other xs i j v (λ e. ne (ap suc e))
+
+-- and so does a write to a cell of another row
+row_other : (rows : List (List ℤ)) (i j : ℕ) (at v : ℤ) → i ≢ j → slice_get (write_in rows i at v) j ≡ slice_get rows j
+row_other rows i j (pos n) v ne = set_other rows i j (slice_set (row_in rows i) n v) ne
+row_other rows i j (negsuc n) v ne = refl
 
 module _ {X : Type 0} (cx : Context) where
   -- ---- the output
@@ -77,7 +82,7 @@ module _ {X : Type 0} (cx : Context) where
     same = λ s. refl;
     then = λ s t u a b. b ∙ a;
     scalars = λ s n v may. refl;
-    arrays = λ s row at v may. set_other s.arrays row array (slice_set (row_in s.arrays row) at v) may;
+    arrays = λ s row at v may. row_other s.arrays row array at v may;
     out = λ s text. refl;
     taken = λ s n. refl;
     steps = λ s n e. refl;

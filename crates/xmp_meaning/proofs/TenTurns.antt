@@ -15,12 +15,14 @@ use Rattle.xmp_meaning.specs.declared.outcome.Outcome.TheVariants as outcome
 use Rattle.xmp_meaning.specs.declared.ends.Flow.{Flow}
 use Rattle.xmp_meaning.specs.declared.ends.Flow.TheVariants.{Next}
 use Rattle.xmp_meaning.specs.Runs.{Run, ◌>>=◌, pure, or_trap, scalar, write}
+use Rattle.xmp_meaning.specs.Blocks.{then_run, block}
+use Rattle.xmp_meaning.specs.Layouts.{Whole}
 use Rattle.xmp_meaning.specs.Context.{Context}
+use Rattle.xmp_meaning.specs.Handlers.{erased}
 use Rattle.xmp_meaning.specs.Calls.{main_context}
-use Rattle.xmp_meaning.specs.Expressions.{each, expr_of}
+use Rattle.xmp_meaning.specs.Expressions.{each, expr_of, holds}
 use Rattle.xmp_meaning.specs.Formats.{pieces_of, printed}
-use Rattle.xmp_meaning.specs.Loops.{then_run, block, while_loop, holds}
-use Rattle.xmp_meaning.specs.Directives.{erased}
+use Rattle.xmp_meaning.specs.Loops.{while_loop}
 use Rattle.xmp_meaning.specs.Statements.{stmt_of}
 use Rattle.xmp_meaning.specs.Programs.{serial, beginning, outcome_of}
 use Rattle.xmp_meaning.specs.Assignments.{store}
@@ -36,35 +38,35 @@ abbrev sum_run : {X : Type 0} → Context → Place → ℤ → Run X ℤ
 sum_run cx at old = pure (pos 1) >>= (λ v. or_trap (binary_of op.Add Int old v) at)
 
 abbrev turn_run : {X : Type 0} → Context → Place → Run X Flow
-turn_run cx at = scalar 0 >>= (λ old. sum_run cx at old >>= (λ v. store cx (location.Scalar 0) v >>= (λ u. pure Next)))
+turn_run cx at = scalar 0 >>= (λ old. sum_run cx at old >>= (λ v. store erased cx (location.Scalar 0) v >>= (λ u. pure Next)))
 
 abbrev print_run : {X : Type 0} → Context → Run X Flow
 print_run cx = each (scalar 0 ∷ []) [] >>= (λ vs. write (printed (37 ∷ 100 ∷ 10 ∷ []) vs) >>= (λ u. pure Next))
 
-test_is : {X : Type 0} (cx : Context) (at : Place) → expr_of {X = X} cx (below_ten at) ≡ test_run at
+test_is : {X : Type 0} (cx : Context) (at : Place) → expr_of {X = X} erased cx (below_ten at) ≡ test_run at
 unfolding test_run
-test_is {X} cx at = expr_binary cx op.Less Int (expr.Scalar 0 at) (number 10) at ∙ rw (expr_scalar {X = X} cx 0 at, expr_const {X = X} cx (pos 10) Int) refl
+test_is {X} cx at = expr_binary erased cx op.Less Int (expr.Scalar 0 at) (number 10) at ∙ rw (expr_scalar {X = X} erased cx 0 at, expr_const {X = X} erased cx (pos 10) Int) refl
 
 turn_is : {X : Type 0} (cx : Context) (at : Place) → stmt_of {X = X} erased cx (increment at) ≡ turn_run cx at
-turn_is {X} cx at = stmt_plain cx erased (plain.Set (target.Scalar 0 at) (Some (record { op = op.Add; ty = Int; at = at })) (number 1)) ∙ rw (expr_const {X = X} cx (pos 1) Int) refl
+turn_is {X} cx at = stmt_plain erased cx (plain.Set (target.Scalar 0 at) (Some (record { op = op.Add; ty = Int; at = at })) (number 1)) ∙ rw (expr_const {X = X} erased cx (pos 1) Int) refl
 
 print_is : {X : Type 0} (cx : Context) (at : Place) → stmt_of {X = X} erased cx (print_i at) ≡ print_run cx
-print_is {X} cx at = stmt_plain cx erased (plain.Print (37 ∷ 100 ∷ 10 ∷ []) (expr.Scalar 0 at ∷ []) at) ∙ rw (expr_scalar {X = X} cx 0 at) refl
+print_is {X} cx at = stmt_plain erased cx (plain.Print (37 ∷ 100 ∷ 10 ∷ []) (expr.Scalar 0 at ∷ []) at) ∙ rw (expr_scalar {X = X} erased cx 0 at) refl
 
 abbrev whole_run : {X : Type 0} → Context → Place → Run X Flow
 whole_run cx at = block (while_loop (holds (test_run at)) (turn_run cx at) ∷ print_run cx ∷ [])
 
 whole_is : {X : Type 0} (cx : Context) (at : Place)
     → stmt_of {X = X} erased cx (stmt.Block (stmt.While (below_ten at) (increment at) at ∷ print_i at ∷ [])) ≡ whole_run cx at
-whole_is {X} cx at = stmt_block cx erased (stmt.While (below_ten at) (increment at) at ∷ print_i at ∷ [])
-    ∙ ap (λ r. block (r ∷ stmt_of erased cx (print_i at) ∷ [])) (stmt_while cx erased (below_ten at) (increment at) at)
+whole_is {X} cx at = stmt_block erased cx (stmt.While (below_ten at) (increment at) at ∷ print_i at ∷ [])
+    ∙ ap (λ r. block (r ∷ stmt_of erased cx (print_i at) ∷ [])) (stmt_while erased cx (below_ten at) (increment at) at)
     ∙ ap (λ r. block (while_loop (holds r) (stmt_of erased cx (increment at)) ∷ stmt_of erased cx (print_i at) ∷ [])) (test_is cx at)
     ∙ ap (λ r. block (while_loop (holds (test_run at)) r ∷ stmt_of erased cx (print_i at) ∷ [])) (turn_is cx at)
     ∙ ap (λ r. block (while_loop (holds (test_run at)) (turn_run cx at) ∷ r ∷ [])) (print_is cx at)
 
 -- what the program comes to with so many steps
 abbrev comes_to : Grid → Place → ℕ → Run (Unit {0}) Flow → Outcome
-comes_to g at steps main = outcome_of (ten_turns g at) (then_run (pure Next) main (beginning {X = Unit {0}} (ten_turns g at) steps tt))
+comes_to g at steps main = outcome_of (ten_turns g at) (then_run (pure Next) main (beginning {X = Unit {0}} Whole (ten_turns g at) steps tt))
 
 by_runs : (g : Grid) (at : Place) (steps : ℕ) → serial (ten_turns g at) [] steps ≡ comes_to g at steps (whole_run (main_context (ten_turns g at) 0 []) at)
 by_runs g at steps = ap (comes_to g at steps) (whole_is (main_context (ten_turns g at) 0 []) at)

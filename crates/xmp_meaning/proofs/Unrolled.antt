@@ -6,10 +6,11 @@ use Rattle.xmp_prog.specs.declared.statements.Stmt.{Stmt}
 use Rattle.xmp_meaning.specs.declared.ends.Flow.{Flow}
 use Rattle.xmp_meaning.specs.declared.ends.Flow.TheVariants.{Next, Returned}
 use Rattle.xmp_meaning.specs.Runs.{State, Step, Gave, Ended, Run, and_then, ◌>>=◌, pure, step_of, state_of}
+use Rattle.xmp_meaning.specs.Blocks.{after, then_run, choose, turns}
 use Rattle.xmp_meaning.specs.Context.{Context}
-use Rattle.xmp_meaning.specs.Expressions.{expr_of, is_zero}
-use Rattle.xmp_meaning.specs.Loops.{after, then_run, choose, turns, turn, while_loop, holds}
-use Rattle.xmp_meaning.specs.Directives.{erased}
+use Rattle.xmp_meaning.specs.Handlers.{erased}
+use Rattle.xmp_meaning.specs.Expressions.{expr_of, is_zero, holds}
+use Rattle.xmp_meaning.specs.Loops.{turn, while_loop}
 use Rattle.xmp_meaning.specs.Statements.{stmt_of}
 use Rattle.xmp_meaning.specs.Calls.{context}
 use Rattle.xmp_meaning.specs.Writes.{scalars_written, arrays_written}
@@ -73,10 +74,10 @@ module _ {X : Type 0} (test : Run X Bool) (body : Run X Flow)
   unrolled s = loop_test s.steps (test s) (h s)
 
 pub loop_unrolls : (X : Type 0) (p : ProgParts) (node : ℕ) (input : List ℕ) (n : ℕ) (e : Expr) (body : Stmt)
-    → LoopUnrolls X (holds (expr_of (context p node input n) e)) (stmt_of erased (context p node input n) body)
-loop_unrolls X p node input n e body = unrolled (holds (expr_of cx e)) (stmt_of erased cx body)
-    (λ s. condition s (expr_of cx e s) ((keeps-expr cx (richly 0 cx calls) e s).less))
-    (λ s. (keeps-stmt cx (richly 0 cx calls) (richly_erased 0) body (all_any (scalars_written body)) (all_any (arrays_written body)) s).less)
+    → LoopUnrolls X (holds (expr_of erased (context p node input n) e)) (stmt_of erased (context p node input n) body)
+loop_unrolls X p node input n e body = unrolled (holds (expr_of erased cx e)) (stmt_of erased cx body)
+    (λ s. condition s (expr_of erased cx e s) ((keeps-expr cx (richly 0 cx calls) (richly_erased 0 cx calls) e s).less))
+    (λ s. (keeps-stmt cx (richly 0 cx calls) (richly_erased 0 cx calls) body (all_any (scalars_written body)) (all_any (arrays_written body)) s).less)
   where
     cx : Context
     cx = context p node input n

@@ -1,19 +1,19 @@
 -- The part of a node that owns every iteration is the whole loop.
-use Rattle.std.proofs.Common.{◌≡◌, suc, Bool, true, List, [], ◌∷◌, refl, ap, ◌∙◌}
+use Rattle.std.proofs.Common.{◌≡◌, Bool, true, List, [], ◌∷◌, refl, ap, ◌∙◌}
 use Rattle.xmp_prog.specs.declared.parts.ProgParts.{ProgParts}
+use Rattle.xmp_prog.specs.declared.statements.LoopHead.{LoopHead}
 use Rattle.xmp_prog.specs.declared.statements.LoopDirective.{LoopDirective}
 use Rattle.xmp_prog.specs.declared.statements.Reduction.{Reduction}
 use Rattle.xmp_meaning.specs.declared.ends.Flow.{Flow}
 use Rattle.xmp_meaning.specs.declared.ends.Flow.TheVariants.{Next}
-use Rattle.xmp_meaning.specs.Runs.{State, Step, Gave, Ended, Run, and_then, ◌>>=◌, pure, take_step}
+use Rattle.xmp_meaning.specs.Runs.{State, Step, Gave, Ended, Run, and_then, ◌>>=◌, pure}
+use Rattle.xmp_meaning.specs.Blocks.{then_run, choose, turns}
 use Rattle.xmp_meaning.specs.Context.{Context}
-use Rattle.xmp_meaning.specs.Loops.{choose, turn, nest}
+use Rattle.xmp_meaning.specs.Handlers.{Handlers}
+use Rattle.xmp_meaning.specs.Loops.{entering, inside, step_up, nest}
 use Rattle.xmp_meaning.specs.Parts.{begin, only, owns_iteration}
-use Rattle.xmp_prog.specs.Statements.{indices_of}
 use Rattle.xmp_meaning.specs.Laws.{PartIsWhole}
-use Rattle.xmp_meaning.proofs.Keeps.{Joins, Keeps, turns_kept}
-use Rattle.xmp_meaning.proofs.RelatedStatements.{keeps-nest}
-use Rattle.xmp_meaning.proofs.Stays.{Any, all_any}
+use Rattle.xmp_meaning.proofs.Keeps.{Joins, then_kept, turns_kept}
 
 module _ {X : Type 0} where
   -- two runs that do the same from every state
@@ -27,26 +27,8 @@ module _ {X : Type 0} where
       at_step (Gave a t) = i a t
       at_step (Ended e t) = refl
 
-  same_joins : Joins X X Same
+  same_joins : Joins (State X) (State X) Same
   same_joins = record { gives = λ a s. refl; goes_on = λ {A} {B} {p} {q} {f} {g} h i. same_on p q f g h i }
-
-  pub same : (cx : Context) → Keeps X X cx Any Any Same
-  same cx = record {
-    gives = λ a s. refl;
-    traps = λ kind at s. refl;
-    goes_on = λ {A} {B} {p} {q} {f} {g} h i. same_on p q f g h i;
-    scalars = λ slot s. refl;
-    sets_scalar = λ slot may v s. refl;
-    cells = λ row at s. refl;
-    sets_cell = λ row may at v s. refl;
-    writes = λ text s. refl;
-    inputs = λ s. refl;
-    sets_taken = λ n s. refl;
-    calls = λ k vs s. refl;
-    loops = λ {test} {test'} {body} {body'} h i s.
-        turns_kept same_joins {test = test} {test' = test'} {body = turn body} {body' = turn body'} (suc s.steps) h
-        (same_on take_step take_step (λ u. body) (λ u. body') (λ t. refl) (λ u. i)) s;
-  }
 
   only_all : (test : State X → Bool) (body : Run X Flow) → ((s : State X) → test s ≡ true) → Same Flow (only test body) body
   only_all test body all s = ap (λ b. choose b body (pure Next) s) (all s)
@@ -55,7 +37,16 @@ module _ {X : Type 0} where
   begins_as_it_is p [] s = refl
   begins_as_it_is p (r ∷ rs) s = begins_as_it_is p rs s
 
-  pub part_is_whole : (p : ProgParts) (cx : Context) (directive : LoopDirective) (body : Run X Flow) → PartIsWhole X p cx directive body
-  part_is_whole p cx directive body all s =
-      ap (λ r. and_then r (λ u. nest cx directive.nest (only (owns_iteration p directive 0) body))) (begins_as_it_is p directive.reductions s)
-      ∙ keeps-nest cx (same cx) directive.nest (all_any (indices_of directive.nest)) (only_all (owns_iteration p directive 0) body all) s
+  -- a nest round bodies that do the same
+  nest_same : (h : Handlers X) (cx : Context) (heads : List LoopHead) (body body' : Run X Flow)
+      → Same Flow body body' → Same Flow (nest h cx heads body) (nest h cx heads body')
+  nest_same h cx [] body body' r = r
+  nest_same h cx (head ∷ heads) body body' r = same_on (entering h cx head) (entering h cx head)
+      (λ n. turns n (inside h cx head) (then_run (nest h cx heads body) (step_up head)))
+      (λ n. turns n (inside h cx head) (then_run (nest h cx heads body') (step_up head))) (λ s. refl)
+      (λ n. turns_kept same_joins n (λ s. refl) (then_kept same_joins (nest_same h cx heads body body' r) (λ s. refl)))
+
+  pub part_is_whole : (p : ProgParts) (h : Handlers X) (cx : Context) (directive : LoopDirective) (body : Run X Flow) → PartIsWhole X p h cx directive body
+  part_is_whole p h cx directive body all s =
+      ap (λ r. and_then r (λ u. nest h cx directive.nest (only (owns_iteration p directive 0) body))) (begins_as_it_is p directive.reductions s)
+      ∙ nest_same h cx directive.nest (only (owns_iteration p directive 0) body) body (only_all (owns_iteration p directive 0) body all) s

@@ -6,8 +6,10 @@ use Rattle.xmp_prog.specs.declared.parts.Function.{Function}
 use Rattle.xmp_meaning.specs.declared.ends.Flow.{Flow}
 use Rattle.xmp_meaning.specs.declared.ends.Flow.TheVariants.{Next, Returned}
 use Rattle.xmp_meaning.specs.Runs.{State, Step, Gave, Run, ◌>>=◌, pure, set_scalar}
-use Rattle.xmp_meaning.specs.Context.{Context, scalar_type}
-use Rattle.xmp_meaning.specs.Directives.{erased}
+use Rattle.xmp_meaning.specs.Declarations.{scalar_type}
+use Rattle.xmp_meaning.specs.Layouts.{Layout, Whole}
+use Rattle.xmp_meaning.specs.Context.{Context}
+use Rattle.xmp_meaning.specs.Handlers.{erased}
 use Rattle.xmp_meaning.specs.Statements.{stmt_of}
 
 -- what a call begins with: every scalar is 0, there is no array and no output, and the caller's steps are left
@@ -40,18 +42,18 @@ invoke_some cx None vs = pure (pos 0)
 invoke_some cx (Some f) vs = invoke cx f vs
 
 -- a context whose calls are these
-abbrev pub context_with : ProgParts → ℕ → List ℕ → (ℕ → List ℤ → ℕ → Step (Unit {0}) ℤ) → Context
-context_with p node input call = record { program = p; node = node; input = input; call = call }
+abbrev pub context_with : ProgParts → Layout → ℕ → List ℕ → (ℕ → List ℤ → ℕ → Step (Unit {0}) ℤ) → Context
+context_with p layout node input call = record { program = p; layout = layout; node = node; input = input; call = call }
 
 -- a call of function `k`, one of the first `n`, at a node; a function calls those before it alone
 unfoldable pub call_of : ProgParts → ℕ → ℕ → ℕ → List ℤ → ℕ → Step (Unit {0}) ℤ
 call_of p node zero k vs steps = Gave (pos 0) (frame p steps)
 call_of p node (suc n) k vs steps =
-    if k == n then invoke_some (context_with p node [] (call_of p node n)) (slice_get p.functions n) vs (frame p steps) else call_of p node n k vs steps
+    if k == n then invoke_some (context_with p Whole node [] (call_of p node n)) (slice_get p.functions n) vs (frame p steps) else call_of p node n k vs steps
 
--- what statements are run against that may call the first `n` functions
+-- what statements are run against that may call the first `n` functions, over whole rows
 abbrev pub context : ProgParts → ℕ → List ℕ → ℕ → Context
-context p node input n = context_with p node input (call_of p node n)
+context p node input n = context_with p Whole node input (call_of p node n)
 
 -- what main is run against: it may call all functions
 abbrev pub main_context : ProgParts → ℕ → List ℕ → Context

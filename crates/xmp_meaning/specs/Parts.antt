@@ -11,9 +11,9 @@ use Rattle.xmp_prog.specs.declared.statements.Point.TheVariants as point
 use Rattle.xmp_prog.specs.declared.statements.Reduction.{Reduction}
 use Rattle.xmp_meaning.specs.declared.ends.Flow.{Flow}
 use Rattle.xmp_meaning.specs.declared.ends.Flow.TheVariants.{Next}
-use Rattle.xmp_meaning.specs.Runs.{State, Run, ◌>>=◌, pure, set_scalar}
-use Rattle.xmp_meaning.specs.Context.{scalar_type}
-use Rattle.xmp_meaning.specs.Loops.{choose}
+use Rattle.xmp_meaning.specs.Runs.{State, RunIn, Run, ◌>>=◌, pure, set_scalar}
+use Rattle.xmp_meaning.specs.Declarations.{scalar_type}
+use Rattle.xmp_meaning.specs.Blocks.{choose}
 
 -- a coordinate of an iteration's point; `*` stands for an undistributed dimension, where any coordinate has one owner
 abbrev pub coordinate : List ℤ → Point → ℤ
@@ -31,7 +31,7 @@ owns_iteration p directive node s =
     owns_coordinates p node (slice_get p.templates directive.template) (map (coordinate s.scalars) directive.points)
 
 -- only where the test of the state holds
-abbrev pub only : {X : Type 0} → (State X → Bool) → Run X Flow → Run X Flow
+abbrev pub only : {S : Type 0} → (S → Bool) → RunIn S Flow → RunIn S Flow
 only test body = λ s. choose (test s) body (pure Next) s
 
 -- node 0 begins a reduction variable at its old value, the others at the unit

@@ -13,7 +13,8 @@ use Rattle.xmp_meaning.specs.declared.outcome.Outcome.TheVariants as outcome
 use Rattle.xmp_meaning.specs.Runs.{Step, Gave, Ended, Run, stop, state_of}
 use Rattle.xmp_prog.specs.Fits.{node_count}
 use Rattle.xmp_prog.specs.Tests.{is_image}
-use Rattle.xmp_meaning.specs.Directives.{Directives, erased}
+use Rattle.xmp_meaning.specs.Layouts.{Whole}
+use Rattle.xmp_meaning.specs.Handlers.{Handlers, erased}
 use Rattle.xmp_meaning.specs.Calls.{main_context}
 use Rattle.xmp_meaning.specs.Programs.{no_writes, beginning, program, told}
 
@@ -37,12 +38,12 @@ next_phase p [] = stop PhaseEnd
 next_phase p (m ∷ ms) = λ s. Gave Next (record s { arrays = with_coarrays p.arrays m s.arrays; out = []; extra = ms })
 
 -- the handlers of an image: `xmp_sync_all` alone does something
-abbrev pub at_image : ProgParts → Directives (List Memory)
+abbrev pub at_image : ProgParts → Handlers (List Memory)
 at_image p = record erased { sync = λ s. next_phase p s.extra s }
 
 -- an image's run up to the end of a phase, given the memories at the starts of the phases after the first up to it
 abbrev pub image_run : ProgParts → ℕ → List Memory → Step (List Memory) Flow
-image_run p image starts = program (at_image p) (main_context p image []) (beginning p 0 starts)
+image_run p image starts = program (at_image p) (main_context p image []) (beginning Whole p 0 starts)
 
 -- those of all images, in order
 abbrev pub image_runs : ProgParts → List Memory → List (Step (List Memory) Flow)
@@ -75,11 +76,11 @@ last_of first [] = first
 last_of first (m ∷ ms) = last_of m ms
 
 abbrev pub phase_start : ProgParts → List Memory → Memory
-phase_start p starts = last_of (no_writes p) starts
+phase_start p starts = last_of (no_writes Whole p) starts
 
 -- the memory at the end of a phase, from that at its start and the images' runs
 abbrev pub memory_after : Memory → List (Step (List Memory) Flow) → Memory
-memory_after before runs = all_applied before (map (λ r. (state_of r).arrays) runs) before
+memory_after before runs = all_applied before (map (λ (r : Step (List Memory) Flow). (state_of r).arrays) runs) before
 
 -- the trap of the lowest image that traps, after what the images up to it printed
 abbrev pub stopped : List ℕ → List (Step (List Memory) Flow) → Option Outcome
@@ -91,7 +92,7 @@ stopped out (Ended PhaseEnd s ∷ runs) = stopped (out ++ s.out) runs
 
 -- what the images printed in the phase, in order
 abbrev pub printed_in : List (Step (List Memory) Flow) → List ℕ
-printed_in runs = flat_map (λ r. (state_of r).out) runs
+printed_in runs = flat_map (λ (r : Step (List Memory) Flow). (state_of r).out) runs
 
 -- whether another phase follows: image 0 is at an `xmp_sync_all`, and so is each other one in a program that is accepted
 abbrev pub goes_on : List (Step (List Memory) Flow) → Bool

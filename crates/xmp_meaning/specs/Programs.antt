@@ -1,5 +1,5 @@
 -- A whole program.
-use Rattle.std.specs.Prelude.{ℕ, ◌*◌, if◌then◌else◌, List, [], ◌∷◌, ◌++◌, length, map, replicate, ℤ, pos, take, drop, zero, suc}
+use Rattle.std.specs.Prelude.{ℕ, List, [], ◌∷◌, ◌++◌, length, map, replicate, ℤ, pos, take, drop, zero, suc}
 use Rattle.xmp_map.specs.RowMajor.{product}
 use Rattle.xmp_prog.specs.declared.parts.ProgParts.{ProgParts}
 use Rattle.xmp_prog.specs.declared.parts.Array.{Array}
@@ -13,29 +13,25 @@ use Rattle.xmp_meaning.specs.declared.ends.Flow.TheVariants.{Next}
 use Rattle.xmp_meaning.specs.declared.outcome.Outcome.{Outcome}
 use Rattle.xmp_meaning.specs.declared.outcome.Outcome.TheVariants as outcome
 use Rattle.xmp_meaning.specs.Runs.{State, Step, Gave, Ended, Run, ◌>>=◌, pure}
-use Rattle.xmp_meaning.specs.Context.{Context}
 use Rattle.xmp_prog.specs.Fits.{node_count}
-use Rattle.xmp_prog.specs.Tests.{is_image}
+use Rattle.xmp_meaning.specs.Layouts.{Layout, Whole, row_length}
+use Rattle.xmp_meaning.specs.Context.{Context}
+use Rattle.xmp_meaning.specs.Handlers.{Handlers, erased}
 use Rattle.xmp_meaning.specs.Expressions.{expr_of}
 use Rattle.xmp_meaning.specs.Assignments.{store}
-use Rattle.xmp_meaning.specs.Loops.{then_run}
-use Rattle.xmp_meaning.specs.Directives.{Directives, erased}
+use Rattle.xmp_meaning.specs.Blocks.{then_run}
 use Rattle.xmp_meaning.specs.Statements.{stmt_of}
 use Rattle.xmp_meaning.specs.Calls.{main_context}
 
--- how many cells an array has, those of all images together
-abbrev pub cell_count : ProgParts → Array → ℕ
-cell_count p a = (if is_image a.home then node_count p else 1) * product a.extents
-
 -- every cell is 0 at first
-abbrev pub no_writes : ProgParts → List (List ℤ)
-no_writes p = map (λ a. replicate (cell_count p a) (pos 0)) p.arrays
+abbrev pub no_writes : Layout → ProgParts → List (List ℤ)
+no_writes layout p = map (λ a. replicate (row_length layout p a) (pos 0)) p.arrays
 
 -- what a program begins with: every scalar and every cell is 0, and nothing is printed or read
-abbrev pub beginning : {X : Type 0} → ProgParts → ℕ → X → State X
-beginning p steps extra = record {
+abbrev pub beginning : {X : Type 0} → Layout → ProgParts → ℕ → X → State X
+beginning layout p steps extra = record {
   scalars = replicate (length p.scalars) (pos 0);
-  arrays = no_writes p;
+  arrays = no_writes layout p;
   out = [];
   taken = 0;
   steps = steps;
@@ -43,16 +39,16 @@ beginning p steps extra = record {
 }
 
 -- the initialisers at file scope, in order
-abbrev pub starts : {X : Type 0} → Context → List Start → Run X Flow
-starts cx [] = pure Next
-starts cx (s ∷ ss) = do
-  v ← expr_of cx s.value
-  _ ← store cx (location.Scalar s.slot) v
-  starts cx ss
+abbrev pub starts : {X : Type 0} → Handlers X → Context → List Start → Run X Flow
+starts h cx [] = pure Next
+starts h cx (s ∷ ss) = do
+  v ← expr_of h cx s.value
+  _ ← store h cx (location.Scalar s.slot) v
+  starts h cx ss
 
 -- the initialisers at file scope, and then main's statement
-abbrev pub program : {X : Type 0} → Directives X → Context → Run X Flow
-program d cx = then_run (starts cx cx.program.start) (stmt_of d cx cx.program.body)
+abbrev pub program : {X : Type 0} → Handlers X → Context → Run X Flow
+program h cx = then_run (starts h cx cx.program.start) (stmt_of h cx cx.program.body)
 
 -- ---- what it comes to
 
@@ -83,7 +79,7 @@ outcome_of p (Ended end.PhaseEnd s) = outcome.Ended s.out (told p p.arrays s.arr
 -- ---- the serial meaning: the program with its directives erased, on an input, with so many steps for the turns of uncounted loops
 
 abbrev pub serial_end : ProgParts → List ℕ → ℕ → Step (Unit {0}) Flow
-serial_end p input steps = program erased (main_context p 0 input) (beginning p steps tt)
+serial_end p input steps = program erased (main_context p 0 input) (beginning Whole p steps tt)
 
 -- what the program comes to
 abbrev pub serial : ProgParts → List ℕ → ℕ → Outcome

@@ -1,4 +1,5 @@
--- Parts of a run (this project): each goes from a state to a value and a state, or to an end.
+-- Parts of a run (this project): each goes from a state to a value and a state, or to an end. What follows what is
+-- said of states of any kind.
 use Rattle.std.specs.Prelude.{◌≡◌, ◌++◌, Option, Some, None, ℕ, zero, suc, List, ℤ, pos, Result, Ok, Err, unwrap_or, slice_get, slice_set}
 use Rattle.xmp_base.specs.declared.place.Place.{Place}
 use Rattle.xmp_num.specs.declared.types.TrapKind.{TrapKind}
@@ -6,10 +7,60 @@ use Rattle.xmp_meaning.specs.declared.ends.End.{End}
 use Rattle.xmp_meaning.specs.declared.ends.End.TheVariants.{Trapped, OutOfSteps}
 use Rattle.xmp_meaning.specs.declared.ends.Halt.{Halt}
 use Rattle.xmp_meaning.specs.declared.ends.Halt.TheVariants as halt
-use Rattle.xmp_meaning.specs.Cells.{cell_in, with_cell}
+use Rattle.xmp_meaning.specs.Cells.{read_in, write_in}
 
--- What a run has: the scalars by slot, the arrays by number, each a row of its cells in row-major order, the output so far, how many bytes
--- of the input are read, how many steps of uncounted loops are left, and a part that directives alone read and write.
+-- A value and the state then, or an end and the state then.
+pub data StepIn (S : Type 0) (A : Type 0) : Type 0 where
+  Gave : A → S → StepIn S A
+  Ended : End → S → StepIn S A
+
+-- A part of a run that gives a value, or ends the run.
+abbrev pub RunIn : Type 0 → Type 0 → Type 0
+RunIn S A = S → StepIn S A
+
+-- why a step ended the run, where it did, and the state then
+abbrev pub end_of : {S A : Type 0} → StepIn S A → Option End
+end_of (Gave a s) = None
+end_of (Ended e s) = Some e
+
+abbrev pub state_of : {S A : Type 0} → StepIn S A → S
+state_of (Gave a s) = s
+state_of (Ended e s) = s
+
+-- ---- one after the other
+
+-- what follows a value; nothing follows an end
+abbrev pub and_then : {S A B : Type 0} → StepIn S A → (A → RunIn S B) → StepIn S B
+and_then (Gave a s) f = f a s
+and_then (Ended e s) f = Ended e s
+
+-- a part, and then what follows its value
+infixl 10 ◌>>=◌
+abbrev pub ◌>>=◌ : {S A B : Type 0} → RunIn S A → (A → RunIn S B) → RunIn S B
+p >>= f = λ s. and_then (p s) f
+
+-- a value, and nothing is done
+abbrev pub pure : {S A : Type 0} → A → RunIn S A
+pure a = λ s. Gave a s
+
+-- the end of the run
+abbrev pub stop : {S A : Type 0} → End → RunIn S A
+stop e = λ s. Ended e s
+
+-- the end of the run by a trap
+abbrev pub trap : {S A : Type 0} → TrapKind → Place → RunIn S A
+trap kind at = stop (Trapped kind at)
+
+-- a value, or the trap at a place
+abbrev pub or_trap : {S A : Type 0} → Result A TrapKind → Place → RunIn S A
+or_trap (Ok a) at = pure a
+or_trap (Err kind) at = trap kind at
+
+-- ---- the state of a program
+
+-- What a run has: the scalars by slot, the arrays by number, each a row of its cells, the output so far, how many
+-- bytes of the input are read, how many steps of uncounted loops are left, and a part that handlers alone read and
+-- write.
 pub record State (X : Type 0) : Type 0 where
   pub scalars : List ℤ
   pub arrays : List (List ℤ)
@@ -18,52 +69,12 @@ pub record State (X : Type 0) : Type 0 where
   pub steps : ℕ
   pub extra : X
 
--- A value and the state then, or an end and the state then.
-pub data Step (X : Type 0) (A : Type 0) : Type 0 where
-  Gave : A → State X → Step X A
-  Ended : End → State X → Step X A
+-- steps and parts of runs over these states
+abbrev pub Step : Type 0 → Type 0 → Type 0
+Step X A = StepIn (State X) A
 
--- why a step ended the run, where it did, and the state then
-abbrev pub end_of : {X A : Type 0} → Step X A → Option End
-end_of (Gave a s) = None
-end_of (Ended e s) = Some e
-
-abbrev pub state_of : {X A : Type 0} → Step X A → State X
-state_of (Gave a s) = s
-state_of (Ended e s) = s
-
--- A part of a run that gives a value, or ends the run.
 abbrev pub Run : Type 0 → Type 0 → Type 0
-Run X A = State X → Step X A
-
--- ---- one after the other
-
--- what follows a value; nothing follows an end
-abbrev pub and_then : {X A B : Type 0} → Step X A → (A → Run X B) → Step X B
-and_then (Gave a s) f = f a s
-and_then (Ended e s) f = Ended e s
-
--- a part, and then what follows its value
-infixl 10 ◌>>=◌
-abbrev pub ◌>>=◌ : {X A B : Type 0} → Run X A → (A → Run X B) → Run X B
-p >>= f = λ s. and_then (p s) f
-
--- a value, and nothing is done
-abbrev pub pure : {X A : Type 0} → A → Run X A
-pure a = λ s. Gave a s
-
--- the end of the run
-abbrev pub stop : {X A : Type 0} → End → Run X A
-stop e = λ s. Ended e s
-
--- the end of the run by a trap
-abbrev pub trap : {X A : Type 0} → TrapKind → Place → Run X A
-trap kind at = stop (Trapped kind at)
-
--- a value, or the trap at a place
-abbrev pub or_trap : {X A : Type 0} → Result A TrapKind → Place → Run X A
-or_trap (Ok a) at = pure a
-or_trap (Err kind) at = trap kind at
+Run X A = RunIn (State X) A
 
 -- ---- what a run reads and writes
 
@@ -76,12 +87,12 @@ abbrev pub set_scalar : {X : Type 0} → ℕ → ℤ → Run X (Unit {0})
 set_scalar slot v = λ s. Gave tt (record s { scalars = slice_set s.scalars slot v })
 
 -- a cell of an array by its number; 0 where there is none
-abbrev pub cell : {X : Type 0} → ℕ → ℕ → Run X ℤ
-cell row at = λ s. Gave (cell_in s.arrays row at) s
+abbrev pub cell : {X : Type 0} → ℕ → ℤ → Run X ℤ
+cell row at = λ s. Gave (read_in s.arrays row at) s
 
 -- another value in a cell, where there is one
-abbrev pub set_cell : {X : Type 0} → ℕ → ℕ → ℤ → Run X (Unit {0})
-set_cell row at v = λ s. Gave tt (record s { arrays = with_cell s.arrays row at v })
+abbrev pub set_cell : {X : Type 0} → ℕ → ℤ → ℤ → Run X (Unit {0})
+set_cell row at v = λ s. Gave tt (record s { arrays = write_in s.arrays row at v })
 
 -- bytes more of output
 abbrev pub write : {X : Type 0} → List ℕ → Run X (Unit {0})
@@ -107,7 +118,7 @@ take_step = λ s. step_of s.steps s
 -- ---- what a function of an interpreter ensures
 
 -- It does the step: its result is the step's, and so is the state then. Want of memory is the one free answer.
-abbrev pub Does : {X A : Type 0} → Step X A → Result A Halt → State X → Type 0
+abbrev pub Does : {S A : Type 0} → StepIn S A → Result A Halt → S → Type 0
 Does step (Ok a) new = step ≡ Gave a new
 Does step (Err (halt.End e)) new = step ≡ Ended e new
 Does step (Err halt.NoMemory) new = Unit {0}

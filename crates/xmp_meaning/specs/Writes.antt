@@ -1,9 +1,7 @@
 -- Which scalars and arrays a statement writes.
 use Rattle.std.specs.Prelude.{ℕ, List, [], ◌∷◌, ◌++◌}
 use Rattle.std.specs.List.{concat}
-use Rattle.xmp_prog.specs.Statements.{indices_of}
-use Rattle.xmp_prog.specs.declared.statements.MoveSide.{MoveSide}
-use Rattle.xmp_prog.specs.declared.statements.MoveSide.TheVariants as side
+use Rattle.xmp_prog.specs.Statements.{indices_of, plain_writes, arrays_of_side}
 use Rattle.xmp_prog.specs.declared.statements.Target.{Target}
 use Rattle.xmp_prog.specs.declared.statements.Target.TheVariants as target
 use Rattle.xmp_prog.specs.declared.statements.Plain.{Plain}
@@ -12,42 +10,21 @@ use Rattle.xmp_prog.specs.declared.statements.Stmt.{Stmt}
 use Rattle.xmp_prog.specs.declared.statements.Stmt.TheOpen.{Stmt-F, Task-F}
 use Rattle.xmp_prog.specs.declared.statements.Stmt.TheFolds.{fold-Stmt}
 
--- the scalar that a target is; the array of which it is an element
-abbrev pub target_scalars : Target → List ℕ
-target_scalars (target.Scalar slot at) = slot ∷ []
-target_scalars (target.Cell a) = []
-
+-- the array of which a target is an element
 abbrev pub target_arrays : Target → List ℕ
 target_arrays (target.Scalar slot at) = []
 target_arrays (target.Cell a) = a.array ∷ []
 
--- the same for a side of a gmove
-abbrev pub side_scalars : MoveSide → List ℕ
-side_scalars (side.Scalar name) = name.number ∷ []
-side_scalars (side.Array name parts) = []
-
-abbrev pub side_arrays : MoveSide → List ℕ
-side_arrays (side.Scalar name) = []
-side_arrays (side.Array name parts) = name.number ∷ []
-
--- the scalars and the arrays that a statement writes which holds no statement
-abbrev pub plain_scalars : Plain → List ℕ
-plain_scalars (plain.Declare slot value at) = slot ∷ []
-plain_scalars (plain.Set to compound e) = target_scalars to
-plain_scalars (plain.Scan to at) = target_scalars to
-plain_scalars (plain.Sync status at) = status.number ∷ []
-plain_scalars (plain.Gmove to from at) = side_scalars to
-plain_scalars _ = []
-
+-- the arrays that a statement writes which holds no statement
 abbrev pub plain_arrays : Plain → List ℕ
 plain_arrays (plain.Set to compound e) = target_arrays to
 plain_arrays (plain.Scan to at) = target_arrays to
-plain_arrays (plain.Gmove to from at) = side_arrays to
+plain_arrays (plain.Gmove to from at) = arrays_of_side to
 plain_arrays _ = []
 
 -- the same for a statement, by what the statements in it write
 abbrev pub scalars_step : Stmt-F (List ℕ) (List ℕ) → List ℕ
-scalars_step (Stmt-F.Plain p) = plain_scalars p
+scalars_step (Stmt-F.Plain p) = plain_writes p
 scalars_step (Stmt-F.Block all) = concat all
 scalars_step (Stmt-F.If e a b) = a ++ b
 scalars_step (Stmt-F.While e body at) = body

@@ -6,37 +6,35 @@ ghost use Rattle.xmp_prog.specs.declared.expressions.Expr.{Expr};
 ghost use Rattle.xmp_prog.specs.declared.statements.LoopDirective.{LoopDirective};
 ghost use Rattle.xmp_prog.specs.declared.statements.Stmt.{Stmt};
 ghost use Rattle.xmp_meaning.specs.declared.ends.Flow.{Flow};
-ghost use Rattle.xmp_meaning.specs.Runs.{State, Run, state_of};
+ghost use Rattle.xmp_meaning.specs.Runs.{Run};
 ghost use Rattle.xmp_meaning.specs.Context.{Context};
-ghost use Rattle.xmp_meaning.specs.Expressions.{expr_of};
-ghost use Rattle.xmp_meaning.specs.Loops.{holds};
-ghost use Rattle.xmp_meaning.specs.Directives.{erased};
+ghost use Rattle.xmp_meaning.specs.Handlers.{Handlers, erased};
+ghost use Rattle.xmp_meaning.specs.Expressions.{expr_of, holds};
 ghost use Rattle.xmp_meaning.specs.Calls.{context};
 ghost use Rattle.xmp_meaning.specs.Statements.{stmt_of};
 ghost use Rattle.xmp_meaning.specs.Programs.{serial};
-ghost use Rattle.xmp_meaning.specs.AtNode.{Talk, at_node};
 ghost use Rattle.xmp_meaning.specs.Writes.{scalars_written, arrays_written};
-ghost use Rattle.xmp_meaning.specs.Laws.{IsAssociative, StatementsAssociate, BlocksJoin, TurnsAdd, EndsAreFinal, OutputGrows, KeepsScalar, KeepsArray, CallTakesSteps, SameOutcome, NotesApart, TracedIsSerial, PartIsWhole, OneImage, LoopUnrolls, TakesAsItSays, FormatsRead, TurnsAreCounted, CountedTurns};
+ghost use Rattle.xmp_meaning.specs.Laws.{IsAssociative, StatementsAssociate, BlocksJoin, TurnsAdd, EndsAreFinal, OutputGrows, KeepsScalar, KeepsArray, CallTakesSteps, SameOutcome, NotesApart, TracedIsSerial, PartIsWhole, OneImage, LoopUnrolls, FormatsRead, TurnsAreCounted, CountedTurns, WritesAreOne, AccessesApart};
 
 /// Parts of a run follow each other in one way, however they are grouped.
-pub fn sequences_associate<X, A, B, C>()
-    ensures parts { IsAssociative X A B C }
-    ensures statements { StatementsAssociate X }
+pub fn sequences_associate<S, A, B, C>()
+    ensures parts { IsAssociative S A B C }
+    ensures statements { StatementsAssociate S }
 {}
 
 /// A block of two lists of statements is the one block, and then the other.
-pub fn blocks_join<X>()
-    ensures { BlocksJoin X }
+pub fn blocks_join<S>()
+    ensures { BlocksJoin S }
 {}
 
 /// At most `n + m` turns of a loop are at most `n` turns, and then at most `m`.
-pub fn turns_add<X>()
-    ensures { TurnsAdd X }
+pub fn turns_add<S>()
+    ensures { TurnsAdd S }
 {}
 
 /// Nothing follows a trap or an end of the steps.
-pub fn ends_are_final<X, A, B>()
-    ensures { EndsAreFinal X A B }
+pub fn ends_are_final<S, A, B>()
+    ensures { EndsAreFinal S A B }
 {}
 
 /// What is printed stays in front, also where the run ends early. Directives mean nothing here.
@@ -50,6 +48,11 @@ pub fn only_what_is_named<X>()
         → KeepsScalar {X = X} slot (stmt_of erased cx s) }
     ensures arrays { (cx : Context) (s : Stmt) (array : ℕ) → AllByRecursion (λ n. n ≢ array) (arrays_written s)
         → KeepsArray {X = X} array (stmt_of erased cx s) }
+{}
+
+/// The scalars that a statement writes are those by which the parts of a program are judged.
+pub fn writes_are_said_once()
+    ensures { (s : Stmt) → WritesAreOne s }
 {}
 
 /// A call of a function takes steps, and changes nothing else.
@@ -70,7 +73,7 @@ pub fn notes_apart()
 
 /// The part of node 0 in a loop directive is the whole loop, where it owns the point of every iteration.
 pub fn parts_of_one_node<X>()
-    ensures { (p : ProgParts) (cx : Context) (directive : LoopDirective) (body : Run X Flow) → PartIsWhole X p cx directive body }
+    ensures { (p : ProgParts) (h : Handlers X) (cx : Context) (directive : LoopDirective) (body : Run X Flow) → PartIsWhole X p h cx directive body }
 {}
 
 /// A coarray program of one image that comes to no `xmp_sync_all` has its serial outcome.
@@ -78,16 +81,15 @@ pub fn phases_of_one_image()
     ensures { (p : ProgParts) → OneImage p }
 {}
 
+/// The run that notes its accesses is an image's run, the accesses apart.
+pub fn accesses_apart()
+    ensures { (p : ProgParts) → AccessesApart p }
+{}
+
 /// An uncounted loop is its condition, and where that holds a turn, which takes a step, and the loop again.
 pub fn loops_unroll<X>()
     ensures { (p : ProgParts) (node : ℕ) (input : List ℕ) (n : ℕ) (e : Expr) (body : Stmt)
-        → LoopUnrolls X (holds (expr_of (context p node input n) e)) (stmt_of erased (context p node input n) body) }
-{}
-
-/// A node takes from what it is fed with as many exchanges as it says.
-pub fn nodes_take_as_they_say()
-    ensures { (p : ProgParts) (node : ℕ) (cx : Context) (body : Stmt) (s : State Talk)
-        → TakesAsItSays s (state_of (stmt_of (at_node p node) cx body s)) }
+        → LoopUnrolls X (holds (expr_of erased (context p node input n) e)) (stmt_of erased (context p node input n) body) }
 {}
 
 /// The pieces of a format of `printf` are those that it is spelled of.

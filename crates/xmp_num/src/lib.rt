@@ -4,8 +4,6 @@
 mod arithmetic;
 mod decimal;
 mod reduction;
-#[cfg(test)]
-mod tests;
 mod types;
 
 pub use arithmetic::{binary, convert};

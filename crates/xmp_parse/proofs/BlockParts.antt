@@ -6,23 +6,23 @@ use Rattle.xmp_lex.specs.declared.token.TokenKind.{TokenKind}
 use Rattle.xmp_lex.specs.declared.token.TokenKind.TheVariants as t
 use Rattle.xmp_lex.specs.declared.token.Reserved.{Reserved}
 use Rattle.xmp_lex.specs.declared.token.Reserved.TheVariants as w
-use Rattle.xmp_tree.specs.declared.directive.TaskLine.{TaskLine}
-use Rattle.xmp_tree.specs.declared.statement.Stmt as made
-use Rattle.xmp_tree.specs.Parts as p
-use Rattle.xmp_tree.specs.Parts.{Part}
-use Rattle.xmp_tree.specs.Reading.{Rule, part, by, mark, leave, Depths, depths, State, reading, goes}
-use Rattle.xmp_tree.specs.Grammar.{rule, is_type, is_word, is_pragma, item_of, statement_of}
-use Rattle.xmp_tree.specs.View.{stmt_view, tasks_view}
-use Rattle.xmp_tree.specs.Spell.{each, spell_tasks, spell_stmt, task_line}
-use Rattle.xmp_tree.specs.Fits.{Each, FitsTasks, FitsStmt, FitsSet, takes_else}
-use Rattle.xmp_parse.specs.declared.depth.Depth.{Depth}
-use Rattle.xmp_parse.specs.declared.reader.Reader.{Reader}
-use Rattle.xmp_parse.specs.declared.reader.Stop.{Stop}
-use Rattle.xmp_parse.specs.Going.{Comes, Refused, stands}
-use Rattle.xmp_parse.specs.Kinds.{next_is}
+use Rattle.xmp_syntax.specs.declared.directive.TaskLine.{TaskLine}
+use Rattle.xmp_syntax.specs.declared.statement.Stmt as made
+use Rattle.xmp_syntax.specs.Parts as p
+use Rattle.xmp_syntax.specs.Parts.{Part}
+use Rattle.xmp_syntax.specs.Reading.{Rule, part, by, mark, leave, Depths, depths, State, reading, goes}
+use Rattle.xmp_syntax.specs.Grammar.{rule, is_type, is_word, is_pragma, item_of, statement_of}
+use Rattle.xmp_syntax.specs.View.{stmt_view, tasks_view}
+use Rattle.xmp_syntax.specs.Spell.{each, spell_tasks, spell_stmt, task_line}
+use Rattle.xmp_syntax.specs.Fits.{Each, FitsTasks, FitsStmt, FitsSet, takes_else}
+use Rattle.xmp_reader.specs.declared.depth.Depth.{Depth}
+use Rattle.xmp_reader.specs.declared.reader.Reader.{Reader}
+use Rattle.xmp_reader.specs.declared.reader.Stop.{Stop}
+use Rattle.xmp_reader.specs.Going.{Comes, Refused, stands}
+use Rattle.xmp_reader.specs.Kinds.{next_is}
 use Rattle.xmp_parse.specs.Blocks.{spell_task, FitsTask}
-use Rattle.xmp_parse.proofs.Taking.{silent}
-use Rattle.xmp_parse.proofs.Passing.{itself, comes_on, refused_on, comes_behind, refused_behind}
+use Rattle.xmp_reader.proofs.Taking.{silent}
+use Rattle.xmp_reader.proofs.Passing.{itself, comes_on, refused_on, comes_behind, refused_behind}
 
 -- An item of a block by its first token.
 word_type : (x : Reserved) → is_type (t.Word x) ≡ true → item_of (t.Word x) ≡ p.declaration

@@ -1,19 +1,19 @@
 -- The tree of each statement.
 use Rattle.std.proofs.Common.{◌≡◌, List, Option, None, Some}
 use Rattle.xmp_base.specs.declared.place.Place.{Place}
-use Rattle.xmp_tree.specs.declared.parts.Inside.{Inside}
-use Rattle.xmp_tree.specs.declared.expression.Expr as made_expr
-use Rattle.xmp_tree.specs.declared.directive.DirectiveLine.{DirectiveLine}
-use Rattle.xmp_tree.specs.declared.directive.LoopLine.{LoopLine}
-use Rattle.xmp_tree.specs.declared.directive.TaskLine.{TaskLine}
-use Rattle.xmp_tree.specs.declared.statement.BlockItem.{BlockItem}
-use Rattle.xmp_tree.specs.declared.statement.ForHead.{ForHead}
-use Rattle.xmp_tree.specs.declared.statement.Plain.{Plain}
-use Rattle.xmp_tree.specs.declared.statement.Stmt as made
-use Rattle.xmp_tree.specs.declared.statement.Stmt.TheVariants as s
-use Rattle.xmp_tree.specs.Trees.{Stmt, plain, block, if_then, if_else, while_do, for_do, loop, task, tasks}
-use Rattle.xmp_tree.specs.View.{stmt_view, items_view, tasks_view}
-use Rattle.xmp_tree.specs.Seen.{seen_plain, seen_block, seen_if, seen_else, seen_while, seen_for, seen_loop, seen_task, seen_tasks}
+use Rattle.xmp_syntax.specs.declared.parts.Inside.{Inside}
+use Rattle.xmp_syntax.specs.declared.expression.Expr as made_expr
+use Rattle.xmp_syntax.specs.declared.directive.DirectiveLine.{DirectiveLine}
+use Rattle.xmp_syntax.specs.declared.directive.LoopLine.{LoopLine}
+use Rattle.xmp_syntax.specs.declared.directive.TaskLine.{TaskLine}
+use Rattle.xmp_syntax.specs.declared.statement.BlockItem.{BlockItem}
+use Rattle.xmp_syntax.specs.declared.statement.ForHead.{ForHead}
+use Rattle.xmp_syntax.specs.declared.statement.Plain.{Plain}
+use Rattle.xmp_syntax.specs.declared.statement.Stmt as made
+use Rattle.xmp_syntax.specs.declared.statement.Stmt.TheVariants as s
+use Rattle.xmp_syntax.specs.Trees.{Stmt, plain, block, if_then, if_else, while_do, for_do, loop, task, tasks}
+use Rattle.xmp_syntax.specs.View.{stmt_view, items_view, tasks_view}
+use Rattle.xmp_syntax.specs.Seen.{seen_plain, seen_block, seen_if, seen_else, seen_while, seen_for, seen_loop, seen_task, seen_tasks}
 
 pub view_plain : (x : Plain) → stmt_view (s.Plain x) ≡ plain x
 view_plain x = seen_plain x

@@ -11,18 +11,19 @@ use Rattle.xmp_lex.specs.declared.token.Token.{Token}
 use Rattle.xmp_lex.specs.declared.token.TokenKind.{TokenKind}
 use Rattle.xmp_lex.specs.declared.token.TokenKind.TheVariants as t
 use Rattle.xmp_lex.specs.Lines.{IsFinished}
-use Rattle.xmp_tree.specs.declared.program.Tree.{Tree}
-use Rattle.xmp_tree.specs.Reading.{Rule, Depths, depths, State, reading, Reads, here, onward}
-use Rattle.xmp_tree.specs.Grammar.{rule, is_finish}
-use Rattle.xmp_tree.specs.Refused.{Stuck, TooDeep, IsProgram, start, program_rules}
-use Rattle.xmp_tree.specs.Spell.{◌at◌, each, top_item}
-use Rattle.xmp_tree.specs.Fits.{FitsTree}
-use Rattle.xmp_tree.specs.Steps.{Local, no_token, one_token, two_tokens, local, regroup, StuckAt}
-use Rattle.xmp_parse.specs.declared.depth.Depth.{Depth}
-use Rattle.xmp_parse.specs.Going.{has_finish, left_at, Comes}
-use Rattle.xmp_parse.specs.Programs.{StandsAt, Breaks, IsFault}
-use Rattle.xmp_parse.proofs.Taking.{same_depths}
-use Rattle.xmp_parse.proofs.Whole.{shallow_whole, behind_end}
+use Rattle.xmp_syntax.specs.declared.program.Tree.{Tree}
+use Rattle.xmp_syntax.specs.Reading.{Rule, Depths, depths, State, reading, Reads, here, onward}
+use Rattle.xmp_syntax.specs.Grammar.{rule, is_finish}
+use Rattle.xmp_syntax.specs.Refused.{Stuck, TooDeep, IsProgram, start, program_rules}
+use Rattle.xmp_syntax.specs.Spell.{◌at◌, each, top_item}
+use Rattle.xmp_syntax.specs.Fits.{FitsTree}
+use Rattle.xmp_syntax.specs.Steps.{Local, no_token, one_token, two_tokens, local, regroup, StuckAt}
+use Rattle.xmp_reader.specs.declared.depth.Depth.{Depth}
+use Rattle.xmp_reader.specs.Going.{has_finish, left_at, Comes}
+use Rattle.xmp_parse.specs.Faults.{StandsAt, Breaks, IsFault}
+use Rattle.xmp_syntax.proofs.DeepTokens.{stuck_front, front_stuck}
+use Rattle.xmp_reader.proofs.Taking.{same_depths}
+use Rattle.xmp_reader.proofs.Whole.{shallow_whole, behind_end}
 
 -- the end of the text stands there
 or_true : (a b : Bool) → b ≡ true → a || b ≡ true
@@ -102,7 +103,7 @@ stuck_fault ts left e S h = subst (λ (x : Fault). IsFault ts x) (sym (h S.front
   phase = refl;
   left = left;
   place = record { front = S.front; token = S.bad; after = S.after; whole = S.whole; count = S.count; place = refl };
-  rule = inl (refl, S);
+  rule = inl (refl, stuck_front ts left S);
 })
 
 pub deep_fault : (ts : List Token) (left : ℕ) (e : Fault) → TooDeep start program_rules ts left
@@ -120,7 +121,7 @@ deep_fault ts left e S h =
 -- A program is refused for want of memory alone.
 no_break : (ts : List Token) (e : Fault) → ((left : ℕ) → Stuck start program_rules ts left → ⊥) → ((left : ℕ) → TooDeep start program_rules ts left → ⊥) → IsFault ts e → e ≡ fault.NoMemory
 no_break ts fault.NoMemory h g f = refl
-no_break ts (fault.Refused y) h g f = ⊎_elim (λ p. absurd (h f.left p.1)) (λ p. absurd (g f.left p.1)) f.rule
+no_break ts (fault.Refused y) h g f = ⊎_elim (λ p. absurd (h f.left (front_stuck ts f.left p.1))) (λ p. absurd (g f.left p.1)) f.rule
 
 pub only_memory : (ts : List Token) (r : Result Tree Fault) → ((left : ℕ) → Stuck start program_rules ts left → ⊥) → ((left : ℕ) → TooDeep start program_rules ts left → ⊥) → IfErr r (λ e. IsFault ts e) → IfErr r (λ e. e ≡ fault.NoMemory)
 only_memory ts (Ok x) h g f = tt

@@ -2,18 +2,18 @@
 use Rattle.std.proofs.Common.{◌≡◌, Bool, true, false, List, [], ◌∷◌, refl, ap}
 use Rattle.std.specs.Prelude.{not}
 use Rattle.xmp_lex.specs.declared.token.Token.{Token}
-use Rattle.xmp_tree.specs.declared.statement.BlockItem.{BlockItem}
-use Rattle.xmp_tree.specs.declared.statement.BlockItem.TheVariants as b
-use Rattle.xmp_tree.specs.declared.statement.Stmt as made
-use Rattle.xmp_tree.specs.Reading.{Test, Rule, many, Depths, State, reading}
-use Rattle.xmp_tree.specs.View.{stmt_view, items_view}
-use Rattle.xmp_tree.specs.Spell.{each, spell_mapping, spell_declaration, spell_stmt, spell_items}
-use Rattle.xmp_tree.specs.Fits.{Each, FitsItems}
-use Rattle.xmp_parse.specs.Going.{Comes}
-use Rattle.xmp_parse.specs.Kinds.{next_is}
+use Rattle.xmp_syntax.specs.declared.statement.BlockItem.{BlockItem}
+use Rattle.xmp_syntax.specs.declared.statement.BlockItem.TheVariants as b
+use Rattle.xmp_syntax.specs.declared.statement.Stmt as made
+use Rattle.xmp_syntax.specs.Reading.{Test, Rule, many, Depths, State, reading}
+use Rattle.xmp_syntax.specs.View.{stmt_view, items_view}
+use Rattle.xmp_syntax.specs.Spell.{each, spell_mapping, spell_declaration, spell_stmt, spell_items}
+use Rattle.xmp_syntax.specs.Fits.{Each, FitsItems}
+use Rattle.xmp_reader.specs.Going.{Comes}
+use Rattle.xmp_reader.specs.Kinds.{next_is}
 use Rattle.xmp_parse.specs.Blocks.{spell_item, FitsItem}
-use Rattle.xmp_parse.proofs.Listing.{once_more}
-use Rattle.xmp_parse.proofs.Opening.{no_more}
+use Rattle.xmp_reader.proofs.Listing.{once_more}
+use Rattle.xmp_reader.proofs.Opening.{no_more}
 
 -- again and again, up to a token that is not to come
 pub once_more_not : (q : Test) {s : State} {D : Depths} {a : Rule} {K : List Rule} {ts : List Token} → next_is q ts ≡ false

@@ -2,19 +2,19 @@
 use Rattle.std.proofs.Common.{◌≡◌, ◌≤◌, ◌<◌, ℕ, Bool, true, false, List, [], ◌∷◌, ◌++◌, length, refl, sym, ap, ◌∙◌, subst, arith}
 use Rattle.std.specs.Prelude.{◌&&◌, ⊤}
 use Rattle.xmp_lex.specs.declared.token.Token.{Token}
-use Rattle.xmp_tree.specs.declared.program.Function.{Function}
-use Rattle.xmp_tree.specs.declared.program.TopItem.{TopItem}
-use Rattle.xmp_tree.specs.declared.program.TopItem.TheVariants as top
-use Rattle.xmp_tree.specs.Parts as p
-use Rattle.xmp_tree.specs.Reading.{Rule, part, plain, tok, Depths, State, reading}
-use Rattle.xmp_tree.specs.Grammar.{is_finish}
-use Rattle.xmp_tree.specs.Spell.{each, top_item}
-use Rattle.xmp_tree.specs.Fits.{Each, FitsTop, EndsInFunction}
-use Rattle.xmp_parse.specs.declared.reader.Reader.{Reader}
-use Rattle.xmp_parse.specs.Going.{Comes, stands}
-use Rattle.xmp_parse.specs.Kinds.{next_is}
+use Rattle.xmp_syntax.specs.declared.program.Function.{Function}
+use Rattle.xmp_syntax.specs.declared.program.TopItem.{TopItem}
+use Rattle.xmp_syntax.specs.declared.program.TopItem.TheVariants as top
+use Rattle.xmp_syntax.specs.Parts as p
+use Rattle.xmp_syntax.specs.Reading.{Rule, part, plain, tok, Depths, State, reading}
+use Rattle.xmp_syntax.specs.Grammar.{is_finish}
+use Rattle.xmp_syntax.specs.Spell.{each, top_item}
+use Rattle.xmp_syntax.specs.Fits.{Each, FitsTop, EndsInFunction}
+use Rattle.xmp_reader.specs.declared.reader.Reader.{Reader}
+use Rattle.xmp_reader.specs.Going.{Comes, stands}
+use Rattle.xmp_reader.specs.Kinds.{next_is}
 use Rattle.xmp_parse.specs.Programs.{is_function, behind_part, LastIs}
-use Rattle.xmp_parse.proofs.Listing.{if_so, if_not, each_more, fits_more}
+use Rattle.xmp_reader.proofs.Listing.{if_so, if_not, each_more, fits_more}
 
 -- The reading has come behind these parts; whether the last of them is a function.
 pub record PartsSoFar (r : Reader) (xs : List TopItem) (last : Bool) (rest : Reader) : Type 0 where

@@ -7,15 +7,15 @@ use Rattle.xmp_lex.specs.declared.token.Mark.{Mark}
 use Rattle.xmp_lex.specs.declared.token.Mark.TheVariants as m
 use Rattle.xmp_lex.specs.declared.token.Reserved.{Reserved}
 use Rattle.xmp_lex.specs.declared.token.Reserved.TheVariants as w
-use Rattle.xmp_tree.specs.Parts as p
-use Rattle.xmp_tree.specs.Parts.{Part}
-use Rattle.xmp_tree.specs.Reading.{plain, Rule, tok, part, by, Depths, State, reading, goes}
-use Rattle.xmp_tree.specs.Grammar.{rule, is_mark, is_word, is_name, is_step, is_step_mark, is_pragma, statement_of}
-use Rattle.xmp_tree.specs.Steps.{StuckAt}
-use Rattle.xmp_parse.specs.Going.{Comes}
-use Rattle.xmp_parse.specs.Kinds.{next_is, next_kind}
+use Rattle.xmp_syntax.specs.Parts as p
+use Rattle.xmp_syntax.specs.Parts.{Part}
+use Rattle.xmp_syntax.specs.Reading.{plain, Rule, tok, part, by, Depths, State, reading, goes}
+use Rattle.xmp_syntax.specs.Grammar.{rule, is_mark, is_word, is_name, is_step, is_step_mark, is_pragma, statement_of}
+use Rattle.xmp_syntax.specs.Steps.{StuckAt}
+use Rattle.xmp_reader.specs.Going.{Comes}
+use Rattle.xmp_reader.specs.Kinds.{next_is, next_kind}
 use Rattle.xmp_parse.specs.Counted.{HoldsNone}
-use Rattle.xmp_parse.proofs.Taking.{silent, one_stuck}
+use Rattle.xmp_reader.proofs.Taking.{silent, one_stuck}
 
 statement_by : (s : State) (D : Depths) (K : List Rule) (k : Token) (ts : List Token) (P : Part) → statement_of k.kind ≡ P → Comes s (reading D (part p.statement ∷ K) (k ∷ ts)) → Comes s (reading D (rule P ∷ K) (k ∷ ts))
 statement_by s D K k ts P e c = silent s _ _ (ap (λ (x : Part). goes [] (reading D (rule x ∷ K) (k ∷ ts))) e) refl (silent s (reading D (part p.statement ∷ K) (k ∷ ts)) (reading D (by statement_of ∷ K) (k ∷ ts)) refl refl c)

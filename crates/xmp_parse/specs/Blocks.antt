@@ -3,23 +3,23 @@ use Rattle.std.specs.Prelude.{◌≡◌, ℕ, List, [], ◌∷◌, true, false, 
 use Rattle.xmp_lex.specs.declared.token.Token.{Token}
 use Rattle.xmp_lex.specs.declared.token.TokenKind.{TokenKind}
 use Rattle.xmp_lex.specs.declared.token.Reserved.TheVariants as w
-use Rattle.xmp_tree.specs.declared.directive.TaskLine.{TaskLine}
-use Rattle.xmp_tree.specs.declared.statement.BlockItem.{BlockItem}
-use Rattle.xmp_tree.specs.declared.statement.Stmt as made
-use Rattle.xmp_tree.specs.Parts as p
-use Rattle.xmp_tree.specs.Parts.{Part}
-use Rattle.xmp_tree.specs.Reading.{Rule, State, part, mark, leave, by}
-use Rattle.xmp_tree.specs.Grammar.{is_word, directive_of}
-use Rattle.xmp_tree.specs.Trees.{Stmt}
-use Rattle.xmp_tree.specs.View.{items_view, tasks_view}
-use Rattle.xmp_tree.specs.Spell.{Text, spell_items, spell_tasks}
-use Rattle.xmp_tree.specs.Fits.{FitsItems, FitsTasks, takes_else}
-use Rattle.xmp_parse.specs.declared.depth.Depth.{Depth}
-use Rattle.xmp_parse.specs.declared.reader.Reader.{Reader}
-use Rattle.xmp_parse.specs.declared.reader.Stop.{Stop}
-use Rattle.xmp_parse.specs.Going.{Comes, After, stands, Parses}
-use Rattle.xmp_parse.specs.Kinds.{next_is}
-use Rattle.xmp_parse.specs.Lines.{Agree}
+use Rattle.xmp_syntax.specs.declared.directive.TaskLine.{TaskLine}
+use Rattle.xmp_syntax.specs.declared.statement.BlockItem.{BlockItem}
+use Rattle.xmp_syntax.specs.declared.statement.Stmt as made
+use Rattle.xmp_syntax.specs.Parts as p
+use Rattle.xmp_syntax.specs.Parts.{Part}
+use Rattle.xmp_syntax.specs.Reading.{Rule, State, part, mark, leave, by}
+use Rattle.xmp_syntax.specs.Grammar.{is_word, directive_of}
+use Rattle.xmp_syntax.specs.Trees.{Stmt}
+use Rattle.xmp_syntax.specs.View.{items_view, tasks_view}
+use Rattle.xmp_syntax.specs.Spell.{Text, spell_items, spell_tasks}
+use Rattle.xmp_syntax.specs.Fits.{FitsItems, FitsTasks, takes_else}
+use Rattle.xmp_reader.specs.declared.depth.Depth.{Depth}
+use Rattle.xmp_reader.specs.declared.reader.Reader.{Reader}
+use Rattle.xmp_reader.specs.declared.reader.Stop.{Stop}
+use Rattle.xmp_reader.specs.Going.{Comes, After, stands, Parses}
+use Rattle.xmp_reader.specs.Kinds.{next_is}
+use Rattle.xmp_line_reader.specs.Lines.{Agree}
 
 -- one item of a block
 abbrev pub spell_item : BlockItem made.Stmt → Text

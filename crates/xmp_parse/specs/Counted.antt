@@ -4,13 +4,13 @@ use Rattle.xmp_lex.specs.declared.token.Token.{Token}
 use Rattle.xmp_lex.specs.declared.token.Mark.TheVariants as m
 use Rattle.xmp_lex.specs.declared.token.Reserved.{Reserved}
 use Rattle.xmp_lex.specs.declared.token.Reserved.TheVariants as w
-use Rattle.xmp_tree.specs.Parts as p
-use Rattle.xmp_tree.specs.Reading.{Rule, State, part, mark, leave, ◌·◌}
-use Rattle.xmp_tree.specs.Grammar.{is_mark, is_word, is_pragma, word, parens, optional, expr, semicolon, counted}
-use Rattle.xmp_parse.specs.declared.reader.Reader.{Reader}
-use Rattle.xmp_parse.specs.declared.reader.Stop.{Stop}
-use Rattle.xmp_parse.specs.Going.{Comes, After, stands}
-use Rattle.xmp_parse.specs.Kinds.{next_is}
+use Rattle.xmp_syntax.specs.Parts as p
+use Rattle.xmp_syntax.specs.Reading.{Rule, State, part, mark, leave, ◌·◌}
+use Rattle.xmp_syntax.specs.Grammar.{is_mark, is_word, is_pragma, word, parens, optional, expr, semicolon, counted}
+use Rattle.xmp_reader.specs.declared.reader.Reader.{Reader}
+use Rattle.xmp_reader.specs.declared.reader.Stop.{Stop}
+use Rattle.xmp_reader.specs.Going.{Comes, After, stands}
+use Rattle.xmp_reader.specs.Kinds.{next_is}
 
 -- the three parts of `for` in parentheses
 abbrev pub for_parts : Rule

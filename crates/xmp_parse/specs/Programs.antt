@@ -1,23 +1,17 @@
--- Parts of programs, and what `parse` answers. Source: this project.
+-- How the parts of programs are read. Source: this project.
 use Rattle.std.specs.Prelude.{◌≡◌, ℕ, List, [], ◌∷◌, ◌++◌, Bool, true, false, length, Result, Ok, Err, ⊤, ◌⊎◌}
-use Rattle.xmp_base.specs.declared.place.Place.{Place}
-use Rattle.xmp_base.specs.declared.refusal.Refusal.{Refusal}
-use Rattle.xmp_base.specs.declared.refusal.Fault.{Fault}
-use Rattle.xmp_base.specs.declared.refusal.Fault.TheVariants as fault
-use Rattle.xmp_base.specs.declared.refusal.Phase.TheVariants as phase
 use Rattle.xmp_lex.specs.declared.token.Token.{Token}
 use Rattle.xmp_lex.specs.declared.token.Mark.TheVariants as m
-use Rattle.xmp_tree.specs.declared.program.TopItem.{TopItem}
-use Rattle.xmp_tree.specs.declared.program.TopItem.TheVariants as top
-use Rattle.xmp_tree.specs.Parts as p
-use Rattle.xmp_tree.specs.Reading.{Rule, State, tok, part, plain, many, choice, ◌·◌}
-use Rattle.xmp_tree.specs.Grammar.{is_mark, is_finish, name, comma, semicolon}
-use Rattle.xmp_tree.specs.Fits.{EndsInFunction}
-use Rattle.xmp_tree.specs.Refused.{Stuck, TooDeep, start, program_rules}
-use Rattle.xmp_parse.specs.declared.reader.Reader.{Reader}
-use Rattle.xmp_parse.specs.declared.reader.Stop.{Stop}
-use Rattle.xmp_parse.specs.Effects.{Ended}
-use Rattle.xmp_parse.specs.Going.{Comes, After, Refused, stands}
+use Rattle.xmp_syntax.specs.declared.program.TopItem.{TopItem}
+use Rattle.xmp_syntax.specs.declared.program.TopItem.TheVariants as top
+use Rattle.xmp_syntax.specs.Parts as p
+use Rattle.xmp_syntax.specs.Reading.{Rule, State, tok, part, plain, many, choice, ◌·◌}
+use Rattle.xmp_syntax.specs.Grammar.{is_mark, is_finish, name, comma, semicolon}
+use Rattle.xmp_syntax.specs.Fits.{EndsInFunction}
+use Rattle.xmp_reader.specs.declared.reader.Reader.{Reader}
+use Rattle.xmp_reader.specs.declared.reader.Stop.{Stop}
+use Rattle.xmp_reader.specs.Effects.{Ended}
+use Rattle.xmp_reader.specs.Going.{Comes, After, Refused, stands}
 
 -- A function or a declaration, and the parts behind it.
 abbrev pub definition_rule : Rule
@@ -57,28 +51,12 @@ abbrev pub Declares : {A : Type 0} → Reader → Result (A × Reader) Stop → 
 Declares r result = (s : State) (L : List (ℕ × ℕ)) (N : Rule) (K : List Rule)
     → Comes s (stands L ((part p.declarator_rest · many (is_mark m.Comma) (comma · part p.declarator) · semicolon · N) ∷ K) r) → After s L (N ∷ K) result
 
+-- The further declarators of a declaration are read and its semicolon, before another rule.
+abbrev pub EndsDeclaration : {A : Type 0} → Reader → Result (A × Reader) Stop → Type 0
+EndsDeclaration r result = (s : State) (L : List (ℕ × ℕ)) (N : Rule) (K : List Rule)
+    → Comes s (stands L ((many (is_mark m.Comma) (comma · part p.declarator) · semicolon · N) ∷ K) r) → After s L (N ∷ K) result
+
 -- where this is so, the last of the parts is a function
 abbrev pub LastIs : Bool → List TopItem → Type 0
 LastIs true xs = EndsInFunction xs
 LastIs false xs = ⊤
-
--- The token from which so many are left stands at this place.
-pub record StandsAt (ts : List Token) (left : ℕ) (at' : Place) : Type 0 where
-  pub front : List Token
-  pub token : Token
-  pub after : List Token
-  pub whole : ts ≡ front ++ token ∷ after
-  pub count : left ≡ length (token ∷ after)
-  pub place : token.at ≡ at'
-
--- A rule of the syntax is broken first at this token: 1 where the tokens up to it begin no program, 2 where it has a depth above 128.
-pub record Breaks (ts : List Token) (x : Refusal) : Type 0 where
-  pub phase : x.phase ≡ phase.Syntax
-  pub left : ℕ
-  pub place : StandsAt ts left x.at
-  pub rule : ((x.rule ≡ 1) × Stuck start program_rules ts left) ⊎ ((x.rule ≡ 2) × TooDeep start program_rules ts left)
-
--- The fault is the first break of a rule, or want of memory.
-abbrev pub IsFault : List Token → Fault → Type 0
-IsFault ts (fault.Refused x) = Breaks ts x
-IsFault ts fault.NoMemory = ⊤

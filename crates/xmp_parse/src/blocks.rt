@@ -3,32 +3,30 @@ ghost use Rattle.std.specs.Prelude.{◌≡◌, ◌≤◌, ◌<◌, ◌∷◌, If
 ghost use Rattle.xmp_lex.specs.declared.token.Mark.TheVariants as m;
 ghost use Rattle.xmp_lex.specs.declared.token.TokenKind.TheVariants as t;
 ghost use Rattle.xmp_lex.specs.declared.token.Reserved.TheVariants as w;
-ghost use Rattle.xmp_tree.specs.Parts as p;
-ghost use Rattle.xmp_tree.specs.Reading.{part, many, tok, plain, ◌·◌};
-ghost use Rattle.xmp_tree.specs.Grammar as g;
-ghost use Rattle.xmp_tree.specs.Spell as sp;
-ghost use Rattle.xmp_tree.specs.Spell.{◌at◌};
-ghost use Rattle.xmp_tree.specs.Fits as f;
-ghost use Rattle.xmp_tree.specs.View.{stmt_view, items_view, tasks_view};
-ghost use Rattle.xmp_parse.specs.Going.{Parses};
-ghost use Rattle.xmp_parse.specs.Lines.{part_of_directive, part_of_mapping, IsPlainWord};
+ghost use Rattle.xmp_syntax.specs.Parts as p;
+ghost use Rattle.xmp_syntax.specs.Reading.{part, many, tok, plain, ◌·◌};
+ghost use Rattle.xmp_syntax.specs.Grammar as g;
+ghost use Rattle.xmp_syntax.specs.Spell as sp;
+ghost use Rattle.xmp_syntax.specs.Spell.{◌at◌};
+ghost use Rattle.xmp_syntax.specs.Fits as f;
+ghost use Rattle.xmp_syntax.specs.View.{stmt_view, items_view, tasks_view};
+ghost use Rattle.xmp_reader.specs.Going.{Parses};
+ghost use Rattle.xmp_line_reader.specs.Lines.{part_of_directive, part_of_mapping, IsPlainWord};
 ghost use Rattle.xmp_parse.specs.Blocks.{spell_item, FitsItem, Directs, Holds, LeavesElse};
 
 use crate::declarations::declaration;
-use crate::depth::Depth;
-use crate::effect::Effect;
 use crate::for_heads::{condition, for_head};
-use crate::heads::{loop_line, task_line, tasks_line};
-use crate::lines::plain_line;
-use crate::mappings::mapping_line;
 use crate::plain_statements::plain;
-use crate::reader::{Parsed, Reader};
-use crate::words::{DirectiveWord, MappingWord, directive_word, mapping_word};
 use sqlite_items::{Boxed, Items};
 use std::alloc::{AllocError, Global};
 use xmp_base::Place;
 use xmp_lex::{Mark, Reserved};
-use xmp_tree::{BlockItem, ForHead, Inside, Stmt, TaskLine};
+use xmp_line_reader::{
+    DirectiveWord, MappingWord, directive_word, loop_line, mapping_line, mapping_word, plain_line,
+    task_line, tasks_line,
+};
+use xmp_reader::{Depth, Effect, Parsed, Reader};
+use xmp_syntax::{BlockItem, Expr, ForHead, Inside, Stmt, TaskLine};
 
 /// A statement, or a directive.
 #[cycle(statement)]
@@ -190,12 +188,44 @@ fn if_statement(alloc: Global, r: Reader<'_>) -> Parsed<'_, Stmt>
 {
     let outer = r.depth;
     let (head, r) = condition(alloc, Reserved::If, r)?;
-    let (yes, r) = held(alloc, outer, r)?;
+    match held(alloc, outer, r) {
+        Ok((yes, r)) => if_behind(alloc, head, yes, r),
+        Err(stop) => {
+            drop(head);
+            Err(stop)
+        }
+    }
+}
+
+/// An `if` with its condition and its first statement, and the `else` behind them, where one stands there.
+#[cycle(statement)]
+#[tactic(auto, using(crate::proofs::BlockViews::view_if, crate::proofs::BlockViews::view_else))]
+fn if_behind(
+    alloc: Global,
+    head: (Place, Inside<Expr>),
+    yes: Boxed<Stmt>,
+    r: Reader<'_>,
+) -> Parsed<'_, Stmt>
+    requires condition { f.FitsExpr head.1.item }
+    requires fits { f.FitsStmt (stmt_view yes) }
+    requires no_else { LeavesElse (stmt_view yes) r.tokens.now }
+    ensures goes { Parses (g.optional (g.is_word w.Else) (g.counted (g.word w.Else · part p.statement))) r.entry result }
+    ensures reads { IfOk result (λ x. sp.word w.If head.0 (sp.in_parens sp.expr head.1 (sp.spell_stmt (stmt_view yes) r.entry.tokens.now)) ≡ sp.spell_stmt (stmt_view x.0) x.1.tokens.now) }
+    ensures fits { IfOk result (λ x. f.FitsStmt (stmt_view x.0)) }
+    ensures no_else { IfOk result (λ x. LeavesElse (stmt_view x.0) x.1.tokens.now) }
+    ensures shorter { IfOk result (λ x. length x.1.tokens.now ≤ length r.entry.tokens.now) }
+{
     if !r.is_word(Reserved::Else) {
         return Ok((Stmt::If(head.0, head.1, yes, None), r));
     }
-    let (no, r) = else_part(alloc, r)?;
-    Ok((Stmt::If(head.0, head.1, yes, Some(no)), r))
+    match else_part(alloc, r) {
+        Ok((no, r)) => Ok((Stmt::If(head.0, head.1, yes, Some(no)), r)),
+        Err(stop) => {
+            drop(head);
+            drop(yes);
+            Err(stop)
+        }
+    }
 }
 
 /// `else`, and its statement.
@@ -224,8 +254,13 @@ fn while_statement(alloc: Global, r: Reader<'_>) -> Parsed<'_, Stmt>
 {
     let outer = r.depth;
     let (head, r) = condition(alloc, Reserved::While, r)?;
-    let (body, r) = held(alloc, outer, r)?;
-    Ok((Stmt::While(head.0, head.1, body), r))
+    match held(alloc, outer, r) {
+        Ok((body, r)) => Ok((Stmt::While(head.0, head.1, body), r)),
+        Err(stop) => {
+            drop(head);
+            Err(stop)
+        }
+    }
 }
 
 /// The head of a `for`, and its statement.
@@ -239,8 +274,13 @@ fn for_statement(alloc: Global, r: Reader<'_>) -> Parsed<'_, (ForHead, Boxed<Stm
 {
     let outer = r.depth;
     let (head, r) = for_head(alloc, r)?;
-    let (body, r) = held(alloc, outer, r)?;
-    Ok(((head, body), r))
+    match held(alloc, outer, r) {
+        Ok((body, r)) => Ok(((head, body), r)),
+        Err(stop) => {
+            drop(head);
+            Err(stop)
+        }
+    }
 }
 
 /// A directive, from its word on.

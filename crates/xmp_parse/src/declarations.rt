@@ -2,22 +2,20 @@
 ghost use Rattle.std.specs.Prelude.{◌≡◌, ◌≤◌, ◌<◌, ⊤, List, [], IfOk, ◌∷◌, length};
 ghost use Rattle.xmp_lex.specs.declared.token.Mark.TheVariants as m;
 ghost use Rattle.xmp_lex.specs.declared.token.TokenKind.TheVariants as t;
-ghost use Rattle.xmp_tree.specs.Parts as p;
-ghost use Rattle.xmp_tree.specs.Reading.{part, many, ◌·◌};
-ghost use Rattle.xmp_tree.specs.Grammar as g;
-ghost use Rattle.xmp_tree.specs.Spell as sp;
-ghost use Rattle.xmp_tree.specs.Fits as f;
-ghost use Rattle.xmp_parse.specs.Going.{Parses, ParsesAll};
-ghost use Rattle.xmp_parse.specs.Programs.{Declares};
+ghost use Rattle.xmp_syntax.specs.Parts as p;
+ghost use Rattle.xmp_syntax.specs.Reading.{part, many, ◌·◌};
+ghost use Rattle.xmp_syntax.specs.Grammar as g;
+ghost use Rattle.xmp_syntax.specs.Spell as sp;
+ghost use Rattle.xmp_syntax.specs.Fits as f;
+ghost use Rattle.xmp_reader.specs.Going.{Parses, ParsesAll};
+ghost use Rattle.xmp_parse.specs.Programs.{Declares, EndsDeclaration};
 
-use crate::effect::Effect;
-use crate::expressions::expression;
-use crate::parts::{Part, dims, more_parts, type_words};
-use crate::reader::{Parsed, Reader};
+use sqlite_items::Items;
 use std::alloc::Global;
 use xmp_base::Place;
 use xmp_lex::Mark;
-use xmp_tree::{CommaList, Declaration, Declarator, Expr, Inside, Name, TypeWords};
+use xmp_reader::{Effect, Exprs, Parsed, Part, Reader, dims, expression, more_parts, type_words};
+use xmp_syntax::{CommaList, Declaration, Declarator, Expr, Inside, Name, Next, TypeWords};
 
 /// `":" "[" "*" "]"`
 fn coarray(r: Reader<'_>) -> Parsed<'_, (Place, Inside<Place>)>
@@ -52,7 +50,7 @@ fn array(alloc: Global, name: Name, r: Reader<'_>) -> Parsed<'_, Declarator>
     ensures fits { IfOk result (λ x. f.FitsDeclarator x.0) }
     ensures shorter { IfOk result (λ x. length x.1.tokens.now < length r.entry.tokens.now) }
 {
-    let (sizes, r) = dims::<Expr>(alloc, r)?;
+    let (sizes, r) = dims::<Exprs>(alloc, r)?;
     let (star, r) = any_coarray(r)?;
     Ok((Declarator::Array(name, sizes, star), r))
 }
@@ -86,7 +84,12 @@ pub fn declarator_rest(alloc: Global, name: Name, r: Reader<'_>) -> Parsed<'_, D
     Ok((Declarator::Scalar(name, value), r))
 }
 
-impl Part for Declarator {
+/// Declarators.
+struct Declarators;
+
+impl Part for Declarators {
+    type Made = Declarator;
+
     ghost rule = { part p.declarator };
 
     ghost text = { sp.declarator };
@@ -97,6 +100,19 @@ impl Part for Declarator {
         let (name, r) = r.name(alloc)?;
         declarator_rest(alloc, name, r)
     }
+}
+
+/// The further declarators of a declaration, and its semicolon.
+fn more_declarators(alloc: Global, r: Reader<'_>) -> Parsed<'_, (Items<Next<Declarator>>, Place)>
+    ensures before { EndsDeclaration r.entry result }
+    ensures goes { ParsesAll (many (g.is_mark m.Comma) (g.comma · part p.declarator) ∷ g.semicolon ∷ []) r.entry result }
+    ensures reads { IfOk result (λ x. r.entry.tokens.now ≡ sp.each (sp.next sp.declarator) x.0.0 (sp.sign m.Semicolon x.0.1 x.1.tokens.now)) }
+    ensures fits { IfOk result (λ x. f.Each (λ y. f.FitsDeclarator y.item) x.0.0) }
+    ensures shorter { IfOk result (λ x. length x.1.tokens.now < length r.entry.tokens.now) }
+{
+    let (more, r) = more_parts::<Declarators>(alloc, r)?;
+    let (end, r) = r.mark(Mark::Semicolon, Effect::Separator)?;
+    Ok(((more, end), r))
 }
 
 /// The rest of a declaration, behind its first name.
@@ -113,10 +129,26 @@ pub fn declaration_rest(
     ensures shorter { IfOk result (λ x. length x.1.tokens.now < length r.entry.tokens.now) }
 {
     let (first, r) = declarator_rest(alloc, name, r)?;
-    let (more, r) = more_parts::<Declarator>(alloc, r)?;
-    let (end, r) = r.mark(Mark::Semicolon, Effect::Separator)?;
-    let items = CommaList { first, more };
-    Ok((Declaration { ty, items, end }, r))
+    match more_declarators(alloc, r) {
+        Ok((more, r)) => {
+            let items = CommaList {
+                first,
+                more: more.0,
+            };
+            Ok((
+                Declaration {
+                    ty,
+                    items,
+                    end: more.1,
+                },
+                r,
+            ))
+        }
+        Err(stop) => {
+            drop(first);
+            Err(stop)
+        }
+    }
 }
 
 /// A declaration.
@@ -131,8 +163,12 @@ pub fn declaration(alloc: Global, r: Reader<'_>) -> Parsed<'_, Declaration>
     declaration_rest(alloc, ty, name, r)
 }
 
-/// A parameter: its type and its name.
-impl Part for (TypeWords, Name) {
+/// Parameters: the type and the name of each.
+pub struct TypedNames;
+
+impl Part for TypedNames {
+    type Made = (TypeWords, Name);
+
     ghost rule = { part p.parameter };
 
     ghost text = { sp.parameter };

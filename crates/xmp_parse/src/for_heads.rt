@@ -3,24 +3,20 @@ ghost use Rattle.std.specs.Prelude.{◌≡◌, ◌≤◌, ◌<◌, false, IfOk, 
 ghost use Rattle.xmp_lex.specs.declared.token.Mark.TheVariants as m;
 ghost use Rattle.xmp_lex.specs.declared.token.TokenKind.TheVariants as t;
 ghost use Rattle.xmp_lex.specs.declared.token.Reserved.TheVariants as w;
-ghost use Rattle.xmp_tree.specs.Parts as p;
-ghost use Rattle.xmp_tree.specs.Reading.{part, ◌·◌};
-ghost use Rattle.xmp_tree.specs.Grammar as g;
-ghost use Rattle.xmp_tree.specs.Spell as sp;
-ghost use Rattle.xmp_tree.specs.Spell.{◌at◌};
-ghost use Rattle.xmp_tree.specs.Fits as f;
-ghost use Rattle.xmp_parse.specs.Going.{Parses, ParsesAll};
+ghost use Rattle.xmp_syntax.specs.Parts as p;
+ghost use Rattle.xmp_syntax.specs.Reading.{part, ◌·◌};
+ghost use Rattle.xmp_syntax.specs.Grammar as g;
+ghost use Rattle.xmp_syntax.specs.Spell as sp;
+ghost use Rattle.xmp_syntax.specs.Spell.{◌at◌};
+ghost use Rattle.xmp_syntax.specs.Fits as f;
+ghost use Rattle.xmp_reader.specs.Going.{Parses, ParsesAll};
 ghost use Rattle.xmp_parse.specs.Counted.{Enters, for_parts};
 
-use crate::changes::{reference, simple};
-use crate::effect::Effect;
-use crate::expressions::expression;
-use crate::mappings::in_parens;
-use crate::reader::{Parsed, Reader};
 use std::alloc::Global;
 use xmp_base::Place;
 use xmp_lex::{Mark, Reserved};
-use xmp_tree::{Expr, ForFirst, ForHead, Inside, Simple};
+use xmp_reader::{Effect, Exprs, Parsed, Reader, expression, in_parens, reference, simple};
+use xmp_syntax::{Expr, ForFirst, ForHead, Inside, Simple};
 
 /// `if` or `while`, and the condition in parentheses.
 pub fn condition(alloc: Global, word: Reserved, r: Reader<'_>) -> Parsed<'_, (Place, Inside<Expr>)>
@@ -30,7 +26,7 @@ pub fn condition(alloc: Global, word: Reserved, r: Reader<'_>) -> Parsed<'_, (Pl
     ensures shorter { IfOk result (λ x. length x.1.tokens.now < length r.entry.tokens.now) }
 {
     let (at, r) = r.word(word, Effect::Entering)?;
-    let (condition, r) = in_parens(alloc, r)?;
+    let (condition, r) = in_parens::<Exprs>(alloc, r)?;
     Ok(((at, condition), r))
 }
 
@@ -115,6 +111,18 @@ fn any_next(alloc: Global, r: Reader<'_>) -> Parsed<'_, Option<Simple>>
     Ok((Some(next), r))
 }
 
+/// The semicolon behind the condition of `for`, and the last part.
+fn next_part(alloc: Global, r: Reader<'_>) -> Parsed<'_, (Place, Option<Simple>)>
+    ensures goes { Parses (g.semicolon · g.optional (λ k. not (g.is_mark m.CloseParen k)) (part p.simple)) r.entry result }
+    ensures reads { IfOk result (λ x. r.entry.tokens.now ≡ sp.sign m.Semicolon x.0.0 (sp.optional sp.spell_simple x.0.1 x.1.tokens.now)) }
+    ensures fits { IfOk result (λ x. f.If f.FitsSimple x.0.1) }
+    ensures shorter { IfOk result (λ x. length x.1.tokens.now < length r.entry.tokens.now) }
+{
+    let (end, r) = r.mark(Mark::Semicolon, Effect::Separator)?;
+    let (next, r) = any_next(alloc, r)?;
+    Ok(((end, next), r))
+}
+
 /// The condition, its semicolon and the last part of `for`.
 #[derive(Drop)]
 struct LastParts {
@@ -130,14 +138,32 @@ fn last_parts(alloc: Global, r: Reader<'_>) -> Parsed<'_, LastParts>
     ensures shorter { IfOk result (λ x. length x.1.tokens.now < length r.entry.tokens.now) }
 {
     let (test, r) = any_test(alloc, r)?;
-    let (test_end, r) = r.mark(Mark::Semicolon, Effect::Separator)?;
-    let (next, r) = any_next(alloc, r)?;
-    let made = LastParts {
-        test,
-        test_end,
-        next,
-    };
-    Ok((made, r))
+    match next_part(alloc, r) {
+        Ok((behind, r)) => Ok((
+            LastParts {
+                test,
+                test_end: behind.0,
+                next: behind.1,
+            },
+            r,
+        )),
+        Err(stop) => {
+            drop(test);
+            Err(stop)
+        }
+    }
+}
+
+/// The semicolon behind the first part of `for`, and the parts behind it.
+fn later_parts(alloc: Global, r: Reader<'_>) -> Parsed<'_, (Place, LastParts)>
+    ensures goes { Parses (g.semicolon · g.optional (λ k. not (g.is_mark m.Semicolon k)) g.expr · g.semicolon · g.optional (λ k. not (g.is_mark m.CloseParen k)) (part p.simple)) r.entry result }
+    ensures reads { IfOk result (λ x. r.entry.tokens.now ≡ sp.sign m.Semicolon x.0.0 (sp.optional sp.expr x.0.1.test (sp.sign m.Semicolon x.0.1.test_end (sp.optional sp.spell_simple x.0.1.next x.1.tokens.now)))) }
+    ensures fits { IfOk result (λ x. f.If f.FitsExpr x.0.1.test × f.If f.FitsSimple x.0.1.next) }
+    ensures shorter { IfOk result (λ x. length x.1.tokens.now < length r.entry.tokens.now) }
+{
+    let (end, r) = r.mark(Mark::Semicolon, Effect::Separator)?;
+    let (last, r) = last_parts(alloc, r)?;
+    Ok(((end, last), r))
 }
 
 /// The first part of `for` and its semicolon, and the parts behind.
@@ -155,14 +181,38 @@ fn all_parts(alloc: Global, r: Reader<'_>) -> Parsed<'_, AllParts>
     ensures shorter { IfOk result (λ x. length x.1.tokens.now < length r.entry.tokens.now) }
 {
     let (first, r) = any_first(alloc, r)?;
-    let (end, r) = r.mark(Mark::Semicolon, Effect::Separator)?;
-    let (last, r) = last_parts(alloc, r)?;
-    let made = AllParts {
-        first,
-        first_end: end,
-        last,
-    };
-    Ok((made, r))
+    match later_parts(alloc, r) {
+        Ok((later, r)) => Ok((
+            AllParts {
+                first,
+                first_end: later.0,
+                last: later.1,
+            },
+            r,
+        )),
+        Err(stop) => {
+            drop(first);
+            Err(stop)
+        }
+    }
+}
+
+/// The head of these parts and of the places around them.
+fn head_of(word: Place, bracket: Place, parts: AllParts, close: Place) -> ForHead
+    ensures first { (result.first ≡ parts.first) × (result.first_end ≡ parts.first_end) }
+    ensures last { (result.test ≡ parts.last.test) × (result.test_end ≡ parts.last.test_end) × (result.next ≡ parts.last.next) }
+    ensures places { (result.word ≡ word) × (result.open ≡ bracket) × (result.close ≡ close) }
+{
+    ForHead {
+        word,
+        open: bracket,
+        first: parts.first,
+        first_end: parts.first_end,
+        test: parts.last.test,
+        test_end: parts.last.test_end,
+        next: parts.last.next,
+        close,
+    }
 }
 
 /// The three parts of `for` in parentheses, behind its word.
@@ -175,28 +225,13 @@ fn head_behind(alloc: Global, word: Place, r: Reader<'_>) -> Parsed<'_, ForHead>
     let outer = r.depth;
     let (open, r) = r.mark(Mark::OpenParen, Effect::Opening)?;
     let (parts, r) = all_parts(alloc, r)?;
-    let (close, r) = r.mark(Mark::CloseParen, Effect::Closing(outer))?;
-    let AllParts {
-        first,
-        first_end,
-        last,
-    } = parts;
-    let LastParts {
-        test,
-        test_end,
-        next,
-    } = last;
-    let head = ForHead {
-        word,
-        open,
-        first,
-        first_end,
-        test,
-        test_end,
-        next,
-        close,
-    };
-    Ok((head, r))
+    match r.mark(Mark::CloseParen, Effect::Closing(outer)) {
+        Ok((close, r)) => Ok((head_of(word, open, parts, close), r)),
+        Err(stop) => {
+            drop(parts);
+            Err(stop)
+        }
+    }
 }
 
 /// `for` and its three parts.

@@ -1,22 +1,21 @@
 // Functions and their bodies.
 ghost use Rattle.std.specs.Prelude.{◌≡◌, ◌≤◌, ◌<◌, IfOk, length, not};
 ghost use Rattle.xmp_lex.specs.declared.token.Mark.TheVariants as m;
-ghost use Rattle.xmp_tree.specs.Parts as p;
-ghost use Rattle.xmp_tree.specs.Reading.{part, many};
-ghost use Rattle.xmp_tree.specs.Grammar as g;
-ghost use Rattle.xmp_tree.specs.Spell as sp;
-ghost use Rattle.xmp_tree.specs.Fits as f;
-ghost use Rattle.xmp_tree.specs.View.{items_view};
-ghost use Rattle.xmp_parse.specs.Going.{Parses};
+ghost use Rattle.xmp_syntax.specs.Parts as p;
+ghost use Rattle.xmp_syntax.specs.Reading.{part, many};
+ghost use Rattle.xmp_syntax.specs.Grammar as g;
+ghost use Rattle.xmp_syntax.specs.Spell as sp;
+ghost use Rattle.xmp_syntax.specs.Fits as f;
+ghost use Rattle.xmp_syntax.specs.View.{items_view};
+ghost use Rattle.xmp_reader.specs.Going.{Parses};
 
 use crate::blocks::block_item;
-use crate::effect::Effect;
 use crate::parameter_lists::parameters;
-use crate::reader::{Parsed, Reader};
 use sqlite_items::Items;
 use std::alloc::Global;
 use xmp_lex::Mark;
-use xmp_tree::{BlockItem, Function, Inside, Name, Stmt, TypeWords};
+use xmp_reader::{Effect, Parsed, Reader};
+use xmp_syntax::{BlockItem, Function, Inside, Name, Stmt, TypeWords};
 
 /// The items of a block, up to its closing brace.
 fn body_items(alloc: Global, r: Reader<'_>) -> Parsed<'_, Items<BlockItem<Stmt>>>

@@ -2,18 +2,17 @@
 ghost use Rattle.std.specs.Prelude.{◌≡◌, ◌≤◌, ◌<◌, IfOk, ◌∷◌, length, not};
 ghost use Rattle.xmp_lex.specs.declared.token.Mark.TheVariants as m;
 ghost use Rattle.xmp_lex.specs.declared.token.Reserved.TheVariants as w;
-ghost use Rattle.xmp_tree.specs.Parts as p;
-ghost use Rattle.xmp_tree.specs.Reading.{part, choice, ◌·◌};
-ghost use Rattle.xmp_tree.specs.Grammar as g;
-ghost use Rattle.xmp_tree.specs.Spell as sp;
-ghost use Rattle.xmp_parse.specs.Going.{Parses};
+ghost use Rattle.xmp_syntax.specs.Parts as p;
+ghost use Rattle.xmp_syntax.specs.Reading.{part, choice, ◌·◌};
+ghost use Rattle.xmp_syntax.specs.Grammar as g;
+ghost use Rattle.xmp_syntax.specs.Spell as sp;
+ghost use Rattle.xmp_reader.specs.Going.{Parses};
 
-use crate::effect::Effect;
-use crate::parts::comma_list;
-use crate::reader::{Parsed, Reader};
+use crate::declarations::TypedNames;
 use std::alloc::Global;
 use xmp_lex::{Mark, Reserved};
-use xmp_tree::{Inside, Name, Parameters, TypeWords};
+use xmp_reader::{Effect, Parsed, Reader, comma_list};
+use xmp_syntax::{Inside, Parameters};
 
 /// `void`, or the types and names of parameters.
 fn some_parameters(alloc: Global, r: Reader<'_>) -> Parsed<'_, Parameters>
@@ -25,7 +24,7 @@ fn some_parameters(alloc: Global, r: Reader<'_>) -> Parsed<'_, Parameters>
         let (void, r) = r.word(Reserved::Void, Effect::Plain)?;
         return Ok((Parameters::Void(void), r));
     }
-    let (list, r) = comma_list::<(TypeWords, Name)>(alloc, r)?;
+    let (list, r) = comma_list::<TypedNames>(alloc, r)?;
     Ok((Parameters::Named(list), r))
 }
 

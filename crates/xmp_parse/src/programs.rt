@@ -4,31 +4,30 @@ ghost use Rattle.xmp_lex.specs.declared.token.Token.{Token};
 ghost use Rattle.xmp_lex.specs.declared.token.TokenKind.TheVariants as t;
 ghost use Rattle.xmp_lex.specs.Lines.{IsFinished};
 ghost use Rattle.xmp_base.specs.declared.refusal.Fault.TheVariants as fault;
-ghost use Rattle.xmp_tree.specs.declared.program.Tree.{Tree};
-ghost use Rattle.xmp_tree.specs.Parts as p;
-ghost use Rattle.xmp_tree.specs.Reading.{part, reading};
-ghost use Rattle.xmp_tree.specs.Grammar.{is_finish};
-ghost use Rattle.xmp_tree.specs.Spell as sp;
-ghost use Rattle.xmp_tree.specs.Spell.{◌at◌};
-ghost use Rattle.xmp_tree.specs.Fits as f;
-ghost use Rattle.xmp_tree.specs.Refused.{IsProgram, start, program_rules};
-ghost use Rattle.xmp_parse.specs.Effects.{Finishes, Ended};
-ghost use Rattle.xmp_parse.specs.Going.{Refused, has_finish};
-ghost use Rattle.xmp_parse.specs.Kinds.{next_is};
-ghost use Rattle.xmp_parse.specs.Programs.{definition_rule, is_function, LastIs, ReadsPart, ReadsParts, ReadsProgram, IsFault};
+ghost use Rattle.xmp_syntax.specs.declared.program.Tree.{Tree};
+ghost use Rattle.xmp_syntax.specs.Parts as p;
+ghost use Rattle.xmp_syntax.specs.Reading.{part, reading};
+ghost use Rattle.xmp_syntax.specs.Grammar.{is_finish};
+ghost use Rattle.xmp_syntax.specs.Spell as sp;
+ghost use Rattle.xmp_syntax.specs.Spell.{◌at◌};
+ghost use Rattle.xmp_syntax.specs.Fits as f;
+ghost use Rattle.xmp_syntax.specs.Refused.{IsProgram, start, program_rules};
+ghost use Rattle.xmp_reader.specs.Effects.{Finishes, Ended};
+ghost use Rattle.xmp_reader.specs.Going.{Refused, has_finish};
+ghost use Rattle.xmp_reader.specs.Kinds.{next_is};
+ghost use Rattle.xmp_parse.specs.Faults.{IsFault};
+ghost use Rattle.xmp_parse.specs.Programs.{definition_rule, is_function, LastIs, ReadsPart, ReadsParts, ReadsProgram};
 
 use crate::declarations::declaration_rest;
-use crate::effect::{Effect, start};
 use crate::functions::function_rest;
-use crate::mappings::mapping;
-use crate::parts::type_words;
-use crate::reader::{Parsed, Reader, Stop};
 use crate::refusals::refusal;
 use sqlite_items::Items;
 use std::alloc::Global;
 use xmp_base::Fault;
 use xmp_lex::{Mark, Token};
-use xmp_tree::{TopItem, Tree, program_or_refused};
+use xmp_line_reader::mapping;
+use xmp_reader::{Effect, Parsed, Reader, Stop, start, type_words};
+use xmp_syntax::{TopItem, Tree, never_program_and_refused};
 
 /// A function, or a declaration outside functions.
 fn definition(alloc: Global, r: Reader<'_>) -> Parsed<'_, TopItem>
@@ -141,6 +140,6 @@ pub fn parse(alloc: Global, tokens: &[Token]) -> Result<Tree, Fault>
     ensures fault { IfErr result (λ e. IsFault tokens.now e) }
     ensures no_other { (x : Tree) → IsProgram tokens.now x → IfErr result (λ e. e ≡ fault.NoMemory) }
 {
-    program_or_refused();
+    never_program_and_refused();
     judged(alloc, tokens)
 }

@@ -10,7 +10,7 @@ use sqlite_items::Items;
 use std::alloc::{AllocError, Global};
 
 // An object and a set of nodes: in the trail the set before a change, in a list of changes the one after it.
-#[derive(Clone, Copy, Debug)]
+#[derive(Clone, Copy)]
 pub struct Change {
     pub object: u64,
     pub nodes: u16,

@@ -23,7 +23,8 @@ use Step::{Again, Assigned, Nothing, Or, Read, Then, Wrong};
 // A tree, and the line and the number of the first rule that breaks in it.
 type Row = (&'static [Step], Option<(u32, u16)>);
 
-const IN_ORDER: [Row; 9] = [
+const ROWS: [Row; 29] = [
+    // in order
     (&[Nothing], None),
     (&[Read(1, 0, 15)], None),
     (&[Assigned(0, 1), Read(2, 0, 1), Then], None),
@@ -39,9 +40,7 @@ const IN_ORDER: [Row; 9] = [
         &[Assigned(0, 3), Assigned(0, 4), Then, Read(3, 0, 2), Then],
         Some((3, 1)),
     ),
-];
-
-const BRANCHES: [Row; 9] = [
+    // branches
     (
         &[Assigned(0, 1), Nothing, Or, Read(2, 0, 2), Then],
         Some((2, 1)),
@@ -99,9 +98,7 @@ const BRANCHES: [Row; 9] = [
         ],
         Some((3, 1)),
     ),
-];
-
-const LOOPS: [Row; 7] = [
+    // loops
     (&[Read(1, 0, 15), Assigned(0, 1), Then, Again], Some((1, 1))),
     (
         &[
@@ -173,10 +170,7 @@ const LOOPS: [Row; 7] = [
         ],
         None,
     ),
-];
-
-// By the line first, and then by the number.
-const PLACES: [Row; 4] = [
+    // by the line first, and then by the number
     (&[Wrong(4, 2), Wrong(3, 7), Then], Some((3, 7))),
     (&[Wrong(3, 7), Wrong(3, 5), Or], Some((3, 5))),
     (
@@ -262,9 +256,6 @@ fn unlike(alloc: Global, table: &[Row]) -> Result<Option<usize>, Fail> {
 
 #[test]
 fn the_first_rule_that_breaks_on_some_path_is_found(rt: HostRuntime) -> Result<(), Fail> {
-    assert_eq!(rt; unlike(rt.alloc(), &IN_ORDER)?, None, "in order");
-    assert_eq!(rt; unlike(rt.alloc(), &BRANCHES)?, None, "branches");
-    assert_eq!(rt; unlike(rt.alloc(), &LOOPS)?, None, "loops");
-    assert_eq!(rt; unlike(rt.alloc(), &PLACES)?, None, "places");
+    assert_eq!(rt; unlike(rt.alloc(), &ROWS)?, None);
     Ok(())
 }

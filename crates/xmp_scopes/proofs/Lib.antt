@@ -1,3 +1,5 @@
 mod Entries
+mod Places
 mod Undo
 mod Undeclared
+mod Agreement

@@ -1,13 +1,12 @@
 -- What the table holds is the innermost declaration, and undoing a declaration brings back what it hid.
-use Rattle.std.proofs.Common.{◌≡◌, ℕ, suc, ◌-◌, ◌<◌, ◌≤◌, Bool, true, false, cond, List, [], ◌∷◌, ◌++◌, length, drop, reverse, max, Option, None, Some, is_some, IsSome, nat_eq, refl, sym, ◌∙◌, ap, subst, arith}
+use Rattle.std.proofs.Common.{◌≡◌, ℕ, suc, ◌-◌, ◌<◌, ◌≤◌, Bool, true, false, cond, List, [], ◌∷◌, ◌++◌, length, drop, reverse, max, Option, None, Some, is_some, nat_eq, refl, sym, ◌∙◌, ap, arith}
 use Rattle.std.specs.Option.{option_or}
 use Rattle.std.proofs.lemmas.List.{reverse-append}
 use Rattle.xmp_scopes.specs.declared.current.Held.{Held}
-use Rattle.xmp_scopes.specs.declared.scopes.Step.{Step}
-use Rattle.xmp_scopes.specs.declared.scopes.Step.TheVariants.{Opened, Declared}
 use Rattle.xmp_scopes.specs.Names.{Name, is_same, in_scope, nearest, depth_of, is_declared_here, declare}
-use Rattle.xmp_scopes.specs.Log.{scopes_of, held, visible}
-use Rattle.xmp_scopes.proofs.Entries.{equal_of_same, same_of_equal}
+use Rattle.xmp_scopes.specs.Table.{visible}
+use Rattle.xmp_scopes.specs.Log.{Step, Opened, Declared, scopes_of, held}
+use Rattle.xmp_scopes.proofs.Entries.{equal_of_same}
 
 here_now : (d : ℕ) → true ≡ nat_eq d d
 here_now d = grind arith
@@ -15,6 +14,9 @@ here_now d = grind arith
 pub none_left : {X : Type 0} (xs : List X) → length xs ≡ 0 → xs ≡ []
 none_left [] e = refl
 none_left (x ∷ xs) e = absurd (omega arith)
+
+pub last_first : {X : Type 0} (rest : List X) (step : X) → reverse (rest ++ step ∷ []) ≡ step ∷ reverse rest
+last_first rest step = reverse-append rest (step ∷ [])
 
 module _ {M : Type 0} where
   -- what a declaration means
@@ -136,16 +138,6 @@ module _ {M : Type 0} where
   depth_length [] = omega arith
   depth_length (Opened ∷ steps) = let h = depth_length steps in omega arith
   depth_length (Declared n m hidden ∷ steps) = let h = depth_length steps in let l = length-declare n m (scopes_of steps) in omega arith
-
-  pub last_first : (rest : List (Step M)) (step : Step M) → reverse (rest ++ step ∷ []) ≡ step ∷ reverse rest
-  last_first rest step = reverse-append rest (step ∷ [])
-
-  -- the table holds a declaration of the name that was declared last
-  pub holds_own : (table : List (Name × Option (Held M))) (name : Name) (m : M) (hidden : Option (Held M)) (rest : List (Step M)) →
-      ((n : Name) → visible n table ≡ held n (Declared name m hidden ∷ rest)) → IsSome (visible name table)
-  holds_own table name m hidden rest names =
-      let own : is_same name name ≡ true = same_of_equal name name refl in
-      subst IsSome (sym (names name)) (rw own refl)
 
   -- the table without the last declaration
   pub restored : (table new : List (Name × Option (Held M))) (name : Name) (m : M) (hidden : Option (Held M)) (rest : List (Step M)) →

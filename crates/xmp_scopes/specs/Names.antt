@@ -4,8 +4,6 @@ use Rattle.std.specs.Prelude.{◌≢◌, Bool, false, if◌then◌else◌, ℕ, 
 use Rattle.std.specs.Cmp.Lexicographic.{pointwise}
 use Rattle.std.specs.Map.{lookup}
 use Rattle.std.specs.Option.{option_or}
-use Rattle.xmp_scopes.specs.declared.scopes.Novelty.{Novelty}
-use Rattle.xmp_scopes.specs.declared.scopes.Novelty.TheVariants.{First, Repeated}
 pub use Rattle.xmp_scopes.specs.Words.{Name}
 
 -- two names are the same: byte by byte
@@ -40,7 +38,3 @@ module _ {M : Type 0} where
   abbrev pub declare : Name → M → List (List (Name × M)) → List (List (Name × M))
   declare n m [] = ((n, m) ∷ []) ∷ []
   declare n m (scope ∷ outer) = ((n, m) ∷ scope) ∷ outer
-
-  -- a declaration of the name: is it the first in its scope?
-  abbrev pub novelty : Name → List (List (Name × M)) → Novelty
-  novelty n scopes = if is_declared_here n scopes then Repeated else First

@@ -1,7 +1,6 @@
 // What each name means at present.
-ghost use Rattle.std.specs.Prelude.{◌≡◌, ℕ, List, OnOk, OnErr, [], if◌then◌else◌, IsSome};
-ghost use Rattle.xmp_scopes.specs.Names.{is_same};
-ghost use Rattle.xmp_scopes.specs.Log.{visible};
+ghost use Rattle.std.specs.Prelude.{◌≡◌, ◌<◌, IfOk, [], length};
+ghost use Rattle.xmp_scopes.specs.Table.{visible, IsPlace, Grows, put};
 
 use indexmap::IndexMap;
 use std::alloc::Global;
@@ -9,7 +8,7 @@ use std::marker::Model;
 use xmp_base::NoMemory;
 
 // What a name means, and how many scopes were open where it was declared so.
-#[derive(Clone, Copy, Debug, PartialEq, Eq)]
+#[derive(Clone, Copy)]
 pub(crate) struct Held<M> {
     pub(crate) depth: usize,
     pub(crate) meaning: M,
@@ -50,32 +49,28 @@ impl<M: Copy> Current<M> {
         }
     }
 
-    // Gives a name its innermost declaration.
-    pub(crate) fn set(
-        &mut self,
-        alloc: Global,
-        name: &[u8],
-        held: Option<Held<M>>,
-    ) -> Result<(), NoMemory>
-        ensures ok { OnOk result ((n : List ℕ) → visible n self.new ≡ (if is_same n name.now then held else visible n self.old)) }
-        ensures err { OnErr result (self.new ≡ self.old) }
+    // The place of a name, which gets one where it has none. At `Err` nothing changes.
+    pub(crate) fn place(&mut self, alloc: Global, name: &[u8]) -> Result<usize, NoMemory>
+        ensures at { IfOk result (λ at. IsPlace name.now self.new at) }
+        ensures grows { Grows self.old self.new }
     {
+        if let Some(at) = self.table.get_index_of(name) {
+            return Ok(at);
+        }
         let Ok(key) = Vec::from_slice(alloc, name) else {
             return Err(NoMemory);
         };
-        match self.table.insert(key, held) {
-            Ok(_) => Ok(()),
+        match self.table.insert_full(key, None) {
+            Ok((at, _)) => Ok(at),
             Err(_) => Err(NoMemory),
         }
     }
 
-    // The same for a name that has one already, with no allocation.
-    pub(crate) fn restore(&mut self, name: &[u8], held: Option<Held<M>>)
-        requires { IsSome (visible name.now self.old) }
-        ensures { (n : List ℕ) → visible n self.new ≡ (if is_same n name.now then held else visible n self.old) }
+    // Gives the name at a place its innermost declaration.
+    pub(crate) fn put(&mut self, at: usize, held: Option<Held<M>>)
+        requires { at < length self.old }
+        ensures { self.new ≡ put self.old at held }
     {
-        if let Some(at) = self.table.get_index_of(name) {
-            self.table[at] = held;
-        }
+        self.table[at] = held;
     }
 }

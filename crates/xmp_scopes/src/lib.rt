@@ -7,7 +7,5 @@
 
 mod current;
 mod scopes;
-#[cfg(test)]
-mod tests;
 
-pub use scopes::{Novelty, Scopes};
+pub use scopes::Scopes;

@@ -1,25 +1,18 @@
 // The open scopes.
-ghost use Rattle.std.specs.Prelude.{◌≡◌, ◌↔◌, OnOk, OnErr, IfOk, IsNone, [], ◌∷◌, drop, length};
-ghost use Rattle.xmp_scopes.specs.Names.{declare, nearest, depth_of, is_declared_here, novelty, IsUndeclared};
+ghost use Rattle.std.specs.Prelude.{◌≡◌, ◌↔◌, OnOk, OnErr, IsNone, [], ◌∷◌, drop, length};
+ghost use Rattle.xmp_scopes.specs.Names.{declare, nearest, depth_of, is_declared_here, IsUndeclared};
 
 use crate::current::{Current, Held};
 use std::alloc::Global;
 use std::marker::Model;
-use xmp_base::{Bytes, NoMemory};
+use xmp_base::NoMemory;
 
-/// Whether a declaration is the first of its name in its scope.
-#[derive(Clone, Copy, Debug, PartialEq, Eq)]
-pub enum Novelty {
-    First,
-    Repeated,
-}
-
-// A scope was opened; or a name was declared, which until then had the declaration that is now hidden.
+// A scope was opened; or the name at a place of the table was declared, which until then had the declaration that is now hidden.
 #[derive(Drop)]
-pub(crate) enum Step<M> {
+pub(crate) enum Entry<M> {
     Opened,
     Declared {
-        name: Bytes,
+        at: usize,
         meaning: M,
         hidden: Option<Held<M>>,
     },
@@ -30,7 +23,7 @@ pub(crate) enum Step<M> {
 #[derive(Drop)]
 pub struct Scopes<M> {
     current: Current<M>,
-    steps: Vec<Step<M>>,
+    steps: Vec<Entry<M>>,
     depth: usize,
 }
 
@@ -40,9 +33,9 @@ impl<M> Model for Scopes<M> {
 
     ghost Value = { List (List (Name × M)) };
 
-    ghost use Rattle.xmp_scopes.specs.Log.{scopes_of, Agrees};
+    ghost use Rattle.xmp_scopes.specs.Log.{scopes_of, steps_of, Agrees};
 
-    ghost view = { λ s. scopes_of (reverse s.steps.items) };
+    ghost view = { λ s. scopes_of (steps_of s.current (reverse s.steps.items)) };
 
     ghost invariant = { λ s. Agrees s.current s.depth (reverse s.steps.items) };
 }
@@ -103,7 +96,7 @@ impl<M: Copy> Scopes<M> {
         ensures ok { OnOk result (self.new ≡ [] ∷ self.old) }
         ensures err { OnErr result (self.new ≡ self.old) }
     {
-        let Ok(()) = self.steps.push(Step::Opened) else {
+        let Ok(()) = self.steps.push(Entry::Opened) else {
             return Err(NoMemory);
         };
         // No more scopes are open than there are steps, and their number fits.
@@ -114,21 +107,14 @@ impl<M: Copy> Scopes<M> {
 
     /// Declares a name in the innermost scope, which it opens where none is open, or changes nothing. It hides every
     /// other declaration of the name, also one in the same scope. Takes constant time on average.
-    pub fn declare(&mut self, alloc: Global, name: &[u8], meaning: M) -> Result<Novelty, NoMemory>
+    pub fn declare(&mut self, alloc: Global, name: &[u8], meaning: M) -> Result<(), NoMemory>
         ensures ok { OnOk result (self.new ≡ declare name.now meaning self.old) }
-        ensures novelty { IfOk result (λ n. n ≡ novelty name.now self.old) }
         ensures err { OnErr result (self.new ≡ self.old) }
     {
         let hidden = self.current.get(name);
-        let novelty = if self.is_declared_here(name) {
-            Novelty::Repeated
-        } else {
-            Novelty::First
-        };
-        let mut copy = Bytes::new(alloc);
-        copy.push_all(name)?;
-        let step = Step::Declared {
-            name: copy,
+        let at = self.current.place(alloc, name)?;
+        let step = Entry::Declared {
+            at,
             meaning,
             hidden,
         };
@@ -136,16 +122,9 @@ impl<M: Copy> Scopes<M> {
             return Err(NoMemory);
         };
         let depth = self.depth.max(1);
-        match self.current.set(alloc, name, Some(Held { depth, meaning })) {
-            Ok(()) => {
-                self.depth = depth;
-                Ok(novelty)
-            }
-            Err(error) => {
-                self.steps.pop();
-                Err(error)
-            }
-        }
+        self.current.put(at, Some(Held { depth, meaning }));
+        self.depth = depth;
+        Ok(())
     }
 
     /// Closes the innermost scope, or does nothing where none is open. Takes as many steps as the scope has
@@ -155,9 +134,9 @@ impl<M: Copy> Scopes<M> {
     {
         'steps: while let Some(step) = self.steps.pop() {
             match step {
-                Step::Opened => break,
-                Step::Declared { name, hidden, .. } => {
-                    self.current.restore(name.as_slice(), hidden);
+                Entry::Opened => break,
+                Entry::Declared { at, hidden, .. } => {
+                    self.current.put(at, hidden);
                 }
             }
         }

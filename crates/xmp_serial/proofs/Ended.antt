@@ -1,4 +1,4 @@
-use Rattle.std.proofs.Common.{◌≡◌, ℕ, List, Result, Ok, Err, ap, ◌∙◌, sym, subst, length}
+use Rattle.std.proofs.Common.{◌≡◌, ℕ, List, Option, None, Result, Ok, Err, ap, ◌∙◌, sym, subst, length}
 use Rattle.std.specs.Prelude.{IfOk}
 use Rattle.xmp_base.specs.declared.refusal.NoMemory.{NoMemory}
 use Rattle.xmp_prog.specs.declared.parts.ProgParts.{ProgParts}
@@ -7,9 +7,11 @@ use Rattle.xmp_meaning.specs.declared.ends.Halt.{Halt}
 use Rattle.xmp_meaning.specs.declared.ends.Halt.TheVariants as halt
 use Rattle.xmp_meaning.specs.declared.outcome.Outcome.{Outcome}
 use Rattle.xmp_meaning.specs.Runs.{State, Step, Does}
-use Rattle.xmp_meaning.specs.Calls.{call_of, context_with}
-use Rattle.xmp_meaning.specs.Directives.{erased}
+use Rattle.xmp_meaning.specs.Layouts.{Whole}
+use Rattle.xmp_meaning.specs.Calls.{call_of}
+use Rattle.xmp_meaning.specs.Handlers.{erased}
 use Rattle.xmp_meaning.specs.Programs.{beginning, outcome_of, program, serial}
+use Rattle.xmp_serial.specs.Lines.{context_at, layout_of}
 use Rattle.xmp_serial.specs.Outcomes.{IsOutcome}
 
 -- what a run that does a step comes to is what the step comes to
@@ -19,12 +21,14 @@ same_outcome p step (Ok flow) s o d h = h ∙ ap (outcome_of p) (sym d)
 same_outcome p step (Err (halt.End e)) s o d h = h ∙ ap (outcome_of p) (sym d)
 same_outcome p step (Err halt.NoMemory) s o d h = absurd h
 
-pub is_serial : (p : ProgParts) (input : List ℕ) (steps functions : ℕ) (s new : State (Unit {0})) (ended : Result Flow Halt) (r : Result Outcome NoMemory)
-    → functions ≡ length p.functions → s ≡ beginning p steps tt
-    → Does (program erased (context_with p 0 input (call_of p 0 functions)) s) ended new
+pub is_serial : (p q : ProgParts) (packed : Option ℕ) (input : List ℕ) (steps : ℕ) (s new : State (Unit {0})) (ended : Result Flow Halt) (r : Result Outcome NoMemory)
+    → q ≡ p → packed ≡ None → s ≡ beginning (layout_of packed) q steps tt
+    → Does (program erased (context_at q packed 0 input (call_of q 0 (length q.functions))) s) ended new
     → IfOk r (λ o. IsOutcome p ended new o) → IfOk r (λ o. o ≡ serial p input steps)
-is_serial p input steps functions s new ended (Ok o) e b d h =
-    let P : ℕ → Type 0 = λ n. Does (program erased (context_with p 0 input (call_of p 0 n)) s) ended new in
-    let Q : State (Unit {0}) → Type 0 = λ x. Does (program erased (context_with p 0 input (call_of p 0 (length p.functions))) x) ended new in
-    same_outcome p (program erased (context_with p 0 input (call_of p 0 (length p.functions))) (beginning p steps tt)) ended new o (subst Q b (subst P e d)) h
-is_serial p input steps functions s new ended (Err x) e b d h = h
+is_serial p q packed input steps s new ended (Ok o) is none b d h =
+    let P : ProgParts → Type 0 = λ x. Does (program erased (context_at x packed 0 input (call_of x 0 (length x.functions))) s) ended new in
+    let Q : Option ℕ → Type 0 = λ x. Does (program erased (context_at p x 0 input (call_of p 0 (length p.functions))) s) ended new in
+    let R : State (Unit {0}) → Type 0 = λ x. Does (program erased (context_at p None 0 input (call_of p 0 (length p.functions))) x) ended new in
+    let first : s ≡ beginning Whole p steps tt = b ∙ ap (λ (x : ProgParts). beginning (layout_of packed) x steps tt) is ∙ ap (λ (x : Option ℕ). beginning (layout_of x) p steps tt) none in
+    same_outcome p (program erased (context_at p None 0 input (call_of p 0 (length p.functions))) (beginning Whole p steps tt)) ended new o (subst R first (subst Q none (subst P is d))) h
+is_serial p q packed input steps s new ended (Err x) is none b d h = h

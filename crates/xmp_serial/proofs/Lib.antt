@@ -1,15 +1,14 @@
-pub mod FirstTrees
-pub mod FirstSteps
 pub mod Binds
+pub mod Elements
+pub mod Laid
+pub mod Packed
 pub mod Ended
-pub mod Formats
 pub mod Images
 pub mod Inputs
 pub mod Knots
-pub mod Moved
 pub mod Ranges
 pub mod CellNumbers
+pub mod Chunks
 pub mod Steps
 pub mod Stores
 pub mod Whiles
-mod EmptyProgram

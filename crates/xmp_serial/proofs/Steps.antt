@@ -8,7 +8,7 @@ use Rattle.xmp_meaning.specs.declared.ends.Flow.TheVariants.{Next}
 use Rattle.xmp_meaning.specs.declared.ends.Halt.{Halt}
 use Rattle.xmp_meaning.specs.declared.ends.Halt.TheVariants as halt
 use Rattle.xmp_meaning.specs.Runs.{State, Step, Gave, Run, Does}
-use Rattle.xmp_meaning.specs.Loops.{then_run, turns}
+use Rattle.xmp_meaning.specs.Blocks.{then_run, turns}
 use Rattle.xmp_serial.specs.Turns.{Turns}
 
 -- ---- numbers of type int

@@ -2,7 +2,7 @@
 use Rattle.std.specs.Prelude.{◌≡◌, [], ◌∷◌, ◌++◌, ℕ, ℤ, List, Result, Ok, Err}
 use Rattle.xmp_meaning.specs.declared.ends.Halt.{Halt}
 use Rattle.xmp_meaning.specs.declared.ends.Halt.TheVariants as halt
-use Rattle.xmp_meaning.specs.Runs.{State, Step, Gave, Ended, Does}
+use Rattle.xmp_meaning.specs.Runs.{State, StepIn, Step, Gave, Ended, Does}
 use Rattle.xmp_meaning.specs.Expressions.{after_call}
 
 -- the value, or want of memory
@@ -12,7 +12,7 @@ OrNoMemory a (Err (halt.End e)) = ⊥
 OrNoMemory a (Err halt.NoMemory) = Unit {0}
 
 -- as `Does`, where the result stands for the step's value
-abbrev pub DoesAs : {X A B : Type 0} → (B → A) → Step X A → Result B Halt → State X → Type 0
+abbrev pub DoesAs : {S A B : Type 0} → (B → A) → StepIn S A → Result B Halt → S → Type 0
 DoesAs f step (Ok b) new = step ≡ Gave (f b) new
 DoesAs f step (Err (halt.End e)) new = step ≡ Ended e new
 DoesAs f step (Err halt.NoMemory) new = Unit {0}

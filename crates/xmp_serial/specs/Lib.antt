@@ -1,12 +1,8 @@
-pub mod First
-pub mod FirstGrammar
-pub mod FirstMeaning
-pub mod FirstRunning
-pub mod FirstTree
 pub mod Ends
+pub mod LineProps
+pub mod Lines
 pub mod Turns
 pub mod Moves
 pub mod Nests
 pub mod Outcomes
-pub mod Printing
 pub use Rattle.xmp_num.specs.Arithmetic

@@ -2,20 +2,26 @@
 use Rattle.std.specs.Prelude.{◌≡◌, ◌+◌, ◌-◌, ◌*◌, ◌&&◌, ◌||◌, ◌==◌, nat_lt, nat_le, ℕ, ℤ, pos, negsuc, Bool, false, List, [], ◌∷◌, length, map, Option, Some, None, Result, Ok, Err}
 use Rattle.xmp_prog.specs.declared.statements.MoveSide.{MoveSide}
 use Rattle.xmp_prog.specs.declared.statements.Name.{Name}
+use Rattle.xmp_meaning.specs.Handlers.{Aim, erased}
 use Rattle.xmp_meaning.specs.declared.ends.Flow.{Flow}
 use Rattle.xmp_meaning.specs.declared.ends.Halt.{Halt}
 use Rattle.xmp_meaning.specs.declared.ends.Halt.TheVariants as halt
 use Rattle.xmp_meaning.specs.Runs.{State, Gave, Ended, Run, ◌>>=◌, pure}
-use Rattle.xmp_meaning.specs.Assignments.{value_at}
-use Rattle.xmp_meaning.specs.Context.{Context, extents}
-use Rattle.xmp_meaning.specs.Expressions.{each, natural}
-use Rattle.xmp_meaning.specs.Sections.{Chosen, One, Many, all_subscripts, cell_at, cells, cells_from, fit, lengths, lengths_fit, move, name_of, progression, spread, store_all, written}
+use Rattle.xmp_meaning.specs.Context.{Context}
+use Rattle.xmp_meaning.specs.Declarations.{extents}
+use Rattle.xmp_meaning.specs.Expressions.{natural}
+use Rattle.xmp_meaning.specs.Sections.{Chosen, One, Many, aim, all_subscripts, cells, cells_from, fit, lengths, lengths_fit, name_of, progression, read_all, spread, store_all}
+use Rattle.xmp_serial.specs.declared.gmove.Aim as moves
 use Rattle.xmp_serial.specs.declared.sections.Chosen as code
 use Rattle.xmp_serial.specs.declared.sections.Chosen.TheVariants as variant
 
--- what is moved is written
+-- what is meant, then what is read, then what is written
 abbrev pub gmove_of : Context → MoveSide → MoveSide → Run (Unit {0}) Flow
-gmove_of cx target source = move cx target source >>= written cx target
+gmove_of cx target source = aim erased cx target source >>= (λ a. read_all erased source a.sources >>= store_all erased cx target a.targets)
+
+-- what the interpreter's aim stands for
+abbrev pub aim_of : moves.Aim → Aim
+aim_of a = record { targets = a.targets; sources = a.sources }
 
 -- the part of the meaning that a part of the code stands for
 abbrev pub chosen_of : code.Chosen → Chosen
@@ -60,17 +66,10 @@ array_cells cx name cs = do
   xs ← all_subscripts name.at (extents cx.program name.number) cs
   pure (cells_from 0 (extents cx.program name.number) xs)
 
--- the values of the source's cells into the target's
-abbrev pub assign_cells : Context → MoveSide → MoveSide → List ℕ → List ℕ → List ℤ → Run (Unit {0}) Flow
-assign_cells cx target source targets sources sections = do
-  vs ← each (map (λ n. value_at (cell_at source n)) sources) []
-  store_all cx target targets (spread sections (length targets) vs)
-
--- what a gmove does once all numbers are known
-abbrev pub move_cells : Context → MoveSide → MoveSide → List Chosen → List Chosen → Run (Unit {0}) Flow
-move_cells cx target source to from = do
+-- what is meant, once all numbers are known
+abbrev pub aim_at : Context → MoveSide → MoveSide → List Chosen → List Chosen → Run (Unit {0}) Aim
+aim_at cx target source to from = do
   targets ← cells cx target to
   sources ← cells cx source from
   _ ← lengths_fit (fit (lengths to) (lengths from)) (name_of target).at
-  vs ← each (map (λ n. value_at (cell_at source n)) sources) []
-  store_all cx target targets (spread (lengths from) (length targets) vs)
+  pure (record { targets = targets; sources = spread (lengths from) (length targets) sources })

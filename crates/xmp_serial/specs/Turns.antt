@@ -8,8 +8,8 @@ use Rattle.xmp_meaning.specs.declared.ends.Halt.{Halt}
 use Rattle.xmp_meaning.specs.declared.ends.Halt.TheVariants as halt
 use Rattle.xmp_meaning.specs.Runs.{State, Step, Gave, Ended, Run}
 use Rattle.xmp_meaning.specs.Context.{Context}
-use Rattle.xmp_meaning.specs.Directives.{TaskRun, erased}
-use Rattle.xmp_meaning.specs.Loops.{turns}
+use Rattle.xmp_meaning.specs.Handlers.{TaskRun, erased}
+use Rattle.xmp_meaning.specs.Blocks.{turns}
 use Rattle.xmp_meaning.specs.Statements.{stmt_of, stmt_step, task_step}
 
 -- One turn of a loop, whichever number of turns may follow it: another one follows, or the loop is over.

@@ -1,13 +1,14 @@
 // Assignments, declarations and inputs.
-ghost use Rattle.std.specs.Prelude.{◌≡◌};
+ghost use Rattle.std.specs.Prelude.{◌≡◌, Some};
 ghost use Rattle.xmp_num.specs.Decimal.{scan_of};
+ghost use Rattle.xmp_meaning.specs.Handlers.{erased};
 ghost use Rattle.xmp_meaning.specs.Runs.{Does, Gave};
-ghost use Rattle.xmp_meaning.specs.Calls.{context_with};
+ghost use Rattle.xmp_serial.specs.Lines.{context_at};
 ghost use Rattle.xmp_meaning.specs.Assignments.{assign, at_target, declare, initialise, location_type, new_value, scan, store, store_read, value_at};
 
 use crate::callee::Callee;
 use crate::declared::{array_type, scalar_type};
-use crate::eval::Frame;
+use crate::frame::Frame;
 use crate::state::State;
 use xmp_meaning::{End, Flow, Halt, Location};
 use xmp_num::{Ty, binary, convert};
@@ -16,7 +17,7 @@ use xmp_prog::{Compound, Expr, Target};
 impl<C: Callee> Frame<'_, C> {
     /// Writes a value, converted to the location's type.
     pub fn store(&self, to: Location, value: i64, state: &mut State)
-        ensures { store (context_with self.now.program.now self.now.node self.now.input.now (C.calls self.now.callee.now)) to value state.old ≡ Gave tt state.new }
+        ensures { store erased (context_at self.now.program.now self.now.packed self.now.node self.now.input.now (C.calls self.now.callee.now)) to value state.old ≡ Gave tt state.new }
     {
         match to {
             Location::Scalar(slot) => {
@@ -28,28 +29,44 @@ impl<C: Callee> Frame<'_, C> {
         }
     }
 
-    /// The right side of an assignment, for a compound form joined with the old value.
+    /// The right side of an assignment; a compound form reads the old value first, and joins the two.
+    #[inline(always)]
     fn new_value(
         &self,
-        old: i64,
+        location: Location,
         compound: &Option<Compound>,
         e: &Expr,
         state: &mut State,
     ) -> Result<i64, Halt>
         requires { C.ready self.now.callee.now }
-        ensures { Does (new_value (context_with self.now.program.now self.now.node self.now.input.now (C.calls self.now.callee.now)) old compound.now e.now state.old) result state.new }
+        ensures { Does (new_value erased (context_at self.now.program.now self.now.packed self.now.node self.now.input.now (C.calls self.now.callee.now)) location compound.now e.now state.old) result state.new }
     {
-        let value = self.eval(e, state)?;
         match compound {
-            None => Ok(value),
-            Some(c) => match binary(c.op, c.ty, old, value) {
-                Ok(value) => Ok(value),
-                Err(kind) => Err(Halt::End(End::Trapped(kind, c.at))),
-            },
+            None => self.eval(e, state),
+            Some(c) => self.joined(location, c, e, state),
         }
     }
 
-    /// An assignment to a location: the old value, and then the right side.
+    /// The old value, and then the right side, joined.
+    fn joined(
+        &self,
+        location: Location,
+        c: &Compound,
+        e: &Expr,
+        state: &mut State,
+    ) -> Result<i64, Halt>
+        requires { C.ready self.now.callee.now }
+        ensures { Does (new_value erased (context_at self.now.program.now self.now.packed self.now.node self.now.input.now (C.calls self.now.callee.now)) location (Some c.now) e.now state.old) result state.new }
+    {
+        let old = value_at(state, location);
+        let value = self.eval(e, state)?;
+        match binary(c.op, c.ty, old, value) {
+            Ok(value) => Ok(value),
+            Err(kind) => Err(Halt::End(End::Trapped(kind, c.at))),
+        }
+    }
+
+    /// An assignment to a location.
     #[inline(always)]
     fn assign_at(
         &self,
@@ -59,15 +76,14 @@ impl<C: Callee> Frame<'_, C> {
         state: &mut State,
     ) -> Result<Flow, Halt>
         requires { C.ready self.now.callee.now }
-        ensures { Does (assign (context_with self.now.program.now self.now.node self.now.input.now (C.calls self.now.callee.now)) compound.now e.now location state.old) result state.new }
+        ensures { Does (assign erased (context_at self.now.program.now self.now.packed self.now.node self.now.input.now (C.calls self.now.callee.now)) compound.now e.now location state.old) result state.new }
     {
-        let old = value_at(state, location);
-        let value = self.new_value(old, compound, e, state)?;
+        let value = self.new_value(location, compound, e, state)?;
         self.store(location, value, state);
         Ok(Flow::Next)
     }
 
-    /// An assignment: the target's subscripts, the old value, and then the right side.
+    /// An assignment: the target's subscripts, and then the rest.
     pub fn assign(
         &self,
         to: &Target,
@@ -76,7 +92,7 @@ impl<C: Callee> Frame<'_, C> {
         state: &mut State,
     ) -> Result<Flow, Halt>
         requires { C.ready self.now.callee.now }
-        ensures { Does (at_target (context_with self.now.program.now self.now.node self.now.input.now (C.calls self.now.callee.now)) to.now (assign (context_with self.now.program.now self.now.node self.now.input.now (C.calls self.now.callee.now)) compound.now e.now) state.old) result state.new }
+        ensures { Does (at_target erased (context_at self.now.program.now self.now.packed self.now.node self.now.input.now (C.calls self.now.callee.now)) to.now (assign erased (context_at self.now.program.now self.now.packed self.now.node self.now.input.now (C.calls self.now.callee.now)) compound.now e.now) state.old) result state.new }
     {
         match to {
             Target::Scalar(slot, _) => self.assign_at(Location::Scalar(*slot), compound, e, state),
@@ -89,7 +105,7 @@ impl<C: Callee> Frame<'_, C> {
 
     fn initialise(&self, slot: u32, value: &Option<Expr>, state: &mut State) -> Result<Flow, Halt>
         requires { C.ready self.now.callee.now }
-        ensures { Does (initialise (context_with self.now.program.now self.now.node self.now.input.now (C.calls self.now.callee.now)) slot value.now state.old) result state.new }
+        ensures { Does (initialise erased (context_at self.now.program.now self.now.packed self.now.node self.now.input.now (C.calls self.now.callee.now)) slot value.now state.old) result state.new }
     {
         match value {
             None => Ok(Flow::Next),
@@ -104,7 +120,7 @@ impl<C: Callee> Frame<'_, C> {
     /// A declaration, which sets its variable to 0 each time, and then to its initialiser.
     pub fn declare(&self, slot: u32, value: &Option<Expr>, state: &mut State) -> Result<Flow, Halt>
         requires { C.ready self.now.callee.now }
-        ensures { Does (declare (context_with self.now.program.now self.now.node self.now.input.now (C.calls self.now.callee.now)) slot value.now state.old) result state.new }
+        ensures { Does (declare erased (context_at self.now.program.now self.now.packed self.now.node self.now.input.now (C.calls self.now.callee.now)) slot value.now state.old) result state.new }
     {
         state.set_scalar(slot, 0);
         self.initialise(slot, value, state)
@@ -120,7 +136,7 @@ impl<C: Callee> Frame<'_, C> {
     }
 
     fn store_read(&self, to: Location, value: Option<i64>, state: &mut State)
-        ensures { store_read (context_with self.now.program.now self.now.node self.now.input.now (C.calls self.now.callee.now)) to value state.old ≡ Gave Flow.Next state.new }
+        ensures { store_read erased (context_at self.now.program.now self.now.packed self.now.node self.now.input.now (C.calls self.now.callee.now)) to value state.old ≡ Gave Flow.Next state.new }
     {
         if let Some(value) = value {
             self.store(to, value, state);
@@ -129,7 +145,7 @@ impl<C: Callee> Frame<'_, C> {
 
     /// Reads one number of the input into a location.
     fn scan_into(&self, location: Location, state: &mut State)
-        ensures { scan (context_with self.now.program.now self.now.node self.now.input.now (C.calls self.now.callee.now)) location state.old ≡ Gave Flow.Next state.new }
+        ensures { scan erased (context_at self.now.program.now self.now.packed self.now.node self.now.input.now (C.calls self.now.callee.now)) location state.old ≡ Gave Flow.Next state.new }
     {
         let (value, taken) = scan_at(self.input, state.taken(), self.location_type(location));
         state.set_taken(taken);
@@ -139,7 +155,7 @@ impl<C: Callee> Frame<'_, C> {
     /// Reads one number of the input into a target, whose subscripts come first.
     pub fn scan(&self, to: &Target, state: &mut State) -> Result<Flow, Halt>
         requires { C.ready self.now.callee.now }
-        ensures { Does (at_target (context_with self.now.program.now self.now.node self.now.input.now (C.calls self.now.callee.now)) to.now (scan (context_with self.now.program.now self.now.node self.now.input.now (C.calls self.now.callee.now))) state.old) result state.new }
+        ensures { Does (at_target erased (context_at self.now.program.now self.now.packed self.now.node self.now.input.now (C.calls self.now.callee.now)) to.now (scan erased (context_at self.now.program.now self.now.packed self.now.node self.now.input.now (C.calls self.now.callee.now))) state.old) result state.new }
     {
         match to {
             Target::Scalar(slot, _) => {
@@ -157,7 +173,7 @@ impl<C: Callee> Frame<'_, C> {
 
 /// The value at a location.
 pub fn value_at(state: &State, location: Location) -> i64
-    ensures { value_at location state.now ≡ Gave result state.now }
+    ensures { value_at erased location state.now ≡ Gave result state.now }
 {
     match location {
         Location::Scalar(slot) => state.scalar(slot),

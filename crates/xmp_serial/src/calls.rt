@@ -1,11 +1,13 @@
 // Calls of functions.
 ghost use Rattle.std.specs.Prelude.{◌≡◌, IfOk};
 ghost use Rattle.xmp_meaning.specs.Runs.{Does, Gave};
-ghost use Rattle.xmp_meaning.specs.Calls.{bind, call_of, context_with, frame, invoke, returned};
+ghost use Rattle.xmp_meaning.specs.Calls.{bind, call_of, frame, invoke, returned};
+ghost use Rattle.xmp_serial.specs.Lines.{context_at};
 ghost use Rattle.xmp_serial.specs.Ends.{Tells};
 
 use crate::callee::Callee;
-use crate::eval::Frame;
+use crate::frame::Frame;
+use crate::layout::Layout;
 use crate::lists::split;
 use crate::rows::{Rows, zeros};
 use crate::state::State;
@@ -17,19 +19,20 @@ use xmp_prog::{Function, ProgParts};
 
 /// The calls of the first `depth` functions at a node, by a function value.
 #[derive(Clone, Copy)]
-pub struct ByFunction<'a, F> {
-    pub program: &'a ProgParts,
+pub struct ByFunction<'a, 'p, F> {
+    pub layout: &'a Layout<'p>,
     pub node: u32,
     pub depth: usize,
     pub call: F,
 }
 
-impl<F: Fn(Global, usize, &ProgParts, u32, u32, &[i64], &mut u64) -> Result<i64, Halt>> Callee
-    for ByFunction<'_, F> {
+impl<F: Fn(Global, usize, &Layout, u32, u32, &[i64], &mut u64) -> Result<i64, Halt>> Callee
+    for ByFunction<'_, '_, F> {
     ghost use Rattle.xmp_meaning.specs.Calls.{call_of};
+    ghost use Rattle.xmp_serial.specs.Lines.{context_at};
     ghost use Rattle.xmp_serial.specs.Nests.{Nests};
 
-    ghost calls = { λ c. call_of c.program.now c.node c.depth };
+    ghost calls = { λ c. call_of c.layout.now.program.now c.node c.depth };
 
     ghost ready = { λ c. Nests c.depth (F.pre c.call) (F.post c.call) };
 
@@ -43,7 +46,7 @@ impl<F: Fn(Global, usize, &ProgParts, u32, u32, &[i64], &mut u64) -> Result<i64,
         (self.call)(
             alloc,
             self.depth,
-            self.program,
+            self.layout,
             self.node,
             function,
             arguments,
@@ -71,7 +74,7 @@ impl<C: Callee> Frame<'_, C> {
     /// A function's statement, and its value converted to the function's type.
     fn invoke(&self, f: &Function, arguments: &[i64], state: &mut State) -> Result<i64, Halt>
         requires { C.ready self.now.callee.now }
-        ensures { Does (invoke (context_with self.now.program.now self.now.node self.now.input.now (C.calls self.now.callee.now)) f.now arguments.now state.old) result state.new }
+        ensures { Does (invoke (context_at self.now.program.now self.now.packed self.now.node self.now.input.now (C.calls self.now.callee.now)) f.now arguments.now state.old) result state.new }
     {
         self.bind(f.parameters.as_slice(), arguments, state);
         let flow = self.exec(&f.body, state)?;
@@ -81,7 +84,7 @@ impl<C: Callee> Frame<'_, C> {
     /// A function in a state of its own, where every scalar begins at 0.
     fn invoke_anew(&self, f: &Function, arguments: &[i64], steps: &mut u64) -> Result<i64, Halt>
         requires { C.ready self.now.callee.now }
-        ensures { Tells (invoke (context_with self.now.program.now self.now.node self.now.input.now (C.calls self.now.callee.now)) f.now arguments.now (frame self.now.program.now steps.old)) result steps.new }
+        ensures { Tells (invoke (context_at self.now.program.now self.now.packed self.now.node self.now.input.now (C.calls self.now.callee.now)) f.now arguments.now (frame self.now.program.now steps.old)) result steps.new }
     {
         let mut state = match new_frame(self.alloc, self.program, *steps) {
             Ok(state) => state,
@@ -115,31 +118,33 @@ fn new_frame(alloc: Global, program: &ProgParts, steps: u64) -> Result<State, No
 pub fn call_to(
     alloc: Global,
     depth: usize,
-    program: &ProgParts,
+    layout: &Layout,
     node: u32,
     function: u32,
     arguments: &[i64],
     steps: &mut u64,
 ) -> Result<i64, Halt>
-    ensures { Tells (call_of program.now node depth function arguments.now steps.old) result steps.new }
+    ensures { Tells (call_of layout.now.program.now node depth function arguments.now steps.old) result steps.new }
 {
     let number = function as usize;
     if number >= depth {
         return Ok(0);
     }
-    let f = match program.functions.get(number) {
+    let f = match layout.program.functions.get(number) {
         Some(f) => f,
         None => return Ok(0),
     };
     let callee = ByFunction {
-        program,
+        layout,
         node,
         depth: number,
         call: call_to,
     };
     let frame = Frame {
         alloc,
-        program,
+        program: &*layout.program,
+        packed: None,
+        lines: layout.whole.as_slice(),
         node,
         input: &[],
         callee: &callee,

@@ -3,14 +3,16 @@ ghost use Rattle.std.specs.Prelude.{◌≡◌, ◌+ℤ◌, pos, map, FitsSigned}
 ghost use Rattle.std.specs.Int.{w32};
 ghost use Rattle.xmp_num.specs.Arithmetic.{wrap};
 ghost use Rattle.xmp_meaning.specs.Runs.{Does, Gave};
-ghost use Rattle.xmp_meaning.specs.Calls.{context_with};
-ghost use Rattle.xmp_meaning.specs.Directives.{task_run};
-ghost use Rattle.xmp_meaning.specs.Expressions.{expr_of};
-ghost use Rattle.xmp_meaning.specs.Loops.{block, counted, holds, inside, is_inside, nest, step_up, then_run, turn, turn_count, turns, while_loop};
+ghost use Rattle.xmp_serial.specs.Lines.{context_at};
+ghost use Rattle.xmp_meaning.specs.Handlers.{erased, task_run};
+ghost use Rattle.xmp_meaning.specs.Expressions.{expr_of, holds};
+ghost use Rattle.xmp_meaning.specs.Loops.{counted, entering, inside, is_inside, nest, step_up, turn, turn_count, while_loop};
+ghost use Rattle.xmp_meaning.specs.Blocks.{block, then_run, turns};
 ghost use Rattle.xmp_serial.specs.Turns.{Turns, gap, run_of, task_of};
 
 use crate::callee::Callee;
-use crate::eval::{Frame, natural};
+use crate::eval::natural;
+use crate::frame::Frame;
 use crate::lists::split;
 use crate::state::State;
 use xmp_meaning::{Flow, Halt};
@@ -22,7 +24,7 @@ impl<C: Callee> Frame<'_, C> {
     #[cycle(exec)]
     pub fn exec(&self, s: &Stmt, state: &mut State) -> Result<Flow, Halt>
         requires { C.ready self.now.callee.now }
-        ensures { Does (run_of (context_with self.now.program.now self.now.node self.now.input.now (C.calls self.now.callee.now)) s.now state.old) result state.new }
+        ensures { Does (run_of (context_at self.now.program.now self.now.packed self.now.node self.now.input.now (C.calls self.now.callee.now)) s.now state.old) result state.new }
     {
         match s {
             Stmt::Plain(plain) => self.exec_plain(plain, state),
@@ -47,7 +49,7 @@ impl<C: Callee> Frame<'_, C> {
     #[cycle(exec)]
     fn exec_all(&self, all: &[Stmt], state: &mut State) -> Result<Flow, Halt>
         requires { C.ready self.now.callee.now }
-        ensures { Does (block (map (run_of (context_with self.now.program.now self.now.node self.now.input.now (C.calls self.now.callee.now))) all.now) state.old) result state.new }
+        ensures { Does (block (map (run_of (context_at self.now.program.now self.now.packed self.now.node self.now.input.now (C.calls self.now.callee.now))) all.now) state.old) result state.new }
     {
         'all: for s in all {
             match self.exec(s, state)? {
@@ -62,7 +64,7 @@ impl<C: Callee> Frame<'_, C> {
     #[cycle(exec)]
     fn exec_tasks(&self, all: &[Task], state: &mut State) -> Result<Flow, Halt>
         requires { C.ready self.now.callee.now }
-        ensures { Does (block (map task_run (map (task_of (context_with self.now.program.now self.now.node self.now.input.now (C.calls self.now.callee.now))) all.now)) state.old) result state.new }
+        ensures { Does (block (map task_run (map (task_of (context_at self.now.program.now self.now.packed self.now.node self.now.input.now (C.calls self.now.callee.now))) all.now)) state.old) result state.new }
     {
         'tasks: for task in all {
             match self.exec(&task.body, state)? {
@@ -77,7 +79,7 @@ impl<C: Callee> Frame<'_, C> {
     #[cycle(exec)]
     fn exec_while(&self, body: &Stmt, test: &Expr, state: &mut State) -> Result<Flow, Halt>
         requires { C.ready self.now.callee.now }
-        ensures { Does (while_loop (holds (expr_of (context_with self.now.program.now self.now.node self.now.input.now (C.calls self.now.callee.now)) test.now)) (run_of (context_with self.now.program.now self.now.node self.now.input.now (C.calls self.now.callee.now)) body.now) state.old) result state.new }
+        ensures { Does (while_loop (holds (expr_of erased (context_at self.now.program.now self.now.packed self.now.node self.now.input.now (C.calls self.now.callee.now)) test.now)) (run_of (context_at self.now.program.now self.now.packed self.now.node self.now.input.now (C.calls self.now.callee.now)) body.now) state.old) result state.new }
     {
         let most = state.steps();
         'turns: for _turn in 0..most {
@@ -98,7 +100,7 @@ impl<C: Callee> Frame<'_, C> {
     #[cycle(exec)]
     fn while_turn(&self, body: &Stmt, test: &Expr, state: &mut State) -> Result<Option<Flow>, Halt>
         requires { C.ready self.now.callee.now }
-        ensures { Turns (holds (expr_of (context_with self.now.program.now self.now.node self.now.input.now (C.calls self.now.callee.now)) test.now)) (turn (run_of (context_with self.now.program.now self.now.node self.now.input.now (C.calls self.now.callee.now)) body.now)) state.old result state.new }
+        ensures { Turns (holds (expr_of erased (context_at self.now.program.now self.now.packed self.now.node self.now.input.now (C.calls self.now.callee.now)) test.now)) (turn (run_of (context_at self.now.program.now self.now.packed self.now.node self.now.input.now (C.calls self.now.callee.now)) body.now)) state.old result state.new }
     {
         let value = self.eval(test, state)?;
         if value == 0 {
@@ -115,7 +117,7 @@ impl<C: Callee> Frame<'_, C> {
     #[cycle(exec)]
     fn exec_nest(&self, body: &Stmt, heads: &[LoopHead], state: &mut State) -> Result<Flow, Halt>
         requires { C.ready self.now.callee.now }
-        ensures { Does (nest (context_with self.now.program.now self.now.node self.now.input.now (C.calls self.now.callee.now)) heads.now (run_of (context_with self.now.program.now self.now.node self.now.input.now (C.calls self.now.callee.now)) body.now) state.old) result state.new }
+        ensures { Does (nest erased (context_at self.now.program.now self.now.packed self.now.node self.now.input.now (C.calls self.now.callee.now)) heads.now (run_of (context_at self.now.program.now self.now.packed self.now.node self.now.input.now (C.calls self.now.callee.now)) body.now) state.old) result state.new }
     {
         match split(heads) {
             Some((head, inner)) => self.exec_counted(body, head, inner, state),
@@ -133,13 +135,21 @@ impl<C: Callee> Frame<'_, C> {
         state: &mut State,
     ) -> Result<Flow, Halt>
         requires { C.ready self.now.callee.now }
-        ensures { Does (counted (context_with self.now.program.now self.now.node self.now.input.now (C.calls self.now.callee.now)) head.now (nest (context_with self.now.program.now self.now.node self.now.input.now (C.calls self.now.callee.now)) inner.now (run_of (context_with self.now.program.now self.now.node self.now.input.now (C.calls self.now.callee.now)) body.now)) state.old) result state.new }
+        ensures { Does (counted erased (context_at self.now.program.now self.now.packed self.now.node self.now.input.now (C.calls self.now.callee.now)) head.now (nest erased (context_at self.now.program.now self.now.packed self.now.node self.now.input.now (C.calls self.now.callee.now)) inner.now (run_of (context_at self.now.program.now self.now.packed self.now.node self.now.input.now (C.calls self.now.callee.now)) body.now)) state.old) result state.new }
+    {
+        let most = self.entering(head, state)?;
+        self.count_up(body, head, inner, most, state)
+    }
+
+    /// The entry of a counted loop: the index gets its first value, and then the bound is evaluated; it gives how many turns there are at most.
+    pub fn entering(&self, head: &LoopHead, state: &mut State) -> Result<u64, Halt>
+        requires { C.ready self.now.callee.now }
+        ensures { Does (entering erased (context_at self.now.program.now self.now.packed self.now.node self.now.input.now (C.calls self.now.callee.now)) head.now state.old) result state.new }
     {
         let from = to_int(self.eval(&head.from, state)?);
         state.set_scalar(head.index.number, from);
         let to = to_int(self.eval(&head.to, state)?);
-        let most = turn_count(from, to, head.inclusive, head.step);
-        self.count_up(body, head, inner, most, state)
+        Ok(turn_count(from, to, head.inclusive, head.step))
     }
 
     /// At most so many turns of a counted loop.
@@ -153,7 +163,7 @@ impl<C: Callee> Frame<'_, C> {
         state: &mut State,
     ) -> Result<Flow, Halt>
         requires { C.ready self.now.callee.now }
-        ensures { Does (turns most (inside (context_with self.now.program.now self.now.node self.now.input.now (C.calls self.now.callee.now)) head.now) (then_run (nest (context_with self.now.program.now self.now.node self.now.input.now (C.calls self.now.callee.now)) inner.now (run_of (context_with self.now.program.now self.now.node self.now.input.now (C.calls self.now.callee.now)) body.now)) (step_up head.now)) state.old) result state.new }
+        ensures { Does (turns most (inside erased (context_at self.now.program.now self.now.packed self.now.node self.now.input.now (C.calls self.now.callee.now)) head.now) (then_run (nest erased (context_at self.now.program.now self.now.packed self.now.node self.now.input.now (C.calls self.now.callee.now)) inner.now (run_of (context_at self.now.program.now self.now.packed self.now.node self.now.input.now (C.calls self.now.callee.now)) body.now)) (step_up head.now)) state.old) result state.new }
     {
         'turns: for _turn in 0..most {
             match self.counted_turn(body, head, inner, state) {
@@ -175,7 +185,7 @@ impl<C: Callee> Frame<'_, C> {
         state: &mut State,
     ) -> Result<Option<Flow>, Halt>
         requires { C.ready self.now.callee.now }
-        ensures { Turns (inside (context_with self.now.program.now self.now.node self.now.input.now (C.calls self.now.callee.now)) head.now) (then_run (nest (context_with self.now.program.now self.now.node self.now.input.now (C.calls self.now.callee.now)) inner.now (run_of (context_with self.now.program.now self.now.node self.now.input.now (C.calls self.now.callee.now)) body.now)) (step_up head.now)) state.old result state.new }
+        ensures { Turns (inside erased (context_at self.now.program.now self.now.packed self.now.node self.now.input.now (C.calls self.now.callee.now)) head.now) (then_run (nest erased (context_at self.now.program.now self.now.packed self.now.node self.now.input.now (C.calls self.now.callee.now)) inner.now (run_of (context_at self.now.program.now self.now.packed self.now.node self.now.input.now (C.calls self.now.callee.now)) body.now)) (step_up head.now)) state.old result state.new }
     {
         if !self.inside(head, state)? {
             return Ok(Some(Flow::Next));
@@ -190,9 +200,9 @@ impl<C: Callee> Frame<'_, C> {
     }
 
     /// Whether the index is inside the bound, which is evaluated anew.
-    fn inside(&self, head: &LoopHead, state: &mut State) -> Result<bool, Halt>
+    pub fn inside(&self, head: &LoopHead, state: &mut State) -> Result<bool, Halt>
         requires { C.ready self.now.callee.now }
-        ensures { Does (inside (context_with self.now.program.now self.now.node self.now.input.now (C.calls self.now.callee.now)) head.now state.old) result state.new }
+        ensures { Does (inside erased (context_at self.now.program.now self.now.packed self.now.node self.now.input.now (C.calls self.now.callee.now)) head.now state.old) result state.new }
     {
         let i = state.scalar(head.index.number);
         let to = to_int(self.eval(&head.to, state)?);
@@ -208,7 +218,7 @@ fn is_inside(inclusive: bool, i: i64, to: i64) -> bool
 }
 
 /// The index goes up.
-fn step_up(head: &LoopHead, state: &mut State)
+pub fn step_up(head: &LoopHead, state: &mut State)
     ensures { step_up head.now state.old ≡ Gave Flow.Next state.new }
 {
     let i = state.scalar(head.index.number);

@@ -1,25 +1,33 @@
 // Assignments of sections under `gmove`.
-ghost use Rattle.std.specs.Prelude.{◌≡◌, ◌∷◌, [], map, length, replicate};
-ghost use Rattle.xmp_meaning.specs.Runs.{Does, Gave};
-ghost use Rattle.xmp_meaning.specs.Assignments.{value_at};
-ghost use Rattle.xmp_meaning.specs.Calls.{context_with};
+ghost use Rattle.std.specs.Prelude.{◌≡◌, ◌∷◌, [], map, replicate};
+ghost use Rattle.xmp_meaning.specs.Handlers.{erased};
+ghost use Rattle.xmp_meaning.specs.Runs.{Does};
+ghost use Rattle.xmp_serial.specs.Lines.{context_at};
 ghost use Rattle.xmp_meaning.specs.Expressions.{each};
-ghost use Rattle.xmp_meaning.specs.Sections.{cell_at, cells, chosen, fit, lengths, lengths_fit, name_of, numbers, spread, store_all};
+ghost use Rattle.xmp_meaning.specs.Sections.{aim, cell_at, cells, chosen, fit, lengths, lengths_fit, name_of, numbers, read_all, spread, store_all};
 ghost use Rattle.xmp_serial.specs.Ends.{DoesAs, OrNoMemory};
-ghost use Rattle.xmp_serial.specs.Moves.{array_cells, assign_cells, chosen_of, gmove_of, move_cells};
+ghost use Rattle.xmp_serial.specs.Moves.{aim_at, aim_of, array_cells, chosen_of, gmove_of};
 
 use crate::assign::value_at;
 use crate::callee::Callee;
 use crate::declared::extents;
-use crate::eval::Frame;
+use crate::frame::Frame;
 use crate::lists::{push, split};
 use crate::sections::{Chosen, check_all, fit, lengths, push_cells};
 use crate::state::State;
 use sqlite_items::Items;
+use std::alloc::Global;
 use xmp_base::NoMemory;
 use xmp_meaning::{End, Flow, Halt, Location};
 use xmp_num::TrapKind;
 use xmp_prog::{MoveSide, Name, Part};
+
+/// What a gmove moves: the cells of the target by their row-major numbers, and a cell of the source for each.
+#[derive(Drop)]
+pub struct Aim {
+    pub targets: Items<usize>,
+    pub sources: Items<usize>,
+}
 
 impl<C: Callee> Frame<'_, C> {
     /// The assignment under a gmove, which reads its whole right side before it writes.
@@ -30,59 +38,64 @@ impl<C: Callee> Frame<'_, C> {
         state: &mut State,
     ) -> Result<Flow, Halt>
         requires { C.ready self.now.callee.now }
-        ensures { Does (gmove_of (context_with self.now.program.now self.now.node self.now.input.now (C.calls self.now.callee.now)) target.now source.now state.old) result state.new }
+        ensures { Does (gmove_of (context_at self.now.program.now self.now.packed self.now.node self.now.input.now (C.calls self.now.callee.now)) target.now source.now state.old) result state.new }
+    {
+        let aim = self.aim(target, source, state)?;
+        let values = self.read_all(source, aim.sources.as_slice(), state)?;
+        self.store_all(target, aim.targets.as_slice(), values.as_slice(), state)
+    }
+
+    /// What is meant: all numbers, all checks, and a source for each target.
+    fn aim(&self, target: &MoveSide, source: &MoveSide, state: &mut State) -> Result<Aim, Halt>
+        requires { C.ready self.now.callee.now }
+        ensures { DoesAs aim_of (aim erased (context_at self.now.program.now self.now.packed self.now.node self.now.input.now (C.calls self.now.callee.now)) target.now source.now state.old) result state.new }
     {
         let to = self.numbers(target, state)?;
         let from = self.numbers(source, state)?;
-        self.move_cells(target, source, to.as_slice(), from.as_slice(), state)
+        self.aim_at(target, source, to.as_slice(), from.as_slice(), state)
     }
 
-    /// The rest of it, once all numbers are known.
-    fn move_cells(
+    /// The same once all numbers are known: the target's dimensions are checked, the source's, and then the lengths.
+    fn aim_at(
         &self,
         target: &MoveSide,
         source: &MoveSide,
         to: &[Chosen],
         from: &[Chosen],
-        state: &mut State,
-    ) -> Result<Flow, Halt>
-        ensures { Does (move_cells (context_with self.now.program.now self.now.node self.now.input.now (C.calls self.now.callee.now)) target.now source.now (map chosen_of to.now) (map chosen_of from.now) state.old) result state.new }
+        state: &State,
+    ) -> Result<Aim, Halt>
+        ensures { DoesAs aim_of (aim_at (context_at self.now.program.now self.now.packed self.now.node self.now.input.now (C.calls self.now.callee.now)) target.now source.now (map chosen_of to.now) (map chosen_of from.now) state.now) result state.now }
     {
         let targets = self.cells(target, to, state)?;
         let sources = self.cells(source, from, state)?;
         let sections = self.lengths(from)?;
         self.check_lengths(target, to, sections.as_slice(), state)?;
-        self.assign_cells(
-            target,
-            source,
-            targets.as_slice(),
-            sources.as_slice(),
-            sections.as_slice(),
-            state,
-        )
+        let sources = self.spread(sections.as_slice(), targets.len(), sources)?;
+        Ok(Aim { targets, sources })
     }
 
-    /// Reads the source's cells, and then writes the target's.
-    fn assign_cells(
+    /// One cell for each target: the source's, or its one for all where it has no section.
+    fn spread(
         &self,
-        target: &MoveSide,
-        source: &MoveSide,
-        targets: &[usize],
-        sources: &[usize],
         sections: &[i64],
-        state: &mut State,
-    ) -> Result<Flow, Halt>
-        ensures { Does (assign_cells (context_with self.now.program.now self.now.node self.now.input.now (C.calls self.now.callee.now)) target.now source.now targets.now sources.now sections.now state.old) result state.new }
+        count: usize,
+        cells: Items<usize>,
+    ) -> Result<Items<usize>, Halt>
+        ensures { OrNoMemory (spread sections.now count cells) result }
     {
-        let values = self.read_all(source, sources, state)?;
-        self.write(target, sections, targets, values.as_slice(), state);
-        Ok(Flow::Next)
+        match split(sections) {
+            Some(_) => Ok(cells),
+            None => match split(cells.as_slice()) {
+                Some((n, _)) => repeated(self.alloc, count, *n),
+                None => Ok(Items::new(self.alloc)),
+            },
+        }
     }
 
     /// The numbers of a dimension, from left to right.
     fn chosen(&self, part: &Part, state: &mut State) -> Result<Chosen, Halt>
         requires { C.ready self.now.callee.now }
-        ensures { DoesAs chosen_of (chosen (context_with self.now.program.now self.now.node self.now.input.now (C.calls self.now.callee.now)) part.now state.old) result state.new }
+        ensures { DoesAs chosen_of (chosen erased (context_at self.now.program.now self.now.packed self.now.node self.now.input.now (C.calls self.now.callee.now)) part.now state.old) result state.new }
     {
         match part {
             Part::One(n) => {
@@ -99,9 +112,9 @@ impl<C: Callee> Frame<'_, C> {
     }
 
     /// The numbers of all dimensions of a side; a scalar has none.
-    fn numbers(&self, side: &MoveSide, state: &mut State) -> Result<Items<Chosen>, Halt>
+    pub fn numbers(&self, side: &MoveSide, state: &mut State) -> Result<Items<Chosen>, Halt>
         requires { C.ready self.now.callee.now }
-        ensures { DoesAs (map chosen_of) (numbers (context_with self.now.program.now self.now.node self.now.input.now (C.calls self.now.callee.now)) side.now state.old) result state.new }
+        ensures { DoesAs (map chosen_of) (numbers erased (context_at self.now.program.now self.now.packed self.now.node self.now.input.now (C.calls self.now.callee.now)) side.now state.old) result state.new }
     {
         match side {
             MoveSide::Scalar(_) => Ok(Items::new(self.alloc)),
@@ -111,7 +124,7 @@ impl<C: Callee> Frame<'_, C> {
 
     fn all_chosen(&self, parts: &[Part], state: &mut State) -> Result<Items<Chosen>, Halt>
         requires { C.ready self.now.callee.now }
-        ensures { DoesAs (map chosen_of) (each (map (chosen (context_with self.now.program.now self.now.node self.now.input.now (C.calls self.now.callee.now))) parts.now) [] state.old) result state.new }
+        ensures { DoesAs (map chosen_of) (each (map (chosen erased (context_at self.now.program.now self.now.packed self.now.node self.now.input.now (C.calls self.now.callee.now))) parts.now) [] state.old) result state.new }
     {
         let mut all = Items::new(self.alloc);
         'parts: for part in parts {
@@ -123,7 +136,7 @@ impl<C: Callee> Frame<'_, C> {
 
     /// The cells of a side by their numbers, once its dimensions are checked.
     fn cells(&self, side: &MoveSide, cs: &[Chosen], state: &State) -> Result<Items<usize>, Halt>
-        ensures { Does (cells (context_with self.now.program.now self.now.node self.now.input.now (C.calls self.now.callee.now)) side.now (map chosen_of cs.now) state.now) result state.now }
+        ensures { Does (cells (context_at self.now.program.now self.now.packed self.now.node self.now.input.now (C.calls self.now.callee.now)) side.now (map chosen_of cs.now) state.now) result state.now }
     {
         match side {
             MoveSide::Scalar(_) => self.one_cell(),
@@ -142,7 +155,7 @@ impl<C: Callee> Frame<'_, C> {
     }
 
     fn array_cells(&self, name: Name, cs: &[Chosen], state: &State) -> Result<Items<usize>, Halt>
-        ensures { Does (array_cells (context_with self.now.program.now self.now.node self.now.input.now (C.calls self.now.callee.now)) name (map chosen_of cs.now) state.now) result state.now }
+        ensures { Does (array_cells (context_at self.now.program.now self.now.packed self.now.node self.now.input.now (C.calls self.now.callee.now)) name (map chosen_of cs.now) state.now) result state.now }
     {
         let extents = extents(self.program, name.number);
         check_all(name.at, extents, cs)?;
@@ -188,66 +201,60 @@ impl<C: Callee> Frame<'_, C> {
         cells: &[usize],
         state: &State,
     ) -> Result<Items<i64>, Halt>
-        ensures { Does (each (map (λ n. value_at (cell_at source.now n)) cells.now) [] state.now) result state.now }
+        ensures { Does (read_all erased source.now cells.now state.now) result state.now }
     {
         let mut values = Items::new(self.alloc);
         'cells: for n in cells {
-            let value = value_at(state, cell_at(source, *n));
-            push(&mut values, value)?;
+            let location = cell_at(source, *n)?;
+            push(&mut values, value_at(state, location))?;
         }
         Ok(values)
     }
 
-    /// Writes the source's values, or its one value into all cells where it has no section.
-    fn write(
+    /// The values into the cells of a side.
+    fn store_all(
         &self,
         target: &MoveSide,
-        sections: &[i64],
         cells: &[usize],
-        values: &[i64],
+        mut values: &[i64],
         state: &mut State,
-    )
-        ensures { store_all (context_with self.now.program.now self.now.node self.now.input.now (C.calls self.now.callee.now)) target.now cells.now (spread sections.now (length cells.now) values.now) state.old ≡ Gave Flow.Next state.new }
-    {
-        match split(sections) {
-            Some(_) => self.store_each(target, cells, values, state),
-            None => match split(values) {
-                Some((value, _)) => self.fill(target, cells, *value, state),
-                None => {}
-            },
-        }
-    }
-
-    fn store_each(&self, target: &MoveSide, cells: &[usize], mut values: &[i64], state: &mut State)
-        ensures { store_all (context_with self.now.program.now self.now.node self.now.input.now (C.calls self.now.callee.now)) target.now cells.now values.entry.now state.old ≡ Gave Flow.Next state.new }
+    ) -> Result<Flow, Halt>
+        ensures { Does (store_all erased (context_at self.now.program.now self.now.packed self.now.node self.now.input.now (C.calls self.now.callee.now)) target.now cells.now values.entry.now state.old) result state.new }
     {
         'cells: for n in cells {
             match split(values) {
                 Some((value, rest)) => {
-                    self.store(cell_at(target, *n), *value, state);
+                    let location = cell_at(target, *n)?;
+                    self.store(location, *value, state);
                     values = rest;
                 }
-                None => return,
+                None => return Ok(Flow::Next),
             }
         }
-    }
-
-    fn fill(&self, target: &MoveSide, cells: &[usize], value: i64, state: &mut State)
-        ensures { store_all (context_with self.now.program.now self.now.node self.now.input.now (C.calls self.now.callee.now)) target.now cells.now (replicate (length cells.now) value) state.old ≡ Gave Flow.Next state.new }
-    {
-        'cells: for n in cells {
-            self.store(cell_at(target, *n), value, state);
-        }
+        Ok(Flow::Next)
     }
 }
 
-/// A cell of a side.
-fn cell_at(side: &MoveSide, n: usize) -> Location
-    ensures { result ≡ cell_at side.now n }
+/// So many numbers, all the same.
+fn repeated(alloc: Global, count: usize, n: usize) -> Result<Items<usize>, Halt>
+    ensures { OrNoMemory (replicate count n) result }
+{
+    match vec![in alloc; n; count] {
+        Ok(all) => Ok(Items::from_vec(all)),
+        Err(_) => Err(Halt::NoMemory),
+    }
+}
+
+/// A cell of a side, or want of memory where 64 bits don't hold its number.
+fn cell_at(side: &MoveSide, n: usize) -> Result<Location, Halt>
+    ensures { OrNoMemory (cell_at side.now n) result }
 {
     match side {
-        MoveSide::Scalar(name) => Location::Scalar(name.number),
-        MoveSide::Array(name, _) => Location::Cell(name.number, n),
+        MoveSide::Scalar(name) => Ok(Location::Scalar(name.number)),
+        MoveSide::Array(name, _) => match i64::try_from(n) {
+            Ok(n) => Ok(Location::Cell(name.number, n)),
+            Err(_) => Err(Halt::NoMemory),
+        },
     }
 }
 

@@ -1,12 +1,12 @@
 // What the statements that hold no statement do.
 ghost use Rattle.std.specs.Prelude.{◌≡◌, []};
 ghost use Rattle.xmp_meaning.specs.Runs.{Does};
-ghost use Rattle.xmp_meaning.specs.Calls.{context_with};
-ghost use Rattle.xmp_meaning.specs.Directives.{erased};
+ghost use Rattle.xmp_serial.specs.Lines.{context_at};
+ghost use Rattle.xmp_meaning.specs.Handlers.{erased};
 ghost use Rattle.xmp_meaning.specs.Statements.{plain_of};
 
 use crate::callee::Callee;
-use crate::eval::Frame;
+use crate::frame::Frame;
 use crate::state::State;
 use sqlite_items::Items;
 use xmp_meaning::{Flow, Halt};
@@ -16,7 +16,7 @@ impl<C: Callee> Frame<'_, C> {
     /// Does a statement that holds no statement.
     pub fn exec_plain(&self, s: &Plain, state: &mut State) -> Result<Flow, Halt>
         requires { C.ready self.now.callee.now }
-        ensures { Does (plain_of erased (context_with self.now.program.now self.now.node self.now.input.now (C.calls self.now.callee.now)) s.now state.old) result state.new }
+        ensures { Does (plain_of erased (context_at self.now.program.now self.now.packed self.now.node self.now.input.now (C.calls self.now.callee.now)) s.now state.old) result state.new }
     {
         match s {
             Plain::Declare { slot, value, .. } => self.declare(*slot, value, state),

@@ -1,30 +1,28 @@
 // Whole programs.
-ghost use Rattle.std.specs.Prelude.{◌≡◌, ◌*◌, [], ◌∷◌, ◌++◌, IfOk, IfSome, if◌then◌else◌};
-ghost use Rattle.xmp_prog.specs.Fits.{node_count};
-ghost use Rattle.xmp_prog.specs.Tests.{is_image};
+ghost use Rattle.std.specs.Prelude.{◌≡◌, IfOk, length};
+ghost use Rattle.xmp_meaning.specs.Calls.{call_of};
 ghost use Rattle.xmp_meaning.specs.Runs.{Does};
-ghost use Rattle.xmp_meaning.specs.Calls.{context_with};
-ghost use Rattle.xmp_meaning.specs.Directives.{erased};
-ghost use Rattle.xmp_meaning.specs.Programs.{beginning, cell_count, no_writes, program, serial, starts};
+ghost use Rattle.xmp_serial.specs.Lines.{context_at};
+ghost use Rattle.xmp_meaning.specs.Handlers.{erased};
+ghost use Rattle.xmp_meaning.specs.Programs.{program, serial, starts};
 ghost use Rattle.xmp_serial.specs.Outcomes.{IsOutcome};
 
 use crate::callee::Callee;
 use crate::calls::{ByFunction, call_to};
-use crate::declared::{cell_count, is_image, node_count};
-use crate::eval::Frame;
+use crate::frame::Frame;
+use crate::layout::Layout;
 use crate::outcome::outcome_of;
-use crate::rows::{Rows, zeros};
 use crate::state::State;
 use std::alloc::Global;
-use xmp_base::{Bytes, NoMemory};
+use xmp_base::NoMemory;
 use xmp_meaning::{Flow, Halt, Location, Outcome};
-use xmp_prog::{Array, Prog, ProgParts, Start};
+use xmp_prog::{Prog, ProgParts, Start};
 
 impl<C: Callee> Frame<'_, C> {
     /// The initialisers at file scope, in order.
-    fn starts(&self, all: &[Start], state: &mut State) -> Result<Flow, Halt>
+    pub fn starts(&self, all: &[Start], state: &mut State) -> Result<Flow, Halt>
         requires { C.ready self.now.callee.now }
-        ensures { Does (starts (context_with self.now.program.now self.now.node self.now.input.now (C.calls self.now.callee.now)) all.now state.old) result state.new }
+        ensures { Does (starts erased (context_at self.now.program.now self.now.packed self.now.node self.now.input.now (C.calls self.now.callee.now)) all.now state.old) result state.new }
     {
         'starts: for start in all {
             let value = self.eval(&start.value, state)?;
@@ -36,58 +34,13 @@ impl<C: Callee> Frame<'_, C> {
     /// The initialisers at file scope, and then main's statement.
     fn run(&self, state: &mut State) -> Result<Flow, Halt>
         requires { C.ready self.now.callee.now }
-        ensures { Does (program erased (context_with self.now.program.now self.now.node self.now.input.now (C.calls self.now.callee.now)) state.old) result state.new }
+        ensures { Does (program erased (context_at self.now.program.now self.now.packed self.now.node self.now.input.now (C.calls self.now.callee.now)) state.old) result state.new }
     {
         match self.starts(self.program.start.as_slice(), state)? {
             Flow::Next => self.exec(&self.program.body, state),
             Flow::Returned(value) => Ok(Flow::Returned(value)),
         }
     }
-}
-
-/// How many cells an array has, those of all images together, where 64 bits hold the number.
-fn cells_of(p: &ProgParts, a: &Array) -> Option<usize>
-    ensures { IfSome result (λ n. n ≡ cell_count p.now a.now) }
-{
-    let images = images_of(p, a);
-    let cells = cell_count(a.extents.as_slice())?;
-    images.checked_mul(cells)
-}
-
-fn images_of(p: &ProgParts, a: &Array) -> usize
-    ensures { result ≡ (if is_image a.now.home then node_count p.now else 1) }
-{
-    if is_image(&a.home) {
-        node_count(p) as usize
-    } else {
-        1
-    }
-}
-
-/// Every cell is 0 at first.
-fn no_writes(alloc: Global, p: &ProgParts) -> Result<Rows, NoMemory>
-    ensures { IfOk result (λ rows. rows ≡ no_writes p.now) }
-{
-    let mut rows = Rows::new(alloc);
-    let arrays = p.arrays.as_slice();
-    'arrays: for a in arrays {
-        let Some(cells) = cells_of(p, a) else {
-            return Err(NoMemory);
-        };
-        if rows.push_zeros(alloc, cells).is_err() {
-            return Err(NoMemory);
-        }
-    }
-    Ok(rows)
-}
-
-/// What a program begins with.
-fn beginning(alloc: Global, p: &ProgParts, steps: u64) -> Result<State, NoMemory>
-    ensures { IfOk result (λ state. state ≡ beginning p.now steps tt) }
-{
-    let scalars = zeros(alloc, p.scalars.len())?;
-    let arrays = no_writes(alloc, p)?;
-    Ok(State::new(scalars, arrays, Bytes::new(alloc), steps))
 }
 
 /// What the program comes to with its directives erased, on this input, with so many steps for the turns of uncounted loops.
@@ -99,7 +52,7 @@ pub fn serial(alloc: Global, p: &Prog, input: &[u8], steps: u64) -> Result<Outco
     serial_of_parts(alloc, p.parts(), input, steps)
 }
 
-pub(crate) fn serial_of_parts(
+fn serial_of_parts(
     alloc: Global,
     program: &ProgParts,
     input: &[u8],
@@ -107,20 +60,30 @@ pub(crate) fn serial_of_parts(
 ) -> Result<Outcome, NoMemory>
     ensures { IfOk result (λ outcome. outcome ≡ serial program.now input.now steps) }
 {
-    let mut state = beginning(alloc, program, steps)?;
+    let layout = Layout::whole(alloc, program)?;
+    let mut state = State::beginning(alloc, &layout, steps)?;
+    let ended = run(alloc, &layout, input, &mut state);
+    outcome_of(alloc, program, ended, state)
+}
+
+/// A whole run of a program over whole rows.
+fn run(alloc: Global, layout: &Layout, input: &[u8], state: &mut State) -> Result<Flow, Halt>
+    ensures { Does (program erased (context_at layout.now.program.now layout.now.packed 0 input.now (call_of layout.now.program.now 0 (length layout.now.program.now.functions))) state.old) result state.new }
+{
     let callee = ByFunction {
-        program,
+        layout,
         node: 0,
-        depth: program.functions.len(),
+        depth: layout.program.functions.len(),
         call: call_to,
     };
     let frame = Frame {
         alloc,
-        program,
+        program: &*layout.program,
+        packed: layout.packed,
+        lines: layout.lines.as_slice(),
         node: 0,
         input,
         callee: &callee,
     };
-    let ended = frame.run(&mut state);
-    outcome_of(alloc, program, ended, state)
+    frame.run(state)
 }

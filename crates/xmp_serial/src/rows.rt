@@ -1,10 +1,11 @@
 // The cells of arrays while a program runs.
-ghost use Rattle.std.specs.Prelude.{◌≡◌, [], ◌∷◌, ◌++◌, OnOk, OnErr, length, replicate, ℤ, pos, slice_get, slice_set, IfOk, map};
-ghost use Rattle.xmp_meaning.specs.Cells.{cell_in, with_cell};
+ghost use Rattle.std.specs.Prelude.{◌≡◌, [], ◌∷◌, ◌++◌, OnOk, OnErr, length, replicate, ℤ, pos, slice_get, slice_set, unwrap_or, IfOk, map};
+ghost use Rattle.xmp_meaning.specs.Cells.{cell_in, row_in, with_cell};
 
 use sqlite_items::Items;
 use std::alloc::Global;
 use std::marker::Model;
+use std::mem::swap;
 use xmp_base::NoMemory;
 
 /// Rows of cells, one for each array, which contracts see as a list of lists.
@@ -58,6 +59,26 @@ impl Rows {
     {
         if row < self.rows.len() {
             put(&mut self.rows[row], at, value);
+        }
+    }
+
+    /// A row; there is none outside.
+    pub fn row(&self, row: usize) -> &[i64]
+        ensures { result.now ≡ row_in self.now row }
+    {
+        match self.rows.get(row) {
+            Some(cells) => cells.as_slice(),
+            None => &[],
+        }
+    }
+
+    /// Exchanges a row for another, where there is one.
+    pub fn swap_row(&mut self, row: usize, other: &mut Items<i64>)
+        ensures rows { self.new ≡ slice_set self.old row other.old }
+        ensures other { other.new ≡ unwrap_or (slice_get self.old row) other.old }
+    {
+        if row < self.rows.len() {
+            swap(&mut self.rows[row], other);
         }
     }
 

@@ -1,16 +1,17 @@
 // What a run reads and writes.
 ghost use Rattle.std.specs.Prelude.{◌≡◌, [], ◌++◌, ℤ, pos, replicate, unwrap_or, slice_get, slice_set, IfOk};
 ghost use Rattle.xmp_meaning.specs.Formats.{printed};
-ghost use Rattle.xmp_meaning.specs.Cells.{cell_in, with_cell};
+ghost use Rattle.xmp_meaning.specs.Cells.{read_in, row_in, write_in};
 ghost use Rattle.xmp_meaning.specs.Runs.{Does, take_step, write};
 
-use crate::print::print;
 use crate::rows::{Rows, put};
 use sqlite_items::Items;
 use std::alloc::Global;
 use std::marker::Model;
+use std::mem::{replace, swap};
 use xmp_base::{Bytes, NoMemory};
 use xmp_meaning::{End, Halt};
+use xmp_print::print;
 
 /// The scalars by slot, the arrays by number, the output so far, how many bytes of the input are read, and how many steps
 /// are left. Contracts see it as a state of the meaning whose further part is empty.
@@ -33,7 +34,7 @@ impl Model for State {
 
 impl State {
     /// A state with nothing printed or read.
-    pub fn new(scalars: Items<i64>, arrays: Rows, out: Bytes, steps: u64) -> State
+    pub(crate) fn new(scalars: Items<i64>, arrays: Rows, out: Bytes, steps: u64) -> State
         ensures { result ≡ record { scalars = scalars; arrays = arrays; out = out; taken = 0; steps = steps; extra = tt } }
     {
         State {
@@ -63,21 +64,26 @@ impl State {
     }
 
     /// A cell of an array, or 0 where there is none.
-    pub fn cell(&self, array: u32, at: usize) -> i64
-        ensures { result ≡ cell_in self.now.arrays array at }
+    pub fn cell(&self, array: u32, at: i64) -> i64
+        ensures { result ≡ read_in self.now.arrays array at }
     {
-        self.arrays.cell(array as usize, at)
+        match usize::try_from(at) {
+            Ok(at) => self.arrays.cell(array as usize, at),
+            Err(_) => 0,
+        }
     }
 
     /// Writes a cell of an array, where there is one.
-    pub fn set_cell(&mut self, array: u32, at: usize, value: i64)
-        ensures { self.new ≡ record self.old { arrays = with_cell self.old.arrays array at value } }
+    pub fn set_cell(&mut self, array: u32, at: i64, value: i64)
+        ensures { self.new ≡ record self.old { arrays = write_in self.old.arrays array at value } }
     {
-        self.arrays.set_cell(array as usize, at, value);
+        if let Ok(at) = usize::try_from(at) {
+            self.arrays.set_cell(array as usize, at, value);
+        }
     }
 
     /// Appends what `printf` writes for a format and values.
-    pub fn print(&mut self, alloc: Global, format: &[u8], values: &[i64]) -> Result<(), Halt>
+    pub(crate) fn print(&mut self, alloc: Global, format: &[u8], values: &[i64]) -> Result<(), Halt>
         ensures { Does (write (printed format.now values.now) self.old) result self.new }
     {
         match print(alloc, &mut self.out, format, values) {
@@ -125,8 +131,56 @@ impl State {
         Ok(())
     }
 
+    /// The scalars by slot.
+    pub fn scalars(&self) -> &[i64]
+        ensures { result.now ≡ self.now.scalars }
+    {
+        self.scalars.as_slice()
+    }
+
+    /// An array's row; there is none outside.
+    pub fn row(&self, array: u32) -> &[i64]
+        ensures { result.now ≡ row_in self.now.arrays array }
+    {
+        self.arrays.row(array as usize)
+    }
+
+    /// Exchanges the scalars for others.
+    pub fn swap_scalars(&mut self, others: &mut Items<i64>)
+        ensures state { self.new ≡ record self.old { scalars = others.old } }
+        ensures others { others.new ≡ self.old.scalars }
+    {
+        swap(&mut self.scalars, others);
+    }
+
+    /// Exchanges an array's row for another; where there is no such array, nothing changes.
+    pub fn swap_row(&mut self, array: u32, other: &mut Items<i64>)
+        ensures state { self.new ≡ record self.old { arrays = slice_set self.old.arrays array other.old } }
+        ensures other { other.new ≡ unwrap_or (slice_get self.old.arrays array) other.old }
+    {
+        self.arrays.swap_row(array as usize, other);
+    }
+
+    /// Takes the output, and leaves none.
+    pub fn take_output(&mut self, alloc: Global) -> Bytes
+        ensures state { self.new ≡ record self.old { out = [] } }
+        ensures output { result ≡ self.old.out }
+    {
+        replace(&mut self.out, Bytes::new(alloc))
+    }
+
+    /// Puts text behind the output.
+    pub fn write(&mut self, text: &[u8]) -> Result<(), Halt>
+        ensures { Does (write text.now self.old) result self.new }
+    {
+        match self.out.push_all(text) {
+            Ok(()) => Ok(()),
+            Err(NoMemory) => Err(Halt::NoMemory),
+        }
+    }
+
     /// The output and the arrays.
-    pub fn into_parts(self) -> (Bytes, Rows)
+    pub(crate) fn into_parts(self) -> (Bytes, Rows)
         ensures { (result.0 ≡ self.out) × (result.1 ≡ self.arrays) }
     {
         (self.out, self.arrays)

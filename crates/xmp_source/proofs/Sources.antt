@@ -1,5 +1,5 @@
 -- A text has one tree at most, and is not refused beside it, by the same laws of its tokens.
-use Rattle.std.proofs.Common.{◌≡◌, ◌∙◌, ◌⊎◌, inl, inr, ℕ, List, [], sym, ap, subst, refl}
+use Rattle.std.proofs.Common.{◌≡◌, ◌∙◌, ℕ, List, [], sym, ap, subst, refl}
 use Rattle.std.specs.Prelude.{Result, Ok, Err, IfErr}
 use Rattle.xmp_base.specs.declared.place.Place.{Place}
 use Rattle.xmp_base.specs.declared.refusal.Refusal.{Refusal}
@@ -8,11 +8,11 @@ use Rattle.xmp_base.specs.declared.refusal.Fault.TheVariants as fault
 use Rattle.xmp_lex.specs.declared.token.Token.{Token}
 use Rattle.xmp_lex.specs.Cut.{Cut, BreaksLexRule, IsRefused}
 use Rattle.xmp_lex.specs.Expand.{Event, Expands, Expanded, BreaksMacros, IsMacroRefusal, tokens_of}
-use Rattle.xmp_tree.specs.declared.program.Tree.{Tree}
-use Rattle.xmp_tree.specs.Fits.{FitsTree}
-use Rattle.xmp_tree.specs.Spell.{tokens}
-use Rattle.xmp_tree.specs.Refused.{IsProgram, Stuck, TooDeep, start, program_rules}
-use Rattle.xmp_parse.specs.Programs as syntax
+use Rattle.xmp_syntax.specs.declared.program.Tree.{Tree}
+use Rattle.xmp_syntax.specs.Fits.{FitsTree}
+use Rattle.xmp_syntax.specs.Spell.{tokens}
+use Rattle.xmp_syntax.specs.Refused.{IsProgram}
+use Rattle.xmp_parse.specs.Faults as syntax
 use Rattle.xmp_source.specs.Source.{Comes, IsTreeOf, Breaks, in_text, in_macros, in_syntax, IsSourceFault}
 
 abbrev pub OneCut : Type 0
@@ -29,7 +29,7 @@ one_result : OneExpansion → (ts us vs : List Token) → Expanded ts us → Exp
 one_result one ts us vs p q = p.result_is ∙ ap tokens_of (one ts p.events q.events p.expands q.expands) ∙ sym q.result_is
 
 -- and so does a text
-one_text : OneCut → OneExpansion → (text : List ℕ) (us vs : List Token) → Comes text us → Comes text vs → us ≡ vs
+pub one_text : OneCut → OneExpansion → (text : List ℕ) (us vs : List Token) → Comes text us → Comes text vs → us ≡ vs
 one_text cut one text us vs p q =
     let same : p.tokens ≡ q.tokens = cut text p.tokens q.tokens p.cut q.cut in
     let there : Expanded p.tokens vs = subst (λ ts. Expanded ts vs) (sym same) q.expands in
@@ -46,29 +46,18 @@ CutOrRefused = (text : List ℕ) (ts : List Token) (rule : ℕ) (at : Place) →
 abbrev pub ExpandedOrRefused : Type 0
 ExpandedOrRefused = (ts us : List Token) (rule : ℕ) (at : Place) → Expanded ts us → BreaksMacros ts rule at → ⊥
 
-abbrev pub NotStuck : Type 0
-NotStuck = (ts : List Token) (x : Tree) (left : ℕ) → IsProgram ts x → Stuck start program_rules ts left → ⊥
+abbrev pub NeverBoth : Type 0
+NeverBoth = (ts : List Token) (x : Tree) (r : Refusal) → IsProgram ts x → syntax.Breaks ts r → ⊥
 
-abbrev pub NotDeep : Type 0
-NotDeep = (ts : List Token) (x : Tree) (left : ℕ) → IsProgram ts x → TooDeep start program_rules ts left → ⊥
-
--- the tokens of a program break no rule of the syntax
-no_break : NotStuck → NotDeep → (ts : List Token) (x : Tree) (r : Refusal) → IsProgram ts x → syntax.Breaks ts r → ⊥
-no_break stuck deep ts x r p b = by_rule b.rule
-  where
-    by_rule : ((r.rule ≡ 1) × Stuck start program_rules ts b.left) ⊎ ((r.rule ≡ 2) × TooDeep start program_rules ts b.left) → ⊥
-    by_rule (inl s) = stuck ts x b.left p s.1
-    by_rule (inr d) = deep ts x b.left p d.1
-
-pub tree_or_refused : OneCut → OneExpansion → CutOrRefused → ExpandedOrRefused → NotStuck → NotDeep → (text : List ℕ) (x : Tree) (r : Refusal)
+pub tree_or_refused : OneCut → OneExpansion → CutOrRefused → ExpandedOrRefused → NeverBoth → (text : List ℕ) (x : Tree) (r : Refusal)
     → IsTreeOf text x → Breaks text (fault.Refused r) → ⊥
-tree_or_refused cut one c e s d text x r p (in_text b) = c text p.comes.tokens r.rule r.at p.comes.cut b.1
-tree_or_refused cut one c e s d text x r p (in_macros ts u b) =
+tree_or_refused cut one c e d text x r p (in_text b) = c text p.comes.tokens r.rule r.at p.comes.cut b.1
+tree_or_refused cut one c e d text x r p (in_macros ts u b) =
     let same : p.comes.tokens ≡ ts = cut text p.comes.tokens ts p.comes.cut u in
     e ts p.expanded r.rule r.at (subst (λ ts. Expanded ts p.expanded) same p.comes.expands) b.1
-tree_or_refused cut one c e s d text x r p (in_syntax us v b) =
+tree_or_refused cut one c e d text x r p (in_syntax us v b) =
     let same : p.expanded ≡ us = one_text cut one text p.expanded us p.comes v in
-    no_break s d us x r (subst (λ ts. IsProgram ts x) same p.program) b
+    d us x r (subst (λ ts. IsProgram ts x) same p.program) b
 
 -- ---- faults
 

@@ -6,9 +6,9 @@ use Rattle.xmp_base.specs.declared.refusal.Fault.TheVariants as fault
 use Rattle.xmp_lex.specs.declared.token.Token.{Token}
 use Rattle.xmp_lex.specs.Cut.{Cut, IsRefused}
 use Rattle.xmp_lex.specs.Expand.{Expanded, IsMacroRefusal}
-use Rattle.xmp_tree.specs.declared.program.Tree.{Tree}
-use Rattle.xmp_tree.specs.Refused.{IsProgram}
-use Rattle.xmp_parse.specs.Programs.{IsFault}
+use Rattle.xmp_syntax.specs.declared.program.Tree.{Tree}
+use Rattle.xmp_syntax.specs.Refused.{IsProgram}
+use Rattle.xmp_parse.specs.Faults.{IsFault}
 
 -- The text is cut into tokens that come to these, their definitions replaced.
 pub record Comes (text : List ℕ) (expanded : List Token) : Type 0 where

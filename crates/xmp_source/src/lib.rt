@@ -1,16 +1,9 @@
 //! From the text of a program to its tree, or to the first rule of text, macros or syntax that it breaks.
+//! Tests stand in xmp_text_tests.
 #![tactic(auto)]
 
 mod laws;
 mod source;
-#[cfg(test)]
-mod text_tests;
-#[cfg(test)]
-mod tree_builders;
-#[cfg(test)]
-mod tree_makers;
-#[cfg(test)]
-mod tree_tests;
 
-pub use laws::{one_source_tree, tree_or_refused};
+pub use laws::{never_tree_and_refused, one_source_refusal, one_source_tree};
 pub use source::tree_of;

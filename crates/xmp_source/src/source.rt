@@ -5,13 +5,13 @@ ghost use Rattle.xmp_lex.specs.Cut.{Cut};
 ghost use Rattle.xmp_lex.specs.Lines.{IsFinished, IsClosed};
 ghost use Rattle.xmp_source.specs.Source.{Comes, IsTreeOf, IsSourceFault};
 
-use crate::laws::tree_or_refused;
+use crate::laws::never_tree_and_refused;
 use std::alloc::Global;
 use std::vec::Vec;
 use xmp_base::Fault;
 use xmp_lex::{Token, expand, lex};
 use xmp_parse::parse;
-use xmp_tree::Tree;
+use xmp_syntax::Tree;
 
 /// The tokens that a text comes to, their definitions replaced.
 fn expanded(alloc: Global, text: &[u8]) -> Result<Vec<Token>, Fault>
@@ -44,6 +44,6 @@ pub fn tree_of(alloc: Global, text: &[u8]) -> Result<Tree, Fault>
     ensures fault { IfErr result (λ e. IsSourceFault text.now e) }
     ensures no_other { (x : Tree) → IsTreeOf text.now x → IfErr result (λ e. e ≡ fault.NoMemory) }
 {
-    tree_or_refused();
+    never_tree_and_refused();
     judged(alloc, text)
 }

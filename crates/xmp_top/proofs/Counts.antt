@@ -1,6 +1,6 @@
 -- A number of nodes that options set is 1 to 16.
 use Rattle.std.proofs.Common.{◌≤◌, ℕ, List, [], ◌∷◌, Some, sym, subst, refl, IsTrue, rules}
-use Rattle.xmp_elab.specs.Narrow.{is_count}
+use Rattle.xmp_parts.specs.Narrow.{is_count}
 use Rattle.xmp_top.specs.Settings.{Settings, Adds, Sets}
 use Rattle.xmp_top.specs.declared.options.Name.{Name}
 use Rattle.xmp_top.specs.declared.options.Name.TheVariants.{Nodes, Steps, Input, Order, Node, Report}

@@ -4,7 +4,7 @@ use Rattle.xmp_base.specs.Causes.{Rose}
 use Rattle.xmp_prog.specs.declared.parts.ProgParts.{ProgParts}
 use Rattle.xmp_top.specs.declared.forms.Command.{Command}
 use Rattle.xmp_top.specs.declared.forms.Command.TheVariants.{Check, Serial, Run}
-use Rattle.xmp_top.specs.Limits.{input_limit}
+use Rattle.xmp_base.specs.Limits.{input_limit}
 use Rattle.xmp_top.specs.Settings.{Settings}
 use Rattle.xmp_top.specs.Delivery.{Due}
 use Rattle.xmp_top.specs.Answer as a

@@ -13,7 +13,7 @@ use Rattle.xmp_meaning.specs.declared.outcome.Outcome.TheVariants as outcome
 use Rattle.xmp_meaning.specs.Programs.{serial}
 use Rattle.xmp_drive.specs.Verdict.{IsAccepted, IsRefused}
 use Rattle.xmp_first.specs.Accepts.{Accepts}
-use Rattle.xmp_top.specs.Limits.{source_limit, input_limit, default_steps}
+use Rattle.xmp_base.specs.Limits.{source_limit, input_limit, default_steps}
 use Rattle.xmp_top.specs.declared.forms.Command.{Command}
 use Rattle.xmp_top.specs.declared.forms.Command.TheVariants.{Check, Serial, Run}
 use Rattle.xmp_top.specs.Settings.{Settings}

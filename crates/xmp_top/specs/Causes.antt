@@ -6,7 +6,7 @@ use Rattle.xmp_base.specs.declared.status.Status.TheVariants.{Ended, Trapped, Ou
 use Rattle.xmp_prog.specs.declared.parts.ProgParts.{ProgParts}
 use Rattle.xmp_drive.specs.Verdict.{IsAccepted, IsRefused}
 use Rattle.xmp_first.specs.Accepts.{Accepts}
-use Rattle.xmp_top.specs.Limits.{source_limit, input_limit}
+use Rattle.xmp_base.specs.Limits.{source_limit, input_limit}
 use Rattle.xmp_top.specs.declared.forms.Command.TheVariants.{Check, Serial, Run}
 use Rattle.xmp_top.specs.Forms.{Form, SpellsForm, SpellsNoForm}
 use Rattle.xmp_top.specs.Lines.{line, refused_text}

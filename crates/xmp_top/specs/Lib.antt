@@ -1,5 +1,4 @@
 pub mod Numbers
-pub mod Limits
 pub mod Settings
 pub mod Forms
 pub mod Delivery

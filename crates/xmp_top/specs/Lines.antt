@@ -20,10 +20,13 @@ abbrev pub letter_of : Phase → List ℕ
 letter_of phase.Lex = codes "L"
 letter_of phase.Macro = codes "E"
 letter_of phase.Syntax = codes "S"
+letter_of phase.Procedure = codes "Q"
+letter_of phase.Subset = codes "P"
 letter_of phase.Names = codes "N"
 letter_of phase.Mapping = codes "M"
 letter_of phase.Flow = codes "F"
 letter_of phase.Coarray = codes "C"
+letter_of phase.Script = codes "O"
 
 -- a place: `13:40` is column 40 of line 13
 abbrev pub place_text : Place → List ℕ

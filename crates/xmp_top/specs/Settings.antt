@@ -2,6 +2,7 @@
 use Rattle.std.specs.Prelude.{◌≡◌, ◌^◌, ◌-◌, ℕ, List, [], ◌∷◌, ◌++◌, Option, Some, None, Bool, true, false, nat_eq, codes}
 use Rattle.std.specs.Option.{option_map}
 use Rattle.std.specs.List.{starts_with}
+use Rattle.xmp_base.specs.Limits.{node_limit}
 use Rattle.xmp_top.specs.Numbers.{IsNumber}
 use Rattle.xmp_top.specs.declared.options.Name.{Name}
 use Rattle.xmp_top.specs.declared.options.Name.TheVariants.{Nodes, Steps, Input, Order, Node, Report}
@@ -34,11 +35,11 @@ prefix_of Report = codes "--report"
 
 -- The option, with this value, was not set before and is set now.
 abbrev pub Adds : Name → List ℕ → Settings → Settings → Type 0
-Adds Nodes value old new = (old.nodes ≡ None) × (n : ℕ) × IsNumber 1 16 value n × (new ≡ record old { nodes = Some n })
+Adds Nodes value old new = (old.nodes ≡ None) × (n : ℕ) × IsNumber 1 node_limit value n × (new ≡ record old { nodes = Some n })
 Adds Steps value old new = (old.steps ≡ None) × (n : ℕ) × IsNumber 0 (2 ^ 64 - 1) value n × (new ≡ record old { steps = Some n })
 Adds Input value old new = (old.input ≡ None) × IsFileName value × (new ≡ record old { input = Some value })
 Adds Order value old new = (old.order ≡ None) × (n : ℕ) × IsNumber 0 (2 ^ 64 - 1) value n × (new ≡ record old { order = Some n })
-Adds Node value old new = (old.node ≡ None) × (n : ℕ) × IsNumber 0 15 value n × (new ≡ record old { node = Some n })
+Adds Node value old new = (old.node ≡ None) × (n : ℕ) × IsNumber 0 (node_limit - 1) value n × (new ≡ record old { node = Some n })
 Adds Report value old new = (old.report ≡ false) × (value ≡ []) × (new ≡ record old { report = true })
 
 -- The word is an option with its value, and sets it.

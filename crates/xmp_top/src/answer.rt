@@ -1,10 +1,10 @@
 // Prepares what is due.
 ghost use Rattle.std.specs.Prelude.{◌≡◌, ◌≤◌, List, ℕ, Option, map, string_bytes, option_map, IfOk, IsTrue, length, MatchOption};
-ghost use Rattle.xmp_elab.specs.Narrow.{is_count};
+ghost use Rattle.xmp_parts.specs.Narrow.{is_count};
 ghost use Rattle.xmp_prog.specs.declared.parts.ProgParts.{ProgParts};
 ghost use Rattle.xmp_meaning.specs.Programs.{serial};
 ghost use Rattle.xmp_first.specs.Accepts.{Accepts};
-ghost use Rattle.xmp_top.specs.Limits.{source_limit};
+ghost use Rattle.xmp_base.specs.Limits.{source_limit};
 ghost use Rattle.xmp_top.specs.Settings.{settings_of};
 ghost use Rattle.xmp_top.specs.Forms.{form_of};
 ghost use Rattle.xmp_top.specs.Answer.{AnswersCheck, AnswersForm, AnswersInput, AnswersRead, AnswersRun, AnswersSerial, AnswersText, IsDue, IsNone, due_of, only_line, prints, run_on, says_refused, steps_in};
@@ -14,22 +14,16 @@ use crate::lines::{refused_line, trapped_line};
 use crate::options::Options;
 use crate::prepared::Prepared;
 use crate::words::command_line;
-use crate::{DEFAULT_STEPS, INPUT_LIMIT, SOURCE_LIMIT};
 use std::alloc::Global;
 use std::mem::drop;
-use xmp_base::{Bytes, Fault, FileError, Files, NoMemory, Phase, Place, Refusal, Status};
+use xmp_base::{
+    Bytes, DEFAULT_STEPS, Fault, FileError, Files, INPUT_LIMIT, NoMemory, Phase, Place, Refusal,
+    SOURCE_LIMIT, Status,
+};
 use xmp_drive::{Accepted, compile};
 use xmp_first::{read_first, run_first};
 use xmp_meaning::Outcome;
 use xmp_serial::serial;
-
-fn bytes_of(alloc: Global, from: &[u8]) -> Result<Bytes, NoMemory>
-    ensures { IfOk result (λ bytes. bytes ≡ from.now) }
-{
-    let mut bytes = Bytes::new(alloc);
-    bytes.push_all(from)?;
-    Ok(bytes)
-}
 
 // ---- the dues
 
@@ -37,7 +31,7 @@ fn bytes_of(alloc: Global, from: &[u8]) -> Result<Bytes, NoMemory>
 fn line_on_err(alloc: Global, text: &[u8], status: Status) -> Result<Prepared, NoMemory>
     ensures { IfOk result (λ due. record { out = due.out; err = due.err; status = due.status } ≡ only_line text.now status) }
 {
-    let mut err = bytes_of(alloc, text)?;
+    let mut err = Bytes::copy_of(alloc, text)?;
     err.push(b'\n')?;
     Ok(Prepared {
         out: Bytes::new(alloc),
@@ -85,7 +79,7 @@ fn come_to(alloc: Global, outcome: Outcome) -> Result<Prepared, NoMemory>
             })
         }
         Outcome::OutOfSteps { out } => {
-            let err = bytes_of(alloc, b"out of steps\n")?;
+            let err = Bytes::copy_of(alloc, b"out of steps\n")?;
             Ok(Prepared {
                 out,
                 err,
@@ -104,7 +98,7 @@ fn output_of(alloc: Global, text: &[u8]) -> Result<Option<Bytes>, NoMemory>
     match read_first(alloc, text) {
         Ok(program) => {
             let world = run_first(alloc, &program)?;
-            let out = bytes_of(alloc, world.out())?;
+            let out = Bytes::copy_of(alloc, world.out())?;
             Ok(Some(out))
         }
         Err(Fault::Refused(_)) => Ok(None),
@@ -149,7 +143,7 @@ fn answer_check(alloc: Global, options: &Options<'_>, text: &[u8]) -> Result<Pre
     match compile(alloc, text, nodes_of(options)) {
         Ok(program) => {
             drop(program);
-            let out = bytes_of(alloc, b"accepted\n")?;
+            let out = Bytes::copy_of(alloc, b"accepted\n")?;
             Ok(printed(alloc, out))
         }
         Err(Fault::Refused(refusal)) => refused(alloc, refusal),

@@ -2,7 +2,7 @@
 use crate::options::Options;
 
 /// The commands that there are.
-#[derive(Clone, Copy, Debug, PartialEq, Eq)]
+#[derive(Clone, Copy)]
 pub enum Command {
     /// Writes whether the program is accepted.
     Check,

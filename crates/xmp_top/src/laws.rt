@@ -5,13 +5,13 @@ ghost use Rattle.xmp_top.specs.Delivery.{SinkCall};
 ghost use Rattle.xmp_top.specs.Answer.{FilesCall, IsAnswer};
 ghost use Rattle.xmp_top.specs.Causes.{HasCauses};
 
-use xmp_drive::{accepted_or_refused, one_program, one_refusal};
+use xmp_drive::{never_accepted_and_refused, one_program, one_refusal};
 
 /// For each status of an answer: when it comes, and what was written with it.
 pub fn answers_have_causes()
     ensures { (words : List (List ℕ)) (files : FilesCall) (out err : SinkCall) (status : Status) → IsAnswer words files out err status → HasCauses words files out err status }
 {
-    accepted_or_refused();
+    never_accepted_and_refused();
     one_refusal();
     one_program();
 }

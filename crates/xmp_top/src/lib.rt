@@ -24,14 +24,5 @@ pub use prepared::Prepared;
 pub use settings::options_of;
 pub use words::command_line;
 
-/// The most bytes that a source may have.
-pub const SOURCE_LIMIT: usize = 1_048_576;
-
-/// The most bytes that an input may have.
-pub const INPUT_LIMIT: usize = 16_777_216;
-
-/// The steps of a run, where no number of them is given.
-pub const DEFAULT_STEPS: u64 = 1_000_000;
-
 #[cfg(test)]
 mod tests;

@@ -14,10 +14,13 @@ fn letter_of(phase: Phase) -> &'static [u8]
         Phase::Lex => b"L",
         Phase::Macro => b"E",
         Phase::Syntax => b"S",
+        Phase::Procedure => b"Q",
+        Phase::Subset => b"P",
         Phase::Names => b"N",
         Phase::Mapping => b"M",
         Phase::Flow => b"F",
         Phase::Coarray => b"C",
+        Phase::Script => b"O",
     }
 }
 

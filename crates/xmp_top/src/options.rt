@@ -1,7 +1,7 @@
 // The options of a command line, as types.
 
 /// The options that there are. All but `Report` have a value.
-#[derive(Clone, Copy, Debug, PartialEq, Eq)]
+#[derive(Clone, Copy)]
 pub enum Name {
     Nodes,
     Steps,

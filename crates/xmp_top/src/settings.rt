@@ -3,10 +3,11 @@ ghost use Rattle.std.specs.Prelude.{◌≡◌, ◌++◌, ℕ, List, codes, nat_e
 ghost use Rattle.std.specs.List.{starts_with};
 ghost use Rattle.xmp_top.specs.declared.options.Name.{Name};
 ghost use Rattle.xmp_top.specs.declared.options.Name.TheVariants.{Nodes, Steps, Input, Order, Node, Report};
-ghost use Rattle.xmp_top.specs.Settings.{Settings, settings_of, prefix_of, Adds, Says, Sets};
+ghost use Rattle.xmp_top.specs.Settings.{Settings, unset, settings_of, prefix_of, Adds, Says, Sets};
 
 use crate::numbers::number;
 use crate::options::{Name, Options};
+use xmp_base::NODE_LIMIT;
 
 /// Whether the word begins with `--`, which no name of a file does.
 pub fn is_option(word: &str) -> bool
@@ -56,7 +57,7 @@ fn with_nodes<'a>(value: &str, old: &Options<'a>) -> Option<Options<'a>>
     if old.nodes.is_some() {
         return None;
     }
-    let nodes = number(value, 1, 16)?;
+    let nodes = number(value, 1, NODE_LIMIT as u64)?;
     Some(Options {
         nodes: Some(nodes),
         ..*old
@@ -114,7 +115,7 @@ fn with_node<'a>(value: &str, old: &Options<'a>) -> Option<Options<'a>>
     if old.node.is_some() {
         return None;
     }
-    let node = number(value, 0, 15)?;
+    let node = number(value, 0, NODE_LIMIT as u64 - 1)?;
     Some(Options {
         node: Some(node),
         ..*old
@@ -163,21 +164,29 @@ fn said<'a>(word: &'a str, old: &Options<'a>) -> Option<Options<'a>>
     }
 }
 
+fn nothing_set<'a>() -> Options<'a>
+    ensures { settings_of result ≡ unset }
+{
+    Options {
+        nodes: None,
+        steps: None,
+        input: None,
+        order: None,
+        node: None,
+        report: false,
+    }
+}
+
 /// What the words set, or none where they aren't options, each at most once.
 pub fn options_of(words: &[String]) -> Option<Options<'_>>
     ensures some { IfSome result (λ s. Sets (map (λ w. string_bytes w) words.now) (settings_of s)) }
     ensures none { IfNone result ((s : Settings) → Sets (map (λ w. string_bytes w) words.now) s → ⊥) }
 {
-    let Some((word, rest)) = words.split_first() else {
-        return Some(Options {
-            nodes: None,
-            steps: None,
-            input: None,
-            order: None,
-            node: None,
-            report: false,
-        });
-    };
-    let before = options_of(rest)?;
-    said(word.as_str(), &before)
+    let mut set = nothing_set();
+    let mut left = words.len();
+    while left > 0 {
+        left -= 1;
+        set = said(words[left].as_str(), &set)?;
+    }
+    Some(set)
 }

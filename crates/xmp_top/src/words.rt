@@ -2,7 +2,7 @@
 ghost use Rattle.std.specs.Prelude.{◌≡◌, ◌↔◌, List, ℕ, IsTrue, map, string_bytes, codes, IfSome, IfNone, None, false};
 ghost use Rattle.xmp_top.specs.declared.forms.Command.{Command};
 ghost use Rattle.xmp_top.specs.Settings.{settings_of};
-ghost use Rattle.xmp_elab.specs.Narrow.{is_count};
+ghost use Rattle.xmp_parts.specs.Narrow.{is_count};
 ghost use Rattle.xmp_top.specs.Forms.{SpellsForm, SpellsNoForm, Takes, form_of, word_of};
 
 use crate::forms::{Command, CommandLine};

@@ -2,7 +2,7 @@
 ghost use Rattle.std.specs.Prelude.{◌≡◌, List, [], ◌∷◌, reverse, OnOk, IfOk, IsNone, MatchOption};
 ghost use Rattle.xmp_lex.specs.declared.token.Token.{Token};
 ghost use Rattle.xmp_lex.specs.declared.token.TokenKind.TheVariants.{Text};
-ghost use Rattle.xmp_tree.specs.Spell.{◌at◌, sign, spelled, word};
+ghost use Rattle.xmp_syntax.specs.Spell.{◌at◌, sign, spelled, word};
 
 use std::alloc::Global;
 use std::marker::Model;

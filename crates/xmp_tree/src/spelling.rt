@@ -1,16 +1,15 @@
 // The tokens of expressions, put down before what follows them.
 ghost use Rattle.std.specs.Prelude.{◌≡◌, OnOk};
-ghost use Rattle.xmp_tree.specs.View.{arguments_view, expr_view, image_view, links_view, ref_view, subscripts_view};
-ghost use Rattle.xmp_tree.specs.Spell.{expr, name, spell, spell_arguments, spell_image, spell_links, spell_ref, spell_subscripts, type_word, word};
+ghost use Rattle.xmp_syntax.specs.View.{arguments_view, expr_view, image_view, links_view, ref_view, subscripts_view};
+ghost use Rattle.xmp_syntax.specs.Spell.{expr, name, spell, spell_arguments, spell_image, spell_links, spell_ref, spell_subscripts, type_word, word};
 
-use crate::expression::Expr;
-use crate::parts::{CommaList, Image, Inside, Link, Name, Reference};
 use crate::rest::Rest;
 use sqlite_items::Boxed;
 use std::alloc::Global;
 use xmp_base::{NoMemory, Place};
 use xmp_lex::{Mark, Reserved, TokenKind};
 use xmp_num::Ty;
+use xmp_syntax::{CommaList, Expr, Image, Inside, Link, Name, Reference};
 
 pub fn put_name(rest: &mut Rest, alloc: Global, x: &Name) -> Result<(), NoMemory>
     ensures { OnOk result (rest.new ≡ name x.now rest.old) }

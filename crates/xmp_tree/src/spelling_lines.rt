@@ -2,20 +2,18 @@
 ghost use Rattle.std.specs.Prelude.{◌≡◌, ◌∷◌, OnOk};
 ghost use Rattle.xmp_lex.specs.declared.token.Mark.TheVariants.{Star};
 ghost use Rattle.xmp_lex.specs.declared.token.TokenKind.TheVariants.{Close, Pragma};
-ghost use Rattle.xmp_tree.specs.Spell.{◌at◌, after_colon, align_dimension, coarray, declarator, dims, dist_form, each, expr, in_brackets, in_parens, list, loop_line, name, names, next, offset, optional, point, reduction, reduction_list, reduction_operator, section, sections, sign, spell_declaration, spell_mapping, spelled, task_line, type_words, value, width};
+ghost use Rattle.xmp_syntax.specs.Spell.{◌at◌, after_colon, align_dimension, coarray, declarator, dims, dist_form, each, expr, in_brackets, in_parens, list, loop_line, name, names, next, offset, optional, point, reduction, reduction_list, reduction_operator, section, sections, sign, spell_declaration, spell_mapping, spelled, task_line, type_words, value, width};
 
-use crate::declaration::{Declaration, Declarator};
-use crate::directive::{
-    AlignDimension, DirectiveLine, DistForm, LoopLine, Mapping, Point, Reduction,
-    ReductionOperator, Section, Sections, TaskLine,
-};
-use crate::expression::Expr;
-use crate::parts::{CommaList, Inside, Name, Next, Placed, TypeWords};
 use crate::rest::Rest;
 use crate::spelling::{put_expr, put_name};
 use std::alloc::Global;
 use xmp_base::{NoMemory, Place};
 use xmp_lex::{Mark, Reserved, TokenKind};
+use xmp_syntax::{
+    AlignDimension, CommaList, Declaration, Declarator, DirectiveLine, DistForm, Expr, Inside,
+    LoopLine, Mapping, Name, Next, Placed, Point, Reduction, ReductionOperator, Section, Sections,
+    TaskLine, TypeWords,
+};
 
 pub fn put_type_words(rest: &mut Rest, ty: TypeWords) -> Result<(), NoMemory>
     ensures { OnOk result (rest.new ≡ type_words ty rest.old) }

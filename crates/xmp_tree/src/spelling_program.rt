@@ -1,9 +1,7 @@
 // The tokens of programs.
 ghost use Rattle.std.specs.Prelude.{◌≡◌, IfOk, OnOk, map};
-ghost use Rattle.xmp_tree.specs.Spell.{body, each, function, next, optional, parameter, parameters, spelling, tokens, top_item};
+ghost use Rattle.xmp_syntax.specs.Spell.{body, each, function, next, optional, parameter, parameters, spelling, tokens, top_item};
 
-use crate::parts::{Inside, Name, Next, TypeWords};
-use crate::program::{Function, Parameters, TopItem, Tree};
 use crate::rest::Rest;
 use crate::spelling::put_name;
 use crate::spelling_lines::{put_declaration, put_mapping, put_type_words};
@@ -11,6 +9,7 @@ use crate::spelling_statements::put_body;
 use std::alloc::Global;
 use xmp_base::NoMemory;
 use xmp_lex::{Mark, Reserved, TokenKind};
+use xmp_syntax::{Function, Inside, Name, Next, Parameters, TopItem, Tree, TypeWords};
 
 fn put_parameter(rest: &mut Rest, alloc: Global, x: &(TypeWords, Name)) -> Result<(), NoMemory>
     ensures { OnOk result (rest.new ≡ parameter x.now rest.old) }

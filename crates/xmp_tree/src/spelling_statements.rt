@@ -1,23 +1,23 @@
 // The tokens of statements.
 ghost use Rattle.std.specs.Prelude.{◌≡◌, OnOk, codes};
-ghost use Rattle.xmp_tree.specs.declared.statement.Plain.TheVariants.{Bcast, Gmove, Print, Reflect, Scan, Sync};
-ghost use Rattle.xmp_tree.specs.View.{call_view, items_view, rest_view, stmt_view, tasks_view};
-ghost use Rattle.xmp_tree.specs.Spell.{directive_line, expr, for_first, for_head, format, in_parens, optional, spell, spell_items, spell_plain, spell_rest, spell_simple, spell_stmt, spell_tasks};
+ghost use Rattle.xmp_syntax.specs.declared.statement.Plain.TheVariants.{Bcast, Gmove, Print, Reflect, Scan, Sync};
+ghost use Rattle.xmp_syntax.specs.View.{call_view, items_view, rest_view, stmt_view, tasks_view};
+ghost use Rattle.xmp_syntax.specs.Spell.{directive_line, expr, for_first, for_head, format, in_parens, optional, spell, spell_items, spell_plain, spell_rest, spell_simple, spell_stmt, spell_tasks};
 
-use crate::directive::{DirectiveLine, Sections, TaskLine};
-use crate::expression::Expr;
-use crate::parts::{Call, CommaList, Format, Inside, Name, Next, Reference};
 use crate::rest::Rest;
 use crate::spelling::{put_arguments, put_expr, put_name, put_reference};
 use crate::spelling_lines::{
     put_declaration, put_end, put_loop_line, put_mapping, put_names_inside, put_sections,
     put_start, put_task_line,
 };
-use crate::statement::{BlockItem, ForFirst, ForHead, Plain, Simple, Stmt};
 use sqlite_items::{Boxed, Items};
 use std::alloc::Global;
 use xmp_base::{NoMemory, Place};
 use xmp_lex::{Mark, Reserved};
+use xmp_syntax::{
+    BlockItem, Call, CommaList, DirectiveLine, Expr, ForFirst, ForHead, Format, Inside, Name, Next,
+    Plain, Reference, Sections, Simple, Stmt, TaskLine,
+};
 
 fn put_call(rest: &mut Rest, alloc: Global, x: &Call<Boxed<Expr>>) -> Result<(), NoMemory>
     ensures { OnOk result (rest.new ≡ spell (call_view x.now) rest.old) }

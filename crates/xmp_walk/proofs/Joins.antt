@@ -1,8 +1,8 @@
 -- A step of the walk and what is made of what it gave, where the code makes it of a result.
 use Rattle.std.proofs.Common.{◌≡◌, ◌∙◌, ap, sym, Result, Ok, Err, IfOk}
 use Rattle.std.specs.Prelude.{MatchResult, IsErr}
-use Rattle.xmp_walk.specs.declared.world.World.{World}
-use Rattle.xmp_walk.specs.Walk.{Step, Gave, Run, Does, and_then, pure}
+use Rattle.xmp_names.specs.declared.world.World.{World}
+use Rattle.xmp_names.specs.Walk.{Step, Gave, Run, Does, and_then, pure}
 
 pub after : {A B E : Type 0} (first : Step A) (rest : A → Run B) (a : A) (result : Result B E) (mid new : World) →
     first ≡ Gave a mid → Does (rest a mid) result new → Does (and_then first rest) result new

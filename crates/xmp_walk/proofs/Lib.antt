@@ -1,16 +1,3 @@
-mod Cells
-mod Coarrays
-mod Enumerated
+pub mod Coarrays
 mod Joins
-mod Limits
-mod Nests
-mod NodeBoxes
-mod NodeRanges
-mod NodeSets
-mod Places
-mod Reductions
-mod Rolls
-mod SameIndices
-mod Seen
-mod Steps
-mod Walks
+pub mod Seen

@@ -4,24 +4,24 @@ use Rattle.std.specs.Prelude.{Option, None, Some}
 use Rattle.std.specs.Option.{option_map}
 use Rattle.xmp_base.specs.declared.place.Place.{Place}
 use Rattle.xmp_prog.specs.declared.statements.Stmt as made
-use Rattle.xmp_tree.specs.declared.parts.Inside.{Inside}
-use Rattle.xmp_tree.specs.declared.expression.Expr.{Expr}
-use Rattle.xmp_tree.specs.declared.declaration.Declaration.{Declaration}
-use Rattle.xmp_tree.specs.declared.directive.DirectiveLine.{DirectiveLine}
-use Rattle.xmp_tree.specs.declared.directive.LoopLine.{LoopLine}
-use Rattle.xmp_tree.specs.declared.directive.TaskLine.{TaskLine}
-use Rattle.xmp_tree.specs.declared.directive.Mapping.{Mapping}
-use Rattle.xmp_tree.specs.declared.statement.Plain.{Plain}
-use Rattle.xmp_tree.specs.declared.statement.ForHead.{ForHead}
-use Rattle.xmp_tree.specs.declared.statement.BlockItem.{BlockItem}
-use Rattle.xmp_tree.specs.declared.statement.BlockItem.TheVariants as b
-use Rattle.xmp_tree.specs.declared.statement.Stmt.{Stmt, fold-Stmt, fold-roll-Stmt}
-use Rattle.xmp_tree.specs.declared.statement.Stmt.TheOpen.{Stmt-F}
-use Rattle.xmp_tree.specs.declared.statement.Stmt.TheVariants as s
-use Rattle.xmp_walk.specs.Walk.{Run}
+use Rattle.xmp_syntax.specs.declared.parts.Inside.{Inside}
+use Rattle.xmp_syntax.specs.declared.expression.Expr.{Expr}
+use Rattle.xmp_syntax.specs.declared.declaration.Declaration.{Declaration}
+use Rattle.xmp_syntax.specs.declared.directive.DirectiveLine.{DirectiveLine}
+use Rattle.xmp_syntax.specs.declared.directive.LoopLine.{LoopLine}
+use Rattle.xmp_syntax.specs.declared.directive.TaskLine.{TaskLine}
+use Rattle.xmp_syntax.specs.declared.directive.Mapping.{Mapping}
+use Rattle.xmp_syntax.specs.declared.statement.Plain.{Plain}
+use Rattle.xmp_syntax.specs.declared.statement.ForHead.{ForHead}
+use Rattle.xmp_syntax.specs.declared.statement.BlockItem.{BlockItem}
+use Rattle.xmp_syntax.specs.declared.statement.BlockItem.TheVariants as b
+use Rattle.xmp_syntax.specs.declared.statement.Stmt.{Stmt, fold-Stmt, fold-roll-Stmt}
+use Rattle.xmp_syntax.specs.declared.statement.Stmt.TheOpen.{Stmt-F}
+use Rattle.xmp_syntax.specs.declared.statement.Stmt.TheVariants as s
+use Rattle.xmp_names.specs.Walk.{Run}
 use Rattle.xmp_walk.specs.Statements.{if_of, while_of, for_of}
-use Rattle.xmp_walk.specs.Directives.{loop_directive, lone_task, tasks_of}
-use Rattle.xmp_walk.specs.Program.{stmt_of, stmt_step, plain_of, block_of, inside_item, else_step, task_step}
+use Rattle.xmp_walk.specs.Program.{loop_directive, stmt_of, stmt_step, plain_of, block_of, inside_item, else_step, task_step}
+use Rattle.xmp_directives.specs.Directives.{lone_task, tasks_of}
 
 pub seen_plain : (x : Plain) → stmt_of (s.Plain x) ≡ plain_of x
 seen_plain x = ap stmt_of (sym (s.rolls-Plain x)) ∙ fold-roll-Stmt (Run made.Stmt) stmt_step (Stmt-F.Plain x)

@@ -8,29 +8,22 @@ use Rattle.xmp_prog.specs.declared.expressions.Expr as prog
 use Rattle.xmp_prog.specs.declared.statements.Stmt as made
 use Rattle.xmp_prog.specs.declared.statements.Stmt.TheVariants as s
 use Rattle.xmp_prog.specs.declared.statements.Plain.TheVariants as p
-use Rattle.xmp_tree.specs.declared.parts.Name as named
-use Rattle.xmp_tree.specs.declared.parts.Inside.{Inside}
-use Rattle.xmp_tree.specs.declared.parts.CommaList.{CommaList}
-use Rattle.xmp_tree.specs.declared.parts.TypeWords.{TypeWords}
-use Rattle.xmp_tree.specs.declared.parts.TypeWords.TheVariants as words
-use Rattle.xmp_tree.specs.declared.expression.Expr.{Expr}
-use Rattle.xmp_tree.specs.declared.declaration.Declarator.{Declarator}
-use Rattle.xmp_tree.specs.declared.declaration.Declarator.TheVariants as declarator
-use Rattle.xmp_tree.specs.declared.declaration.Declaration.{Declaration}
-use Rattle.xmp_walk.specs.declared.names.Meaning.TheVariants.{Array}
-use Rattle.xmp_walk.specs.declared.rules.Rule.TheVariants.{N8}
-use Rattle.xmp_walk.specs.declared.typed.Value.{Value}
-use Rattle.xmp_walk.specs.declared.typed.Value.TheVariants.{Named, Trapping, Known}
-use Rattle.xmp_walk.specs.Walk.{Gave, Run, ◌>>=◌, pure, each, all, judge, typed, typed_constant, declare, declare_scalar, stands_outermost, not_in_function}
+use Rattle.xmp_syntax.specs.declared.parts.Name as named
+use Rattle.xmp_syntax.specs.declared.parts.TypeWords.{TypeWords}
+use Rattle.xmp_syntax.specs.declared.parts.TypeWords.TheVariants as words
+use Rattle.xmp_syntax.specs.declared.expression.Expr.{Expr}
+use Rattle.xmp_syntax.specs.declared.declaration.Declarator.{Declarator}
+use Rattle.xmp_syntax.specs.declared.declaration.Declarator.TheVariants as declarator
+use Rattle.xmp_syntax.specs.declared.declaration.Declaration.{Declaration}
+use Rattle.xmp_names.specs.declared.names.Meaning.TheVariants.{Array}
+use Rattle.xmp_names.specs.declared.rules.Rule.TheVariants.{N8}
+use Rattle.xmp_names.specs.declared.typed.Value.{Value}
+use Rattle.xmp_names.specs.declared.typed.Value.TheVariants.{Named, Trapping, Known}
+use Rattle.xmp_names.specs.Lists.{listed, inner}
+use Rattle.xmp_names.specs.Sizes.{is_extent}
+use Rattle.xmp_names.specs.Walk.{Gave, Run, ◌>>=◌, pure, each, all, judge, typed, typed_constant, declare, declare_scalar, stands_outermost, not_in_function}
 
--- ---- lists of the grammar
-
--- The items of a list with commas, and the items between brackets.
-abbrev pub listed : {A : Type 0} → CommaList A → List A
-listed l = l.first ∷ map (λ n. n.item) l.more
-
-abbrev pub inner : {A : Type 0} → List (Inside A) → List A
-inner xs = map (λ x. x.item) xs
+-- ---- types
 
 -- The type that its words name.
 abbrev pub type_of : TypeWords → Ty
@@ -39,14 +32,6 @@ type_of (words.Long p) = Long
 type_of (words.LongInt p q) = Long
 
 -- ---- arrays
-
--- Whether a number is an extent or a size: 1 to 4,194,304.
-abbrev pub most_cells : ℕ
-most_cells = 4194304
-
-abbrev pub is_extent : ℤ → Bool
-is_extent (pos n) = nat_le 1 n && nat_le n most_cells
-is_extent (negsuc n) = false
 
 -- An extent as the typed program has it, 1 where it isn't one.
 abbrev pub extent_or_one : ℤ → ℕ

@@ -1,13 +1,4 @@
-pub mod Rules
-pub mod Typing
-pub mod Expressions
-pub mod Formats
 pub mod Counted
-pub mod Walk
-pub mod Numbers
 pub mod Declarations
 pub mod Statements
-pub mod Directives
-pub mod MappingLines
 pub mod Program
-pub mod MappingRules

@@ -5,40 +5,43 @@ use Rattle.xmp_base.specs.declared.place.Place.{Place}
 use Rattle.xmp_prog.specs.declared.statements.Stmt as made
 use Rattle.xmp_prog.specs.declared.statements.Stmt.TheVariants as s
 use Rattle.xmp_prog.specs.declared.parts.Function as made_function
-use Rattle.xmp_tree.specs.declared.parts.Name as named
-use Rattle.xmp_tree.specs.declared.parts.TypeWords.{TypeWords}
-use Rattle.xmp_tree.specs.declared.parts.TypeWords.TheVariants as words
-use Rattle.xmp_tree.specs.declared.declaration.Declarator.{Declarator}
-use Rattle.xmp_tree.specs.declared.declaration.Declarator.TheVariants as declarator
-use Rattle.xmp_tree.specs.declared.declaration.Declaration.{Declaration}
-use Rattle.xmp_tree.specs.declared.directive.TaskLine.{TaskLine}
-use Rattle.xmp_tree.specs.declared.statement.Plain.{Plain}
-use Rattle.xmp_tree.specs.declared.statement.Plain.TheVariants as plain
-use Rattle.xmp_tree.specs.declared.statement.BlockItem.{BlockItem}
-use Rattle.xmp_tree.specs.declared.statement.BlockItem.TheVariants as item
-use Rattle.xmp_tree.specs.declared.statement.Stmt.{Stmt, fold-Stmt, out-Stmt}
-use Rattle.xmp_tree.specs.declared.statement.Stmt.TheOpen.{Stmt-F}
-use Rattle.xmp_tree.specs.declared.program.Parameters.{Parameters}
-use Rattle.xmp_tree.specs.declared.program.Parameters.TheVariants as parameters
-use Rattle.xmp_tree.specs.declared.program.Function.{Function}
-use Rattle.xmp_tree.specs.declared.program.TopItem.{TopItem}
-use Rattle.xmp_tree.specs.declared.program.TopItem.TheVariants as top
-use Rattle.xmp_tree.specs.declared.program.Tree.{Tree}
+use Rattle.xmp_syntax.specs.declared.parts.Name as named
+use Rattle.xmp_syntax.specs.declared.parts.TypeWords.{TypeWords}
+use Rattle.xmp_syntax.specs.declared.parts.TypeWords.TheVariants as words
+use Rattle.xmp_syntax.specs.declared.declaration.Declarator.{Declarator}
+use Rattle.xmp_syntax.specs.declared.declaration.Declarator.TheVariants as declarator
+use Rattle.xmp_syntax.specs.declared.declaration.Declaration.{Declaration}
+use Rattle.xmp_syntax.specs.declared.directive.TaskLine.{TaskLine}
+use Rattle.xmp_syntax.specs.declared.directive.LoopLine.{LoopLine}
+use Rattle.xmp_syntax.specs.declared.statement.ForHead.{ForHead}
+use Rattle.xmp_syntax.specs.declared.statement.Plain.{Plain}
+use Rattle.xmp_syntax.specs.declared.statement.Plain.TheVariants as plain
+use Rattle.xmp_syntax.specs.declared.statement.BlockItem.{BlockItem}
+use Rattle.xmp_syntax.specs.declared.statement.BlockItem.TheVariants as item
+use Rattle.xmp_syntax.specs.declared.statement.Stmt.{Stmt, fold-Stmt, out-Stmt}
+use Rattle.xmp_syntax.specs.declared.statement.Stmt.TheOpen.{Stmt-F}
+use Rattle.xmp_syntax.specs.declared.program.Parameters.{Parameters}
+use Rattle.xmp_syntax.specs.declared.program.Parameters.TheVariants as parameters
+use Rattle.xmp_syntax.specs.declared.program.Function.{Function}
+use Rattle.xmp_syntax.specs.declared.program.TopItem.{TopItem}
+use Rattle.xmp_syntax.specs.declared.program.TopItem.TheVariants as top
+use Rattle.xmp_syntax.specs.declared.program.Tree.{Tree}
 use Rattle.xmp_scopes.specs.Names as scope
-use Rattle.xmp_walk.specs.declared.names.Region.{Region}
-use Rattle.xmp_walk.specs.declared.names.Region.TheVariants as region
-use Rattle.xmp_walk.specs.declared.names.Meaning.TheVariants as meaning
-use Rattle.xmp_walk.specs.declared.names.Signature.{Signature}
-use Rattle.xmp_walk.specs.declared.names.Environment.{Environment}
-use Rattle.xmp_walk.specs.declared.mappings.Mappings.{Mappings}
-use Rattle.xmp_walk.specs.declared.rules.Rule.TheVariants.{N7}
-use Rattle.xmp_walk.specs.declared.world.World.{World}
-use Rattle.xmp_walk.specs.Rules.{deeper}
-use Rattle.xmp_walk.specs.Walk.{Step, Gave, Run, ◌>>=◌, pure, each, judge, open_scope, close_scope, declare, declare_scalar}
-use Rattle.xmp_walk.specs.Declarations.{listed, type_of, local_declaration, file_declaration}
+use Rattle.xmp_names.specs.declared.names.Region.{Region}
+use Rattle.xmp_names.specs.declared.names.Region.TheVariants as region
+use Rattle.xmp_names.specs.declared.names.Meaning.TheVariants as meaning
+use Rattle.xmp_names.specs.declared.names.Signature.{Signature}
+use Rattle.xmp_names.specs.declared.names.Environment.{Environment}
+use Rattle.xmp_names.specs.declared.mappings.Mappings.{Mappings}
+use Rattle.xmp_names.specs.declared.rules.Rule.TheVariants.{N7}
+use Rattle.xmp_names.specs.declared.world.World.{World}
+use Rattle.xmp_names.specs.Rules.{deeper}
+use Rattle.xmp_names.specs.Walk.{Step, Gave, Run, ◌>>=◌, pure, each, judge, open_scope, close_scope, declare, declare_scalar}
+use Rattle.xmp_names.specs.Lists.{listed}
+use Rattle.xmp_walk.specs.Declarations.{type_of, local_declaration, file_declaration}
 use Rattle.xmp_walk.specs.Statements.{simple_of, return_of, print_of, scan_of, sync_of, if_of, while_of, for_of}
-use Rattle.xmp_walk.specs.Directives.{loop_directive, lone_task, tasks_of, reflect_of, barrier_of, bcast_of, gmove_of}
-use Rattle.xmp_walk.specs.MappingLines.{mapping_of}
+use Rattle.xmp_directives.specs.Directives.{loop_line, judged_loop, nest_of, lone_task, tasks_of, reflect_of, barrier_of, bcast_of, gmove_of}
+use Rattle.xmp_directives.specs.MappingLines.{mapping_of}
 
 -- ---- statements
 
@@ -54,6 +57,13 @@ plain_of (plain.Reflect line names) = reflect_of line names.item
 plain_of (plain.Barrier line) = barrier_of line
 plain_of (plain.Bcast line names from_at set) = bcast_of line names.item set
 plain_of (plain.Gmove line target equals source end) = gmove_of line target source
+
+-- A loop directive over the `for` under it (XcalableMP 1.4, section 4.4.3).
+abbrev pub loop_directive : LoopLine → ForHead → Run made.Stmt → Run made.Stmt
+loop_directive line h body = do
+  parts ← loop_line line
+  loop ← for_of h body
+  judged_loop line.line.word parts (nest_of (length parts.names) loop)
 
 -- What stands in a block, after the statements before it: a mapping becomes nothing.
 abbrev pub item_of : List made.Stmt → BlockItem (Run made.Stmt) → Run (List made.Stmt)

@@ -20,28 +20,28 @@ use Rattle.xmp_prog.specs.declared.statements.Stmt.TheOpen as Stmt-M
 use Rattle.xmp_prog.specs.declared.statements.Task.{Task}
 use Rattle.xmp_lex.specs.declared.token.Mark.{Mark}
 use Rattle.xmp_lex.specs.declared.token.Mark.TheVariants as m
-use Rattle.xmp_tree.specs.declared.parts.Name as named
-use Rattle.xmp_tree.specs.declared.parts.Format.{Format}
-use Rattle.xmp_tree.specs.declared.parts.Next.{Next}
-use Rattle.xmp_tree.specs.declared.parts.Reference.{Reference}
-use Rattle.xmp_tree.specs.declared.expression.Expr.{Expr, out-Expr}
-use Rattle.xmp_tree.specs.declared.expression.Expr.TheOpen as Expr-G
-use Rattle.xmp_tree.specs.declared.statement.Simple.{Simple}
-use Rattle.xmp_tree.specs.declared.statement.Simple.TheVariants as simple
-use Rattle.xmp_tree.specs.declared.statement.ForFirst.{ForFirst}
-use Rattle.xmp_tree.specs.declared.statement.ForFirst.TheVariants as for_first
-use Rattle.xmp_tree.specs.declared.statement.ForHead.{ForHead}
-use Rattle.xmp_walk.specs.declared.rules.Rule.TheVariants.{N1, N3, N4, N6, N7}
-use Rattle.xmp_walk.specs.declared.typed.Operand.{Operand}
+use Rattle.xmp_syntax.specs.declared.parts.Name as named
+use Rattle.xmp_syntax.specs.declared.parts.Format.{Format}
+use Rattle.xmp_syntax.specs.declared.parts.Next.{Next}
+use Rattle.xmp_syntax.specs.declared.parts.Reference.{Reference}
+use Rattle.xmp_syntax.specs.declared.expression.Expr.{Expr, out-Expr}
+use Rattle.xmp_syntax.specs.declared.expression.Expr.TheOpen as Expr-G
+use Rattle.xmp_syntax.specs.declared.statement.Simple.{Simple}
+use Rattle.xmp_syntax.specs.declared.statement.Simple.TheVariants as simple
+use Rattle.xmp_syntax.specs.declared.statement.ForFirst.{ForFirst}
+use Rattle.xmp_syntax.specs.declared.statement.ForFirst.TheVariants as for_first
+use Rattle.xmp_syntax.specs.declared.statement.ForHead.{ForHead}
+use Rattle.xmp_names.specs.declared.rules.Rule.TheVariants.{N1, N3, N4, N6, N7}
+use Rattle.xmp_names.specs.declared.typed.Operand.{Operand}
 use Rattle.xmp_walk.specs.declared.loops.First.{First}
 use Rattle.xmp_walk.specs.declared.loops.ForParts.{ForParts}
 use Rattle.xmp_walk.specs.declared.loops.Shape.{Shape}
-use Rattle.xmp_walk.specs.declared.operators.Operator.{Operator}
-use Rattle.xmp_walk.specs.declared.operators.Operator.TheVariants.{Arithmetic, Shift}
-use Rattle.xmp_walk.specs.Typing.{operand, operand_of, number, joint, value_type, is_of}
-use Rattle.xmp_walk.specs.Formats.{fits_format, is_scan_format}
+use Rattle.xmp_names.specs.declared.operators.Operator.{Operator}
+use Rattle.xmp_names.specs.declared.operators.Operator.TheVariants.{Arithmetic, Shift}
+use Rattle.xmp_names.specs.Typing.{operand, number, joint, value_type, is_of}
+use Rattle.xmp_names.specs.Formats.{fits_format, is_scan_format}
 use Rattle.xmp_walk.specs.Counted.{is_counted, bound_of, added_to}
-use Rattle.xmp_walk.specs.Walk.{Gave, Run, ◌>>=◌, pure, if_there, judge, typed, typed_reference, typed_call, typed_all, first_place, is_known, region_of, is_main, open_scope, close_scope, declare_scalar, not_in_function}
+use Rattle.xmp_names.specs.Walk.{Gave, Run, ◌>>=◌, pure, if_there, judge, typed, typed_reference, typed_call, typed_all, first_place, is_known, region_of, is_main, open_scope, close_scope, declare_scalar, not_in_function}
 
 -- ---- assignments and calls
 
@@ -78,7 +78,7 @@ set (Some (Shift o)) at t v = s.Plain (p.Set (target_of t.made) (Some (record { 
 set _ at t v = s.Plain (p.Set (target_of t.made) None v.made)
 
 abbrev pub one : Operand
-one = operand_of (number (pos 1) Int)
+one = (number (pos 1) Int).operand
 
 -- A call as a statement; one of a function that isn't declared has no effect.
 abbrev pub call_in : Expr-F prog.Expr Access → made.Stmt

@@ -3,277 +3,260 @@ ghost use Rattle.std.specs.Prelude.{◌≡◌, ◌<◌, ◌∷◌, ◌++◌, ◌
 ghost use Rattle.std.specs.List.{list_all};
 ghost use Rattle.std.specs.Option.{option_map};
 ghost use Rattle.xmp_prog.specs.declared.statements.Stmt.TheVariants as stmt;
-ghost use Rattle.xmp_walk.specs.Walk.{Does, and_then, close_scope, pure, typed};
-ghost use Rattle.xmp_walk.specs.Directives.{judged_loop, lone_task, loop_directive, made_task, nest_of, share, task_line, tasks_of};
+ghost use Rattle.xmp_names.specs.Walk.{Does, and_then, close_scope, pure, typed};
+ghost use Rattle.xmp_directives.specs.Directives.{judged_loop, lone_task, made_task, nest_of, share, task_line, tasks_of};
+ghost use Rattle.xmp_walk.specs.Program.{loop_directive, block_of, else_step, inside_item, plain_of, stmt_of, task_step};
 ghost use Rattle.xmp_walk.specs.Statements.{else_of, for_of, for_parts, if_of, loop_of, while_of};
-ghost use Rattle.xmp_walk.specs.Program.{block_of, else_step, inside_item, plain_of, stmt_of, task_step};
 
-use crate::loop_lines::{LoopParts, nest_of};
-use crate::loops::{ForParts, loop_of, while_statement};
-use crate::rules::Rule;
-use crate::typed::Operand;
-use crate::world::World;
+use crate::declarations::local_declaration;
+use crate::loops::{ForParts, boxed_typed, for_parts, loop_of, while_statement};
+use crate::statements::{print, return_of, scan, simple, sync};
 use sqlite_items::{Boxed, Items};
 use std::alloc::{AllocError, Global};
 use xmp_base::Place;
+use xmp_directives::{
+    LoopParts, barrier, bcast, gmove, judged_loop, keep_mapping, loop_line, nest_of, reflect,
+    task_line,
+};
 use xmp_map::NodeSet;
+use xmp_names::{Operand, World};
 use xmp_prog as prog;
-use xmp_tree::{BlockItem, DirectiveLine, Expr, ForHead, LoopLine, Plain, Stmt, TaskLine};
+use xmp_syntax::{BlockItem, DirectiveLine, Expr, ForHead, LoopLine, Plain, Stmt, TaskLine};
 
-impl World {
-    /// A statement with no statement inside.
-    pub(crate) fn plain(&mut self, alloc: Global, x: &Plain) -> Result<prog::Stmt, AllocError>
-        ensures { Does (plain_of x.now self.old) result self.new }
-    {
+/// A statement with no statement inside.
+pub(crate) fn plain(world: &mut World, alloc: Global, x: &Plain) -> Result<prog::Stmt, AllocError>
+    ensures { Does (plain_of x.now world.old) result world.new }
+{
+    match x {
+        Plain::Empty(_) => Ok(prog::Stmt::Block(Items::new(alloc))),
+        Plain::Simple(x, _) => simple(world, alloc, x),
+        Plain::Return(at, x, _) => return_of(world, alloc, false, *at, x),
+        Plain::Print(at, x, _) => print(world, alloc, *at, &x.item.0, x.item.1.as_slice()),
+        Plain::Scan(at, x, _) => scan(world, alloc, *at, &x.item.0, &x.item.3),
+        Plain::Sync(at, x, _) => sync(world, alloc, *at, &x.item.1),
+        Plain::Reflect(line, names) => reflect(world, alloc, *line, &names.item),
+        Plain::Barrier(line) => barrier(world, *line),
+        Plain::Bcast(line, names, _, set) => bcast(world, alloc, *line, &names.item, set),
+        Plain::Gmove(line, target, _, source, _) => gmove(world, alloc, *line, target, source),
+    }
+}
+
+/// A statement, and what stands in it.
+#[cycle(statement)]
+pub(crate) fn statement(
+    world: &mut World,
+    alloc: Global,
+    x: &Stmt,
+) -> Result<prog::Stmt, AllocError>
+    ensures { Does (stmt_of x.now world.old) result world.new }
+{
+    match x {
+        Stmt::Plain(x) => plain(world, alloc, x),
+        Stmt::Block(list) => block(world, alloc, list.item.as_slice()),
+        Stmt::If(_, test, body, other) => {
+            let begun = if_begun(world, alloc, body.get(), &test.item)?;
+            let no = else_of(world, alloc, other);
+            if_made(alloc, begun, no)
+        }
+        Stmt::While(at, test, body) => while_loop(world, alloc, body.get(), *at, &test.item),
+        Stmt::For(head, body) => for_loop(world, alloc, body.get(), head),
+        Stmt::Loop(line, head, body) => loop_statement(world, alloc, body.get(), line, head),
+        Stmt::Task(line, body) => lone_task(world, alloc, body.get(), line),
+        Stmt::Tasks(line, list) => tasks(world, alloc, list.item.as_slice(), *line),
+    }
+}
+
+#[cycle(statement)]
+fn block(
+    world: &mut World,
+    alloc: Global,
+    list: &[BlockItem<Boxed<Stmt>>],
+) -> Result<prog::Stmt, AllocError>
+    ensures { Does (block_of (map inside_item list.now) world.old) result world.new }
+{
+    world.open_scope()?;
+    let mut done = Items::new(alloc);
+    // Each arm goes on by itself: what it did is lost where arms join.
+    'list: for x in list {
         match x {
-            Plain::Empty(_) => Ok(prog::Stmt::Block(Items::new(alloc))),
-            Plain::Simple(x, _) => self.simple(alloc, x),
-            Plain::Return(at, x, _) => self.return_of(alloc, false, *at, x),
-            Plain::Print(at, x, _) => self.print(alloc, *at, &x.item.0, x.item.1.as_slice()),
-            Plain::Scan(at, x, _) => self.scan(alloc, *at, &x.item.0, &x.item.3),
-            Plain::Sync(at, x, _) => self.sync(alloc, *at, &x.item.1),
-            Plain::Reflect(line, names) => self.reflect(alloc, *line, &names.item),
-            Plain::Barrier(line) => self.barrier(*line),
-            Plain::Bcast(line, names, _, set) => self.bcast(alloc, *line, &names.item, set),
-            Plain::Gmove(line, target, _, source, _) => self.gmove(alloc, *line, target, source),
-        }
-    }
-
-    /// A statement, and what stands in it.
-    #[cycle(statement)]
-    pub(crate) fn statement(&mut self, alloc: Global, x: &Stmt) -> Result<prog::Stmt, AllocError>
-        ensures { Does (stmt_of x.now self.old) result self.new }
-    {
-        match x {
-            Stmt::Plain(x) => self.plain(alloc, x),
-            Stmt::Block(list) => self.block(alloc, list.item.as_slice()),
-            Stmt::If(_, test, body, other) => {
-                let begun = self.if_begun(alloc, body.get(), &test.item)?;
-                let no = self.else_of(alloc, other);
-                if_made(alloc, begun, no)
+            BlockItem::Mapping(mapping) => {
+                keep_mapping(world, alloc, mapping)?;
+                continue;
             }
-            Stmt::While(at, test, body) => self.while_loop(alloc, body.get(), *at, &test.item),
-            Stmt::For(head, body) => self.for_loop(alloc, body.get(), head),
-            Stmt::Loop(line, head, body) => self.loop_statement(alloc, body.get(), line, head),
-            Stmt::Task(line, body) => self.lone_task(alloc, body.get(), line),
-            Stmt::Tasks(line, tasks) => self.tasks(alloc, tasks.item.as_slice(), *line),
-        }
-    }
-
-    #[cycle(statement)]
-    fn block(
-        &mut self,
-        alloc: Global,
-        list: &[BlockItem<Boxed<Stmt>>],
-    ) -> Result<prog::Stmt, AllocError>
-        ensures { Does (block_of (map inside_item list.now) self.old) result self.new }
-    {
-        self.open_scope()?;
-        let mut done = Items::new(alloc);
-        // Each arm goes on by itself: what it did is lost where arms join.
-        'list: for x in list {
-            match x {
-                BlockItem::Mapping(mapping) => {
-                    self.mapping(alloc, mapping)?;
-                    continue;
-                }
-                BlockItem::Declaration(d) => {
-                    done = self.local_declaration(alloc, done, d)?;
-                    continue;
-                }
-                BlockItem::Stmt(body) => {
-                    let one = self.statement(alloc, body.get())?;
-                    done = pushed(done, one)?;
-                    continue;
-                }
+            BlockItem::Declaration(d) => {
+                done = local_declaration(world, alloc, done, d)?;
+                continue;
+            }
+            BlockItem::Stmt(body) => {
+                let one = statement(world, alloc, body.get())?;
+                done = pushed(done, one)?;
+                continue;
             }
         }
-        self.close_scope();
-        Ok(prog::Stmt::Block(done))
     }
+    world.close_scope();
+    Ok(prog::Stmt::Block(done))
+}
 
-    #[cycle(statement)]
-    fn else_of(
-        &mut self,
-        alloc: Global,
-        other: &Option<(Place, Boxed<Stmt>)>,
-    ) -> Result<prog::Stmt, AllocError>
-        ensures { Does (else_of (option_map else_step other.now) self.old) result self.new }
-    {
-        match other {
-            Some((_, other)) => self.statement(alloc, other.get()),
-            None => Ok(prog::Stmt::Block(Items::new(alloc))),
+#[cycle(statement)]
+fn else_of(
+    world: &mut World,
+    alloc: Global,
+    other: &Option<(Place, Boxed<Stmt>)>,
+) -> Result<prog::Stmt, AllocError>
+    ensures { Does (else_of (option_map else_step other.now) world.old) result world.new }
+{
+    match other {
+        Some((_, other)) => statement(world, alloc, other.get()),
+        None => Ok(prog::Stmt::Block(Items::new(alloc))),
+    }
+}
+
+// The condition of an `if`, and the statement for where it isn't 0.
+#[cycle(statement)]
+fn if_begun(
+    world: &mut World,
+    alloc: Global,
+    body: &Stmt,
+    test: &Expr,
+) -> Result<(Boxed<Operand>, Boxed<prog::Stmt>), AllocError>
+    ensures { Does (and_then (typed test.now world.old) (λ t. λ w. and_then (stmt_of body.now w) (λ a. pure (t, a)))) result world.new }
+{
+    let test = boxed_typed(world, alloc, test)?;
+    let made = statement(world, alloc, body)?;
+    let yes = Boxed::new(alloc, made)?;
+    Ok((test, yes))
+}
+
+#[cycle(statement)]
+fn while_loop(
+    world: &mut World,
+    alloc: Global,
+    body: &Stmt,
+    at: Place,
+    test: &Expr,
+) -> Result<prog::Stmt, AllocError>
+    ensures { Does (while_of at test.now (stmt_of body.now) world.old) result world.new }
+{
+    let test = boxed_typed(world, alloc, test)?;
+    let body = statement(world, alloc, body);
+    while_made(alloc, test, body, at)
+}
+
+#[cycle(statement)]
+fn for_loop(
+    world: &mut World,
+    alloc: Global,
+    body: &Stmt,
+    head: &ForHead,
+) -> Result<prog::Stmt, AllocError>
+    ensures { Does (for_of head.now (stmt_of body.now) world.old) result world.new }
+{
+    let parts = for_parts(world, alloc, head)?;
+    let body = statement(world, alloc, body);
+    for_made(world, alloc, head, parts, body)
+}
+
+#[cycle(statement)]
+fn loop_statement(
+    world: &mut World,
+    alloc: Global,
+    body: &Stmt,
+    line: &LoopLine,
+    head: &ForHead,
+) -> Result<prog::Stmt, AllocError>
+    ensures { Does (loop_directive line.now head.now (stmt_of body.now) world.old) result world.new }
+{
+    let parts = loop_line(world, alloc, line)?;
+    let made = for_loop(world, alloc, body, head);
+    loop_made(world, alloc, line.line.word, parts, made)
+}
+
+// The end of a `for`, whose body may have failed.
+fn for_made(
+    world: &mut World,
+    alloc: Global,
+    head: &ForHead,
+    parts: ForParts,
+    body: Result<prog::Stmt, AllocError>,
+) -> Result<prog::Stmt, AllocError>
+    ensures { MatchResult body (λ b. Does (and_then (close_scope world.old) (λ _. pure (loop_of head.now parts b))) result world.new) (λ _. IsErr result) }
+{
+    match body {
+        Ok(body) => {
+            world.close_scope();
+            let body = Boxed::new(alloc, body)?;
+            loop_of(alloc, head, parts, body)
         }
+        Err(e) => Err(e),
     }
+}
 
-    // The condition of an `if`, and the statement for where it isn't 0.
-    #[cycle(statement)]
-    fn if_begun(
-        &mut self,
-        alloc: Global,
-        body: &Stmt,
-        test: &Expr,
-    ) -> Result<(Operand, Boxed<prog::Stmt>), AllocError>
-        ensures { Does (and_then (typed test.now self.old) (λ t. λ w. and_then (stmt_of body.now w) (λ a. pure (t, a)))) result self.new }
-    {
-        let test = self.typed(alloc, test)?;
-        let made = self.statement(alloc, body)?;
-        let yes = Boxed::new(alloc, made)?;
-        Ok((test, yes))
+// The end of a loop directive, whose `for` may have failed.
+fn loop_made(
+    world: &mut World,
+    alloc: Global,
+    word: Place,
+    parts: LoopParts,
+    made: Result<prog::Stmt, AllocError>,
+) -> Result<prog::Stmt, AllocError>
+    ensures { MatchResult made (λ loop. Does (judged_loop word parts (nest_of (length parts.names) loop) world.old) result world.new) (λ _. IsErr result) }
+{
+    match made {
+        Ok(made) => nest_made(world, alloc, word, parts, made),
+        Err(e) => Err(e),
     }
+}
 
-    #[cycle(statement)]
-    fn while_loop(
-        &mut self,
-        alloc: Global,
-        body: &Stmt,
-        at: Place,
-        test: &Expr,
-    ) -> Result<prog::Stmt, AllocError>
-        ensures { Does (while_of at test.now (stmt_of body.now) self.old) result self.new }
-    {
-        let test = self.typed(alloc, test)?;
-        let body = self.statement(alloc, body);
-        while_made(alloc, test, body, at)
+fn nest_made(
+    world: &mut World,
+    alloc: Global,
+    word: Place,
+    parts: LoopParts,
+    made: prog::Stmt,
+) -> Result<prog::Stmt, AllocError>
+    ensures { Does (judged_loop word parts (nest_of (length parts.names) made) world.old) result world.new }
+{
+    let made = Boxed::new(alloc, made)?;
+    let nest = nest_of(alloc, parts.names.len(), made)?;
+    judged_loop(world, alloc, word, parts, nest)
+}
+
+// ---- tasks
+
+#[cycle(statement)]
+fn lone_task(
+    world: &mut World,
+    alloc: Global,
+    body: &Stmt,
+    line: &TaskLine,
+) -> Result<prog::Stmt, AllocError>
+    ensures { Does (lone_task line.now (stmt_of body.now) world.old) result world.new }
+{
+    let nodes = task_line(world, alloc, &[], line)?;
+    let body = statement(world, alloc, body);
+    task_made(alloc, nodes, body, line.line.word)
+}
+
+#[cycle(statement)]
+fn tasks(
+    world: &mut World,
+    alloc: Global,
+    list: &[(TaskLine, Boxed<Stmt>)],
+    line: DirectiveLine,
+) -> Result<prog::Stmt, AllocError>
+    ensures { Does (tasks_of line (map task_step list.now) world.old) result world.new }
+{
+    world.directive_at(line.word)?;
+    let mut before = Items::new(alloc);
+    let mut done = Items::new(alloc);
+    'list: for (head, body) in list {
+        let nodes = task_line(world, alloc, before.as_slice(), head)?;
+        before.push(nodes)?;
+        let body = statement(world, alloc, body.get())?;
+        done = task_pushed(done, nodes, body, head.line.word)?;
     }
-
-    #[cycle(statement)]
-    fn for_loop(
-        &mut self,
-        alloc: Global,
-        body: &Stmt,
-        head: &ForHead,
-    ) -> Result<prog::Stmt, AllocError>
-        ensures { Does (for_of head.now (stmt_of body.now) self.old) result self.new }
-    {
-        let parts = self.boxed_parts(alloc, head)?;
-        let body = self.statement(alloc, body);
-        self.for_made(alloc, head, parts, body)
-    }
-
-    #[cycle(statement)]
-    fn loop_statement(
-        &mut self,
-        alloc: Global,
-        body: &Stmt,
-        line: &LoopLine,
-        head: &ForHead,
-    ) -> Result<prog::Stmt, AllocError>
-        ensures { Does (loop_directive line.now head.now (stmt_of body.now) self.old) result self.new }
-    {
-        let parts = self.loop_line(alloc, line)?;
-        let made = self.for_loop(alloc, body, head);
-        self.loop_made(alloc, line.line.word, parts, made)
-    }
-
-    // The parts of a `for` in a box, since they are let go where its body fails.
-    fn boxed_parts(&mut self, alloc: Global, head: &ForHead) -> Result<Boxed<ForParts>, AllocError>
-        ensures { Does (for_parts head.now self.old) result self.new }
-    {
-        let parts = self.for_parts(alloc, head)?;
-        let boxed = Boxed::new(alloc, parts)?;
-        Ok(boxed)
-    }
-
-    // The end of a `for`, whose body may have failed.
-    fn for_made(
-        &mut self,
-        alloc: Global,
-        head: &ForHead,
-        parts: Boxed<ForParts>,
-        body: Result<prog::Stmt, AllocError>,
-    ) -> Result<prog::Stmt, AllocError>
-        ensures { MatchResult body (λ b. Does (and_then (close_scope self.old) (λ _. pure (loop_of head.now parts b))) result self.new) (λ _. IsErr result) }
-    {
-        match body {
-            Ok(body) => {
-                self.close_scope();
-                loop_of(alloc, head, parts.into_inner(), body)
-            }
-            Err(e) => Err(e),
-        }
-    }
-
-    // The end of a loop directive, whose `for` may have failed.
-    fn loop_made(
-        &mut self,
-        alloc: Global,
-        word: Place,
-        parts: LoopParts,
-        made: Result<prog::Stmt, AllocError>,
-    ) -> Result<prog::Stmt, AllocError>
-        ensures { MatchResult made (λ loop. Does (judged_loop word parts (nest_of (length parts.names) loop) self.old) result self.new) (λ _. IsErr result) }
-    {
-        match made {
-            Ok(made) => self.nest_made(alloc, word, parts, made),
-            Err(e) => Err(e),
-        }
-    }
-
-    fn nest_made(
-        &mut self,
-        alloc: Global,
-        word: Place,
-        parts: LoopParts,
-        made: prog::Stmt,
-    ) -> Result<prog::Stmt, AllocError>
-        ensures { Does (judged_loop word parts (nest_of (length parts.names) made) self.old) result self.new }
-    {
-        let nest = nest_of(alloc, parts.names.len(), made)?;
-        self.judged_loop(alloc, word, parts, nest)
-    }
-
-    // ---- tasks
-
-    // The line of a task behind others of the same `tasks`, whose sets come first.
-    fn task_line(
-        &mut self,
-        alloc: Global,
-        before: &[NodeSet],
-        line: &TaskLine,
-    ) -> Result<NodeSet, AllocError>
-        ensures { Does (task_line before.now line.now self.old) result self.new }
-    {
-        self.directive_at(line.line.word)?;
-        let nodes = self.node_set(alloc, false, line.line.word, &line.set)?;
-        self.judge(is_apart(before, nodes), Rule::M9, line.line.word)?;
-        Ok(nodes)
-    }
-
-    #[cycle(statement)]
-    fn lone_task(
-        &mut self,
-        alloc: Global,
-        body: &Stmt,
-        line: &TaskLine,
-    ) -> Result<prog::Stmt, AllocError>
-        ensures { Does (lone_task line.now (stmt_of body.now) self.old) result self.new }
-    {
-        let nodes = self.task_line(alloc, &[], line)?;
-        let body = self.statement(alloc, body);
-        task_made(alloc, nodes, body, line.line.word)
-    }
-
-    #[cycle(statement)]
-    fn tasks(
-        &mut self,
-        alloc: Global,
-        list: &[(TaskLine, Boxed<Stmt>)],
-        line: DirectiveLine,
-    ) -> Result<prog::Stmt, AllocError>
-        ensures { Does (tasks_of line (map task_step list.now) self.old) result self.new }
-    {
-        self.directive_at(line.word)?;
-        let mut before = Items::new(alloc);
-        let mut done = Items::new(alloc);
-        'list: for (head, body) in list {
-            let nodes = self.task_line(alloc, before.as_slice(), head)?;
-            before.push(nodes)?;
-            let body = self.statement(alloc, body.get())?;
-            done = task_pushed(done, nodes, body, head.line.word)?;
-        }
-        Ok(prog::Stmt::Tasks(done, line.word))
-    }
+    Ok(prog::Stmt::Tasks(done, line.word))
 }
 
 fn task_pushed(
@@ -300,40 +283,44 @@ pub(crate) fn pushed(
 
 fn if_made(
     alloc: Global,
-    begun: (Operand, Boxed<prog::Stmt>),
+    begun: (Boxed<Operand>, Boxed<prog::Stmt>),
     no: Result<prog::Stmt, AllocError>,
 ) -> Result<prog::Stmt, AllocError>
     ensures { MatchResult no (λ b. IfOk result (λ s. s ≡ stmt.If begun.0.made begun.1 b)) (λ _. IsErr result) }
 {
     let (test, yes) = begun;
     match no {
-        Ok(no) => if_of_parts(alloc, test.made, yes, no),
+        Ok(no) => if_of_parts(alloc, test, yes, no),
         Err(e) => Err(e),
     }
 }
 
 fn if_of_parts(
     alloc: Global,
-    test: prog::Expr,
+    test: Boxed<Operand>,
     yes: Boxed<prog::Stmt>,
     no: prog::Stmt,
 ) -> Result<prog::Stmt, AllocError>
-    ensures { IfOk result (λ s. s ≡ stmt.If test yes no) }
+    ensures { IfOk result (λ s. s ≡ stmt.If test.made yes no) }
 {
     let no = Boxed::new(alloc, no)?;
-    Ok(prog::Stmt::If(test, yes, no))
+    let Operand { made, .. } = test.into_inner();
+    Ok(prog::Stmt::If(made, yes, no))
 }
 
 fn while_made(
     alloc: Global,
-    test: Operand,
+    test: Boxed<Operand>,
     body: Result<prog::Stmt, AllocError>,
     at: Place,
 ) -> Result<prog::Stmt, AllocError>
     ensures { MatchResult body (λ b. IfOk result (λ s. s ≡ stmt.While test.made b at)) (λ _. IsErr result) }
 {
     match body {
-        Ok(body) => while_statement(alloc, test.made, body, at),
+        Ok(body) => {
+            let Operand { made, .. } = test.into_inner();
+            while_statement(alloc, made, body, at)
+        }
         Err(e) => Err(e),
     }
 }
@@ -354,36 +341,4 @@ fn task_made(
         }
         Err(e) => Err(e),
     }
-}
-
-fn share(a: NodeSet, b: NodeSet) -> bool
-    ensures { result ≡ share a b }
-{
-    let [first_x, first_y, first_z] = a.first;
-    let [many_x, many_y, many_z] = a.many;
-    let [other_x, other_y, other_z] = b.first;
-    let [count_x, count_y, count_z] = b.many;
-    let x = overlap(first_x, many_x, other_x, count_x);
-    let y = overlap(first_y, many_y, other_y, count_y);
-    let z = overlap(first_z, many_z, other_z, count_z);
-    x && y && z
-}
-
-// Whether two ranges of nodes overlap.
-fn overlap(first: u32, many: u32, other: u32, count: u32) -> bool
-    ensures { result ≡ (nat_lt first (other + count) && nat_lt other (first + many)) }
-{
-    u64::from(first) < u64::from(other) + u64::from(count)
-        && u64::from(other) < u64::from(first) + u64::from(many)
-}
-
-fn is_apart(before: &[NodeSet], nodes: NodeSet) -> bool
-    ensures { result ≡ list_all (λ other. not (share other nodes)) before.now }
-{
-    'sets: for other in before {
-        if share(*other, nodes) {
-            return false;
-        }
-    }
-    true
 }

@@ -2,59 +2,59 @@
 ghost use Rattle.std.specs.Prelude.{◌≡◌, IfOk};
 ghost use Rattle.std.specs.List.{list_any};
 ghost use Rattle.std.specs.Option.{option_map};
-ghost use Rattle.xmp_walk.specs.Walk.{Does, Gave};
+ghost use Rattle.xmp_names.specs.Walk.{Does, Gave};
 ghost use Rattle.xmp_walk.specs.Program.{coarray_declaration, coarray_declarator, coarray_else, coarray_in, coarray_stmt, coarray_top, else_has, last_top, no_mappings, program_of, start_names, start_world, top_of, tops_of};
 
-use crate::mappings::Mappings;
-use crate::names::{Environment, Region};
-use crate::world::World;
+use crate::declarations::file_declaration;
+use crate::functions::{function_of, main_of};
 use sqlite_items::{Boxed, Items};
 use std::alloc::{AllocError, Global};
+use std::mem::drop;
 use xmp_base::Place;
+use xmp_directives::keep_mapping;
+use xmp_names::{Environment, Mappings, Region, World};
 use xmp_prog as prog;
 use xmp_scopes::Scopes;
-use xmp_tree::{BlockItem, Declaration, Declarator, Stmt, TaskLine, TopItem, Tree};
+use xmp_syntax::{BlockItem, Declaration, Declarator, Stmt, TaskLine, TopItem, Tree};
 
-impl World {
-    fn top(&mut self, alloc: Global, x: &TopItem) -> Result<(), AllocError>
-        ensures { Does (top_of x.now self.old) result self.new }
-    {
-        match x {
-            TopItem::Mapping(mapping) => self.mapping(alloc, mapping),
-            TopItem::Declaration(d) => self.file_declaration(alloc, d),
-            TopItem::Function(f) => self.function(alloc, f),
-        }
+fn top(world: &mut World, alloc: Global, x: &TopItem) -> Result<(), AllocError>
+    ensures { Does (top_of x.now world.old) result world.new }
+{
+    match x {
+        TopItem::Mapping(mapping) => keep_mapping(world, alloc, mapping),
+        TopItem::Declaration(d) => file_declaration(world, alloc, d),
+        TopItem::Function(f) => function_of(world, alloc, f),
     }
+}
 
-    fn last_top(&mut self, alloc: Global, x: &TopItem) -> Result<prog::Stmt, AllocError>
-        ensures { Does (last_top x.now self.old) result self.new }
-    {
-        match x {
-            TopItem::Mapping(mapping) => {
-                self.mapping(alloc, mapping)?;
-                Ok(prog::Stmt::Block(Items::new(alloc)))
-            }
-            TopItem::Declaration(d) => {
-                self.file_declaration(alloc, d)?;
-                Ok(prog::Stmt::Block(Items::new(alloc)))
-            }
-            TopItem::Function(f) => self.main(alloc, f),
+fn last_top(world: &mut World, alloc: Global, x: &TopItem) -> Result<prog::Stmt, AllocError>
+    ensures { Does (last_top x.now world.old) result world.new }
+{
+    match x {
+        TopItem::Mapping(mapping) => {
+            keep_mapping(world, alloc, mapping)?;
+            Ok(prog::Stmt::Block(Items::new(alloc)))
         }
+        TopItem::Declaration(d) => {
+            file_declaration(world, alloc, d)?;
+            Ok(prog::Stmt::Block(Items::new(alloc)))
+        }
+        TopItem::Function(f) => main_of(world, alloc, f),
     }
+}
 
-    fn tops(&mut self, alloc: Global, list: &[TopItem]) -> Result<prog::Stmt, AllocError>
-        ensures { Does (tops_of list.now self.old) result self.new }
-    {
-        let mut left = list.len();
-        'list: for x in list {
-            if left == 1 {
-                return self.last_top(alloc, x);
-            }
-            self.top(alloc, x)?;
-            left -= 1;
+fn tops(world: &mut World, alloc: Global, list: &[TopItem]) -> Result<prog::Stmt, AllocError>
+    ensures { Does (tops_of list.now world.old) result world.new }
+{
+    let mut left = list.len();
+    'list: for x in list {
+        if left == 1 {
+            return last_top(world, alloc, x);
         }
-        Ok(prog::Stmt::Block(Items::new(alloc)))
+        top(world, alloc, x)?;
+        left -= 1;
     }
+    Ok(prog::Stmt::Block(Items::new(alloc)))
 }
 
 // ---- whether a program declares a coarray
@@ -232,7 +232,14 @@ pub fn walk_program(
     ensures count { IfOk result (λ r. r.1.given ≡ given) }
 {
     let mut world = start_world(alloc, given, has_coarray(t))?;
-    let body = world.tops(alloc, t.parts.as_slice())?;
-    world.given = given;
-    Ok((body, world))
+    match tops(&mut world, alloc, t.parts.as_slice()) {
+        Ok(body) => {
+            world.given = given;
+            Ok((body, world))
+        }
+        Err(e) => {
+            drop(world);
+            Err(e)
+        }
+    }
 }

@@ -5,14 +5,13 @@ ghost use Rattle.xmp_prog.specs.declared.statements.Stmt.{out-Stmt};
 ghost use Rattle.xmp_walk.specs.Counted.{bound_of};
 ghost use Rattle.xmp_walk.specs.Statements.{added_by, added_plain, compared_at, is_bump, shape_at, shape_by, shape_of};
 
-use crate::constants::first_place;
 use crate::counted::{added_to, bound_of, is_counted};
 use crate::loops::{ForParts, Shape};
-use crate::typed::Operand;
 use xmp_base::Place;
+use xmp_names::{Operand, first_place};
 use xmp_num::{BinOp, Ty};
 use xmp_prog as prog;
-use xmp_tree::{Expr, ForHead, Simple};
+use xmp_syntax::{Expr, ForHead, Simple};
 
 // The place of what a comparison compares with.
 fn compared_at(test: &Option<Expr>) -> Option<Place>
@@ -136,7 +135,9 @@ pub(crate) fn shape_of(head: &ForHead, parts: &ForParts, body: &prog::Stmt) -> O
     ensures { result ≡ shape_of head.now parts.now.first parts.now.test parts.now.next body.now }
 {
     match (&parts.first, &parts.test, &parts.next) {
-        (Some(first), Some(test), Some(next)) => shape_at(head, &first.target, test, next, body),
+        (Some(first), Some(test), Some(next)) => {
+            shape_at(head, &first.get().target, test.get(), next.get(), body)
+        }
         _ => None,
     }
 }

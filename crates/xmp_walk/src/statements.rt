@@ -2,24 +2,21 @@
 ghost use Rattle.std.specs.Prelude.{◌≡◌, ◌||◌, IfOk, map, not};
 ghost use Rattle.xmp_prog.specs.declared.statements.Stmt.TheVariants as stmt;
 ghost use Rattle.xmp_prog.specs.declared.statements.Plain.TheVariants as plain;
-ghost use Rattle.xmp_walk.specs.Walk.{Does, finished_all, is_main, typed_all};
+ghost use Rattle.xmp_names.specs.Walk.{Does, finished_all, is_main, typed_all};
 ghost use Rattle.xmp_walk.specs.Statements.{call_statement, compound_of, is_scalar_target, one, print_of, return_of, returned, scan_of, set, simple_of, sync_of, target_name, target_of};
 
-use crate::constants::first_place;
-use crate::formats::{fits_format, is_scan_format};
-use crate::names::Region;
-use crate::operators::{Operator, as_type, joint, value_type};
-use crate::rules::{Rule, no_notes};
-use crate::typed::{Operand, Parts, Value};
-use crate::walk::{is_known, is_main};
-use crate::world::World;
 use sqlite_items::{Boxed, Items};
 use std::alloc::{AllocError, Global};
+use std::mem::drop;
 use xmp_base::{Bytes, Place};
 use xmp_lex::Mark;
+use xmp_names::{
+    Operand, Operator, Parts, Region, Rule, Value, World, as_type, first_place, fits_format,
+    is_known, is_main, is_scan_format, joint, no_notes, value_type,
+};
 use xmp_num::{BinOp, Ty};
 use xmp_prog as prog;
-use xmp_tree::{Call, Expr, Format, Next, Placed, Reference, Simple};
+use xmp_syntax::{Call, Expr, Format, Next, Placed, Reference, Simple};
 
 // What an assignment writes.
 fn target_of(made: prog::Expr) -> prog::Target
@@ -75,9 +72,16 @@ pub(crate) fn set(
     match op {
         Some(Operator::Arithmetic(op)) => {
             let ty = value_type(joint(target.ty, value.ty));
-            let value = as_type(alloc, ty, value)?;
-            let compound = Some(prog::Compound { op, ty, at });
-            Ok(assigned(target.made, compound, value))
+            match as_type(alloc, ty, value) {
+                Ok(value) => {
+                    let compound = Some(prog::Compound { op, ty, at });
+                    Ok(assigned(target.made, compound, value))
+                }
+                Err(e) => {
+                    drop(target);
+                    Err(e)
+                }
+            }
         }
         Some(Operator::Shift(op)) => {
             let ty = value_type(target.ty);
@@ -112,171 +116,180 @@ fn call_statement(alloc: Global, made: prog::Expr) -> prog::Stmt
     }
 }
 
-impl World {
-    /// An assignment, an increment or decrement, or a call.
-    pub fn simple(&mut self, alloc: Global, x: &Simple) -> Result<prog::Stmt, AllocError>
-        ensures { Does (simple_of x.now self.old) result self.new }
-    {
-        match x {
-            Simple::Assign(r, op, value) => self.assign(alloc, r, *op, value),
-            Simple::Postfix(r, op) => self.postfix(alloc, r, *op),
-            Simple::Prefix(op, r) => self.prefix(alloc, *op, r),
-            Simple::Call(call) => self.call(alloc, call),
+/// An assignment, an increment or decrement, or a call.
+pub fn simple(world: &mut World, alloc: Global, x: &Simple) -> Result<prog::Stmt, AllocError>
+    ensures { Does (simple_of x.now world.old) result world.new }
+{
+    match x {
+        Simple::Assign(r, op, value) => assign(world, alloc, r, *op, value),
+        Simple::Postfix(r, op) => postfix(world, alloc, r, *op),
+        Simple::Prefix(op, r) => prefix(world, alloc, *op, r),
+        Simple::Call(call) => called(world, alloc, call),
+    }
+}
+
+fn assign(
+    world: &mut World,
+    alloc: Global,
+    r: &Reference<Boxed<Expr>>,
+    op: Placed<Mark>,
+    value: &Expr,
+) -> Result<prog::Stmt, AllocError>
+    ensures { Does (simple_of (Simple.Assign r.now op value.now) world.old) result world.new }
+{
+    let target = world.typed_reference(alloc, r)?;
+    let value = world.typed(alloc, value)?;
+    let made = set(alloc, compound_of(op.what), op.at, target, value)?;
+    Ok(made)
+}
+
+fn postfix(
+    world: &mut World,
+    alloc: Global,
+    r: &Reference<Boxed<Expr>>,
+    op: Placed<Mark>,
+) -> Result<prog::Stmt, AllocError>
+    ensures { Does (simple_of (Simple.Postfix r.now op) world.old) result world.new }
+{
+    let target = world.typed_reference(alloc, r)?;
+    let made = set(alloc, compound_of(op.what), op.at, target, one())?;
+    Ok(made)
+}
+
+fn prefix(
+    world: &mut World,
+    alloc: Global,
+    op: Placed<Mark>,
+    r: &Reference<Boxed<Expr>>,
+) -> Result<prog::Stmt, AllocError>
+    ensures { Does (simple_of (Simple.Prefix op r.now) world.old) result world.new }
+{
+    let target = world.typed_reference(alloc, r)?;
+    let made = set(alloc, compound_of(op.what), op.at, target, one())?;
+    Ok(made)
+}
+
+fn called(
+    world: &mut World,
+    alloc: Global,
+    call: &Call<Boxed<Expr>>,
+) -> Result<prog::Stmt, AllocError>
+    ensures { Does (simple_of (Simple.Call call.now) world.old) result world.new }
+{
+    let Operand { made, .. } = world.typed_call(alloc, call)?;
+    Ok(call_statement(alloc, made))
+}
+
+/// `return`, and whether it is the last statement of its function.
+pub fn return_of(
+    world: &mut World,
+    alloc: Global,
+    is_last: bool,
+    at: Place,
+    x: &Expr,
+) -> Result<prog::Stmt, AllocError>
+    ensures { Does (return_of is_last at x.now world.old) result world.new }
+{
+    let right = may_return(world.names.region, is_last);
+    world.judge(right, Rule::N7, at)?;
+    let value = returned(world, alloc, x)?;
+    Ok(return_statement(value))
+}
+
+// The value of a `return`.
+fn returned(world: &mut World, alloc: Global, x: &Expr) -> Result<Operand, AllocError>
+    ensures { Does (returned x.now world.old) result world.new }
+{
+    let main = is_main(world.names.region);
+    let typed = world.typed(alloc, x)?;
+    match world.judge(!main || is_known(typed.value), Rule::N4, first_place(x)) {
+        Ok(()) => Ok(typed),
+        Err(e) => {
+            drop(typed);
+            Err(e)
         }
     }
+}
 
-    fn assign(
-        &mut self,
-        alloc: Global,
-        r: &Reference<Boxed<Expr>>,
-        op: Placed<Mark>,
-        value: &Expr,
-    ) -> Result<prog::Stmt, AllocError>
-        ensures { Does (simple_of (Simple.Assign r.now op value.now) self.old) result self.new }
-    {
-        let target = self.typed_reference(alloc, r)?;
-        let value = self.typed(alloc, value)?;
-        let made = set(alloc, compound_of(op.what), op.at, target, value)?;
-        Ok(made)
-    }
+// The arguments of a `printf`.
+fn typed_all(world: &mut World, alloc: Global, list: &[Next<Expr>]) -> Result<Parts, AllocError>
+    ensures { Does (typed_all list.now world.old) result world.new }
+{
+    let Parts { made, types, notes } = world.names.values(alloc, list)?;
+    world.note(notes)?;
+    Ok(Parts {
+        made,
+        types,
+        notes: no_notes(alloc),
+    })
+}
 
-    fn postfix(
-        &mut self,
-        alloc: Global,
-        r: &Reference<Boxed<Expr>>,
-        op: Placed<Mark>,
-    ) -> Result<prog::Stmt, AllocError>
-        ensures { Does (simple_of (Simple.Postfix r.now op) self.old) result self.new }
-    {
-        let target = self.typed_reference(alloc, r)?;
-        let made = set(alloc, compound_of(op.what), op.at, target, one())?;
-        Ok(made)
-    }
+/// `printf`
+pub fn print(
+    world: &mut World,
+    alloc: Global,
+    at: Place,
+    format: &Format,
+    list: &[Next<Expr>],
+) -> Result<prog::Stmt, AllocError>
+    ensures { Does (print_of at format.now list.now world.old) result world.new }
+{
+    world.not_in_function(at)?;
+    let Parts { made, types, .. } = typed_all(world, alloc, list)?;
+    let fits = fits_format(alloc, format.text.as_slice(), types.as_slice())?;
+    world.judge(fits, Rule::N6, format.at)?;
+    let text = copied(alloc, format.text.as_slice())?;
+    Ok(prog::Stmt::Plain(prog::Plain::Print {
+        format: text,
+        arguments: made,
+        at,
+    }))
+}
 
-    fn prefix(
-        &mut self,
-        alloc: Global,
-        op: Placed<Mark>,
-        r: &Reference<Boxed<Expr>>,
-    ) -> Result<prog::Stmt, AllocError>
-        ensures { Does (simple_of (Simple.Prefix op r.now) self.old) result self.new }
-    {
-        let target = self.typed_reference(alloc, r)?;
-        let made = set(alloc, compound_of(op.what), op.at, target, one())?;
-        Ok(made)
-    }
-
-    fn call(&mut self, alloc: Global, call: &Call<Boxed<Expr>>) -> Result<prog::Stmt, AllocError>
-        ensures { Does (simple_of (Simple.Call call.now) self.old) result self.new }
-    {
-        let Operand { made, .. } = self.typed_call(alloc, call)?;
-        Ok(call_statement(alloc, made))
-    }
-
-    /// `return`, and whether it is the last statement of its function.
-    pub fn return_of(
-        &mut self,
-        alloc: Global,
-        is_last: bool,
-        at: Place,
-        x: &Expr,
-    ) -> Result<prog::Stmt, AllocError>
-        ensures { Does (return_of is_last at x.now self.old) result self.new }
-    {
-        let right = may_return(self.names.region, is_last);
-        self.judge(right, Rule::N7, at)?;
-        let value = self.returned(alloc, x)?;
-        Ok(return_statement(value))
-    }
-
-    // The value of a `return`.
-    fn returned(&mut self, alloc: Global, x: &Expr) -> Result<Operand, AllocError>
-        ensures { Does (returned x.now self.old) result self.new }
-    {
-        let main = is_main(self.names.region);
-        let typed = self.typed(alloc, x)?;
-        self.judge(!main || is_known(typed.value), Rule::N4, first_place(x))?;
-        Ok(typed)
-    }
-
-    // The arguments of a `printf`.
-    fn typed_all(&mut self, alloc: Global, list: &[Next<Expr>]) -> Result<Parts, AllocError>
-        ensures { Does (typed_all list.now self.old) result self.new }
-    {
-        let Parts { made, types, notes } = self.names.values(alloc, list)?;
-        self.note(notes)?;
-        Ok(Parts {
-            made,
-            types,
-            notes: no_notes(alloc),
-        })
-    }
-
-    /// `printf`
-    pub fn print(
-        &mut self,
-        alloc: Global,
-        at: Place,
-        format: &Format,
-        list: &[Next<Expr>],
-    ) -> Result<prog::Stmt, AllocError>
-        ensures { Does (print_of at format.now list.now self.old) result self.new }
-    {
-        self.not_in_function(at)?;
-        let Parts { made, types, .. } = self.typed_all(alloc, list)?;
-        let fits = fits_format(alloc, format.text.as_slice(), types.as_slice())?;
-        self.judge(fits, Rule::N6, format.at)?;
-        let text = copied(alloc, format.text.as_slice())?;
-        Ok(prog::Stmt::Plain(prog::Plain::Print {
-            format: text,
-            arguments: made,
-            at,
-        }))
-    }
-
-    /// `scanf`
-    pub fn scan(
-        &mut self,
-        alloc: Global,
-        at: Place,
-        format: &Format,
-        r: &Reference<Boxed<Expr>>,
-    ) -> Result<prog::Stmt, AllocError>
-        ensures { Does (scan_of at format.now r.now self.old) result self.new }
-    {
-        self.not_in_function(at)?;
-        let Operand { made, ty, .. } = self.typed_reference(alloc, r)?;
-        self.judge(
-            is_scan_format(format.text.as_slice(), ty),
-            Rule::N6,
-            format.at,
-        )?;
-        Ok(prog::Stmt::Plain(prog::Plain::Scan {
+/// `scanf`
+pub fn scan(
+    world: &mut World,
+    alloc: Global,
+    at: Place,
+    format: &Format,
+    r: &Reference<Boxed<Expr>>,
+) -> Result<prog::Stmt, AllocError>
+    ensures { Does (scan_of at format.now r.now world.old) result world.new }
+{
+    world.not_in_function(at)?;
+    let Operand { made, ty, .. } = world.typed_reference(alloc, r)?;
+    let fits = is_scan_format(format.text.as_slice(), ty);
+    match world.judge(fits, Rule::N6, format.at) {
+        Ok(()) => Ok(prog::Stmt::Plain(prog::Plain::Scan {
             target: target_of(made),
             at,
-        }))
+        })),
+        Err(e) => {
+            drop(made);
+            Err(e)
+        }
     }
+}
 
-    /// `xmp_sync_all`
-    pub fn sync(
-        &mut self,
-        alloc: Global,
-        at: Place,
-        r: &Reference<Boxed<Expr>>,
-    ) -> Result<prog::Stmt, AllocError>
-        ensures { Does (sync_of at r.now self.old) result self.new }
-    {
-        let known = self.names.coarray;
-        self.judge(known, Rule::N1, at)?;
-        self.not_in_function(at)?;
-        let Operand { made, .. } = self.typed_reference(alloc, r)?;
-        let target = target_of(made);
-        self.judge(is_scalar_target(&target), Rule::N3, r.name.at)?;
-        Ok(prog::Stmt::Plain(prog::Plain::Sync {
-            status: target_name(&target),
-            at,
-        }))
-    }
+/// `xmp_sync_all`
+pub fn sync(
+    world: &mut World,
+    alloc: Global,
+    at: Place,
+    r: &Reference<Boxed<Expr>>,
+) -> Result<prog::Stmt, AllocError>
+    ensures { Does (sync_of at r.now world.old) result world.new }
+{
+    let known = world.names.coarray;
+    world.judge(known, Rule::N1, at)?;
+    world.not_in_function(at)?;
+    let Operand { made, .. } = world.typed_reference(alloc, r)?;
+    let target = target_of(made);
+    world.judge(is_scalar_target(&target), Rule::N3, r.name.at)?;
+    Ok(prog::Stmt::Plain(prog::Plain::Sync {
+        status: target_name(&target),
+        at,
+    }))
 }
 
 // Whether a `return` stands where it may: main's is its last statement.

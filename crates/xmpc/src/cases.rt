@@ -8,17 +8,17 @@ use xmp_base::{MemFiles, MemSink, Status};
 /// What a run of the words gives over a file `f`, of these pieces of text, and a file `g`, which may be an input. The reads and the
 /// writes of these numbers fail, where a number isn't 0, and `out` takes at most so many bytes at once.
 #[derive(Clone, Copy)]
-pub(crate) struct Case {
-    pub(crate) words: &'static [&'static str],
-    pub(crate) text: &'static [&'static str],
-    pub(crate) input: &'static str,
+pub(crate) struct Case<'a> {
+    pub(crate) words: &'a [&'a str],
+    pub(crate) text: &'a [&'a str],
+    pub(crate) input: &'a str,
     pub(crate) read_fails: u64,
     pub(crate) out_fails: u64,
     pub(crate) err_fails: u64,
     pub(crate) most: usize,
     pub(crate) status: Status,
-    pub(crate) out: &'static str,
-    pub(crate) err: &'static str,
+    pub(crate) out: &'a str,
+    pub(crate) err: &'a str,
 }
 
 /// A run of `serial` over an empty text that ends and prints nothing, in which nothing fails.

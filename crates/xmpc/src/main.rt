@@ -81,4 +81,6 @@ mod cases;
 #[cfg(test)]
 mod rows;
 #[cfg(test)]
+mod runs;
+#[cfg(test)]
 mod tests;

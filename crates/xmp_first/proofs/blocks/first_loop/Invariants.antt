@@ -1,5 +1,5 @@
 use Rattle.std.proofs.Common.{◌≡◌, ◌-◌}
-use Rattle.xmp_serial.specs.FirstTree.{tree_of}
+use Rattle.xmp_first.specs.FirstTree.{tree_of}
 use Rattle.xmp_first.specs.Blocks.{cells_from}
 use Rattle.xmp_first.proofs.blocks.first_loop.Given as goal
 

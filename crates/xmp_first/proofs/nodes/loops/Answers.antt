@@ -4,8 +4,8 @@ use Rattle.xmp_num.specs.declared.types.Ty.TheVariants.{Int}
 use Rattle.xmp_num.specs.Arithmetic.{wrap}
 use Rattle.xmp_dist.specs.declared.form.Dist.TheVariants.{Block}
 use Rattle.xmp_dist.specs.Table.{chunk_start}
-use Rattle.xmp_serial.specs.FirstMeaning.{total}
-use Rattle.xmp_serial.specs.FirstTree.{tree_of}
+use Rattle.xmp_first.specs.FirstMeaning.{total}
+use Rattle.xmp_first.specs.FirstTree.{tree_of}
 use Rattle.xmp_first.specs.Nodes.{tabulate}
 use Rattle.xmp_first.specs.Blocks.{block_of, summed}
 use Rattle.xmp_first.proofs.Tables.{tabulate-more}

@@ -1,6 +1,6 @@
 use Rattle.std.proofs.Common.{◌≡◌}
-use Rattle.xmp_serial.specs.FirstMeaning.{total}
-use Rattle.xmp_serial.specs.FirstTree.{tree_of}
+use Rattle.xmp_first.specs.FirstMeaning.{total}
+use Rattle.xmp_first.specs.FirstTree.{tree_of}
 use Rattle.xmp_dist.specs.declared.form.Dist.TheVariants.{Block}
 use Rattle.xmp_dist.specs.Table.{chunk_start}
 use Rattle.xmp_first.specs.Nodes.{tabulate}

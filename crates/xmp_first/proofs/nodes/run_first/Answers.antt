@@ -1,7 +1,7 @@
 use Rattle.std.proofs.Common.{◌≡◌, ◌∙◌, sym, ap, arith, List, ℤ, length, ◌<◌}
 use Rattle.std.specs.Prelude.{slice_get}
-use Rattle.xmp_serial.specs.FirstTree.{tree_of}
-use Rattle.xmp_serial.proofs.FirstTrees.{spelled}
+use Rattle.xmp_first.specs.FirstTree.{tree_of}
+use Rattle.xmp_first.proofs.FirstTrees.{spelled}
 use Rattle.xmp_first.specs.Nodes.{store_of, turns_of}
 use Rattle.xmp_first.proofs.Tables.{slice_get-tabulate, length-tabulate}
 use Rattle.xmp_first.proofs.nodes.run_first.Goals as goal

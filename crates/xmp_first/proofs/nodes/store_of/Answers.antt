@@ -1,7 +1,7 @@
 use Rattle.std.proofs.Common.{◌∙◌, ap, ℤ, pos, List, w64}
 use Rattle.std.specs.Prelude.{nat_le, slice_get, unwrap_or, if◌then◌else◌, ◌-◌}
 use Rattle.std.proofs.lemmas.Int.{to_z-of_z}
-use Rattle.xmp_serial.specs.FirstTree.{tree_of}
+use Rattle.xmp_first.specs.FirstTree.{tree_of}
 use Rattle.xmp_first.proofs.BlockLaws.{start_is, word_in_block, word_added}
 use Rattle.xmp_first.proofs.nodes.store_of.Goals as goal
 

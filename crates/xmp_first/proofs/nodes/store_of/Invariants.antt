@@ -1,6 +1,6 @@
 use Rattle.std.proofs.Common.{◌≡◌, pos, ◌∷◌}
-use Rattle.xmp_serial.specs.FirstTree.{tree_of}
-use Rattle.xmp_serial.specs.FirstMeaning.{total}
+use Rattle.xmp_first.specs.FirstTree.{tree_of}
+use Rattle.xmp_first.specs.FirstMeaning.{total}
 use Rattle.xmp_first.specs.Nodes.{tabulate, word_of}
 use Rattle.xmp_first.proofs.nodes.store_of.Given as goal
 

@@ -1,6 +1,6 @@
 use Rattle.std.proofs.Common.{◌∙◌, ap, List, ℤ}
 use Rattle.std.specs.Prelude.{slice_get}
-use Rattle.xmp_serial.specs.FirstTree.{tree_of}
+use Rattle.xmp_first.specs.FirstTree.{tree_of}
 use Rattle.xmp_first.specs.Blocks.{block_of}
 use Rattle.xmp_first.proofs.Tables.{slice_get-tabulate}
 use Rattle.xmp_first.proofs.nodes.stores_of.Goals as goal

@@ -1,5 +1,5 @@
 use Rattle.std.proofs.Common.{◌≡◌}
-use Rattle.xmp_serial.specs.FirstTree.{tree_of}
+use Rattle.xmp_first.specs.FirstTree.{tree_of}
 use Rattle.xmp_first.specs.Nodes.{tabulate, store_of}
 use Rattle.xmp_first.proofs.nodes.stores_of.Given as goal
 

@@ -1,28 +1,13 @@
-use Rattle.xmp_lex.proofs.CutLemmas.{in_start, in_next, refused, passed, passed_last, cut_whole, nonempty, is_nil}
+use Rattle.std.proofs.lemmas.Result.{IfOk-weaker, IfErr-weaker}
 use Rattle.xmp_lex.proofs.LineLemmas.{cut_finished, cut_closed}
+use Rattle.xmp_lex.proofs.NeverBoth.{only_memory}
 use Rattle.xmp_lex.proofs.cut.lex.Goals as goal
 
-pub loop-rest-init : goal.loop-rest-init
-loop-rest-init c = rw c.new-tokens.ensures.items (in_start c.args.text.now c.requires)
+pub returns-clause-no_other : goal.returns-clause-no_other
+returns-clause-no_other c = λ tokens cut. IfErr-weaker c.cut_all.result _ _ (λ e b. only_memory c.args.text.now tokens e cut b) c.cut_all.ensures.err
 
-pub returns-in-Err-clause-err : goal.returns-in-Err-clause-err
-returns-in-Err-clause-err c = rw c.refusal.ensures (refused _ _ _ _ _ _ c.loop-rest.invariant (nonempty _ _ c.is_empty.ensures c.loop-rest-test.true) c.in-Err.ensures.err)
+pub returns-clause-finished : goal.returns-clause-finished
+returns-clause-finished c = IfOk-weaker c.cut_all.result _ _ (λ v k. cut_finished c.args.text.now v.items k) c.cut_all.ensures.ok
 
-pub returns-in-Err-put-clause-err : goal.returns-in-Err-put-clause-err
-returns-in-Err-put-clause-err c = passed c.args.text.now c.loop-rest.tokens.items c.loop-rest.at c.loop-rest.mode c.loop-rest.rest.now c.in-Ok.field-0.length c.in-Ok.field-0.token c.in-Ok.field-0.mode _ c.loop-rest.invariant (nonempty _ _ c.is_empty.ensures c.loop-rest-test.true) c.in-Ok.ensures.ok c.in-Err-put.ensures.err
-
-pub loop-rest-preserved : goal.loop-rest-preserved
-loop-rest-preserved c = in_next c.args.text.now c.loop-rest.tokens.items c.loop-rest.at c.loop-rest.mode c.loop-rest.rest.now c.in-Ok.field-0.length c.in-Ok.field-0.token c.in-Ok.field-0.mode
-    c.put.new.tokens.items c.behind-at.result c.front.result.now c.from-rest.result.now
-    c.loop-rest.invariant (nonempty _ _ c.is_empty.ensures c.loop-rest-test.true) c.in-Ok.ensures.ok c.in-Ok-put.ensures.ok c.front.ensures c.behind-at.ensures.value c.behind-at.ensures.line c.behind-at.ensures.column c.from-rest.ensures
-
-pub returns-in-Err-finish-clause-err : goal.returns-in-Err-finish-clause-err
-returns-in-Err-finish-clause-err c = passed_last _ _ _ _ _ _ c.loop-rest.invariant (is_nil _ _ c.is_empty.ensures c.loop-rest-test.false) c.in-Err-finish.ensures.err
-
-pub returns-in-Ok-finish-clause-finished : goal.returns-in-Ok-finish-clause-finished
-returns-in-Ok-finish-clause-finished c = cut_finished c.args.text.now c.finish.new.tokens.items
-    (cut_whole c.args.text.now _ _ _ _ c.finish.new.tokens.items c.loop-rest.invariant (is_nil _ _ c.is_empty.ensures c.loop-rest-test.false) c.in-Ok-finish.ensures.ok)
-
-pub returns-in-Ok-finish-clause-closed : goal.returns-in-Ok-finish-clause-closed
-returns-in-Ok-finish-clause-closed c = cut_closed c.args.text.now c.finish.new.tokens.items
-    (cut_whole c.args.text.now _ _ _ _ c.finish.new.tokens.items c.loop-rest.invariant (is_nil _ _ c.is_empty.ensures c.loop-rest-test.false) c.in-Ok-finish.ensures.ok)
+pub returns-clause-closed : goal.returns-clause-closed
+returns-clause-closed c = IfOk-weaker c.cut_all.result _ _ (λ v k. cut_closed c.args.text.now v.items k) c.cut_all.ensures.ok

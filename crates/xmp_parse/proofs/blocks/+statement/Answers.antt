@@ -3,13 +3,13 @@ use Rattle.std.proofs.lemmas.Result.{err_from_is_err_and}
 use Rattle.xmp_lex.specs.declared.token.TokenKind.TheVariants as t
 use Rattle.xmp_lex.specs.declared.token.Mark.TheVariants as m
 use Rattle.xmp_lex.specs.declared.token.Reserved.TheVariants as reserved
-use Rattle.xmp_tree.specs.Grammar as g
-use Rattle.xmp_tree.specs.Grammar.{directive_of, line_of}
-use Rattle.xmp_parse.proofs.Held.{is_this_mark, is_this_word, is_this_pragma}
-use Rattle.xmp_parse.proofs.Opening.{seq, into, skip, first, second, again, no_more, chosen}
-use Rattle.xmp_parse.proofs.Listing.{split, whole, once_more, if_so, if_not, none_so_far, one_more, entered}
+use Rattle.xmp_syntax.specs.Grammar as g
+use Rattle.xmp_syntax.specs.Grammar.{directive_of, line_of}
+use Rattle.xmp_reader.proofs.Held.{is_this_mark, is_this_word, is_this_pragma}
+use Rattle.xmp_reader.proofs.Opening.{seq, into, skip, first, second, again, no_more, chosen}
+use Rattle.xmp_reader.proofs.Listing.{split, whole, once_more, if_so, if_not, none_so_far, one_more, entered}
 use Rattle.xmp_parse.proofs.Statements.{statement_at}
-use Rattle.xmp_parse.proofs.Dispatch.{by_line, directive_in_block, by_directive, by_no_directive, agrees}
+use Rattle.xmp_line_reader.proofs.Dispatch.{by_line, directive_in_block, by_directive, by_no_directive, agrees}
 use Rattle.xmp_parse.proofs.ItemsRead.{once_more_not, no_more_not, items_each, items_fit}
 use Rattle.xmp_parse.proofs.BlockParts.{a_declaration, a_line, statement_comes, statement_refused, left_behind, no_other, tasks_each, tasks_fit}
 use Rattle.xmp_parse.proofs.BlockViews.{view_else}
@@ -163,24 +163,23 @@ if_statement-returns-in_err-head-clause-goes n c = λ s L K w.
     let p = err_from_is_err_and c.from_residual.result c.from_residual.ensures.1 in
     rw (p.1, p.2) (c.in_err-head.ensures.goes s _ _ _ (split w))
 
-pub if_statement-returns-in_err-yes-clause-goes : goal.if_statement-returns-in_err-yes-clause-goes
-if_statement-returns-in_err-yes-clause-goes n c = λ s L K w.
-    let p = err_from_is_err_and c.from_residual-in_err-yes.result c.from_residual-in_err-yes.ensures.1 in
-    rw (p.1, p.2) (c.in_err-yes.ensures.goes s _ _ (c.in_ok-head.ensures.goes s _ _ _ (split w)))
+pub if_statement-returns-in-Err-clause-goes : goal.if_statement-returns-in-Err-clause-goes
+if_statement-returns-in-Err-clause-goes n c = λ s L K w. c.in-Err.ensures.goes s _ _ (c.in_ok-head.ensures.goes s _ _ _ (split w))
 
-pub if_statement-returns-then-not-is_word-clause-goes : goal.if_statement-returns-then-not-is_word-clause-goes
-if_statement-returns-then-not-is_word-clause-goes n c = λ s L K w. skip (second (sym c.if-not-is_word.ensures) (c.in_ok-yes.ensures.goes s _ _ (c.in_ok-head.ensures.goes s _ _ _ (split w))))
+pub if_statement-returns-in-Ok-clause-goes : goal.if_statement-returns-in-Ok-clause-goes
+if_statement-returns-in-Ok-clause-goes n c = λ s L K w. c.if_behind.ensures.goes s _ _ (c.in-Ok.ensures.goes s _ _ (c.in_ok-head.ensures.goes s _ _ _ (split w)))
 
-pub if_statement-returns-in_err-no-clause-goes : goal.if_statement-returns-in_err-no-clause-goes
-if_statement-returns-in_err-no-clause-goes n c = λ s L K w.
-    let p = err_from_is_err_and c.from_residual-in_err-no.result c.from_residual-in_err-no.ensures.1 in
-    rw (p.1, p.2) (c.in_err-no.ensures.goes s _ _ (chosen (sym c.if-not-is_word.ensures) (c.in_ok-yes.ensures.goes s _ _ (c.in_ok-head.ensures.goes s _ _ _ (split w)))))
+pub if_behind-returns-then-not-is_word-clause-goes : goal.if_behind-returns-then-not-is_word-clause-goes
+if_behind-returns-then-not-is_word-clause-goes n c = λ s L K w. skip (second (sym c.if-not-is_word.ensures) w)
 
-pub if_statement-returns-clause-goes : goal.if_statement-returns-clause-goes
-if_statement-returns-clause-goes n c = λ s L K w. c.in_ok-no.ensures.goes s _ _ (chosen (sym c.if-not-is_word.ensures) (c.in_ok-yes.ensures.goes s _ _ (c.in_ok-head.ensures.goes s _ _ _ (split w))))
+pub if_behind-returns-in-Ok-clause-goes : goal.if_behind-returns-in-Ok-clause-goes
+if_behind-returns-in-Ok-clause-goes n c = λ s L K w. c.in-Ok.ensures.goes s _ _ (chosen (sym c.if-not-is_word.ensures) w)
 
-pub if_statement-returns-clause-fits : goal.if_statement-returns-clause-fits
-if_statement-returns-clause-fits n c = rw (view_else _ _ _ _) (c.in_ok-head.ensures.fits, c.in_ok-yes.ensures.fits, no_other _ _ c.in_ok-yes.ensures.no_else (sym c.if-not-is_word.ensures), c.in_ok-no.ensures.fits)
+pub if_behind-returns-in-Err-clause-goes : goal.if_behind-returns-in-Err-clause-goes
+if_behind-returns-in-Err-clause-goes n c = λ s L K w. c.in-Err.ensures.goes s _ _ (chosen (sym c.if-not-is_word.ensures) w)
+
+pub if_behind-returns-in-Ok-clause-fits : goal.if_behind-returns-in-Ok-clause-fits
+if_behind-returns-in-Ok-clause-fits n c = rw (view_else _ _ _ _) (c.requires.condition, c.requires.fits, no_other _ _ c.requires.no_else (sym c.if-not-is_word.ensures), c.in-Ok.ensures.fits)
 
 pub else_part-returns-in_err-mark-clause-goes : goal.else_part-returns-in_err-mark-clause-goes
 else_part-returns-in_err-mark-clause-goes n c = λ s L K w.
@@ -200,26 +199,22 @@ while_statement-returns-in_err-head-clause-goes n c = λ s L K w.
     let p = err_from_is_err_and c.from_residual.result c.from_residual.ensures.1 in
     rw (p.1, p.2) (c.in_err-head.ensures.goes s _ _ _ (w))
 
-pub while_statement-returns-in_err-body-clause-goes : goal.while_statement-returns-in_err-body-clause-goes
-while_statement-returns-in_err-body-clause-goes n c = λ s L K w.
-    let p = err_from_is_err_and c.from_residual-in_err-body.result c.from_residual-in_err-body.ensures.1 in
-    rw (p.1, p.2) (c.in_err-body.ensures.goes s _ _ (c.in_ok-head.ensures.goes s _ _ _ w))
+pub while_statement-returns-in-Err-clause-goes : goal.while_statement-returns-in-Err-clause-goes
+while_statement-returns-in-Err-clause-goes n c = λ s L K w. c.in-Err.ensures.goes s _ _ (c.in_ok-head.ensures.goes s _ _ _ w)
 
-pub while_statement-returns-clause-goes : goal.while_statement-returns-clause-goes
-while_statement-returns-clause-goes n c = λ s L K w. c.in_ok-body.ensures.goes s _ _ (c.in_ok-head.ensures.goes s _ _ _ w)
+pub while_statement-returns-in-Ok-clause-goes : goal.while_statement-returns-in-Ok-clause-goes
+while_statement-returns-in-Ok-clause-goes n c = λ s L K w. c.in-Ok.ensures.goes s _ _ (c.in_ok-head.ensures.goes s _ _ _ w)
 
 pub for_statement-returns-in_err-head-clause-goes : goal.for_statement-returns-in_err-head-clause-goes
 for_statement-returns-in_err-head-clause-goes n c = λ s L K w.
     let p = err_from_is_err_and c.from_residual.result c.from_residual.ensures.1 in
     rw (p.1, p.2) (c.in_err-head.ensures.goes s _ _ _ (w))
 
-pub for_statement-returns-in_err-body-clause-goes : goal.for_statement-returns-in_err-body-clause-goes
-for_statement-returns-in_err-body-clause-goes n c = λ s L K w.
-    let p = err_from_is_err_and c.from_residual-in_err-body.result c.from_residual-in_err-body.ensures.1 in
-    rw (p.1, p.2) (c.in_err-body.ensures.goes s _ _ (c.in_ok-head.ensures.goes s _ _ _ w))
+pub for_statement-returns-in-Err-clause-goes : goal.for_statement-returns-in-Err-clause-goes
+for_statement-returns-in-Err-clause-goes n c = λ s L K w. c.in-Err.ensures.goes s _ _ (c.in_ok-head.ensures.goes s _ _ _ w)
 
-pub for_statement-returns-clause-goes : goal.for_statement-returns-clause-goes
-for_statement-returns-clause-goes n c = λ s L K w. c.in_ok-body.ensures.goes s _ _ (c.in_ok-head.ensures.goes s _ _ _ w)
+pub for_statement-returns-in-Ok-clause-goes : goal.for_statement-returns-in-Ok-clause-goes
+for_statement-returns-in-Ok-clause-goes n c = λ s L K w. c.in-Ok.ensures.goes s _ _ (c.in_ok-head.ensures.goes s _ _ _ w)
 
 pub task-returns-in_err-line-clause-goes : goal.task-returns-in_err-line-clause-goes
 task-returns-in_err-line-clause-goes n c = λ s L K w.

@@ -1,11 +1,11 @@
 use Rattle.std.proofs.Common.{length, ◌+◌, ◌*◌, ◌≤◌}
 use Rattle.std.specs.Prelude.{not}
 use Rattle.xmp_lex.specs.declared.token.Mark.TheVariants as m
-use Rattle.xmp_tree.specs.Parts as p
-use Rattle.xmp_tree.specs.Reading.{part, many, tok, plain, ◌·◌}
-use Rattle.xmp_tree.specs.Grammar.{is_mark, is_pragma}
+use Rattle.xmp_syntax.specs.Parts as p
+use Rattle.xmp_syntax.specs.Reading.{part, many, tok, plain, ◌·◌}
+use Rattle.xmp_syntax.specs.Grammar.{is_mark, is_pragma}
 use Rattle.xmp_parse.specs.Blocks.{spell_item, FitsItem, spell_task, FitsTask}
-use Rattle.xmp_parse.proofs.Listing.{ListSoFar}
+use Rattle.xmp_reader.proofs.Listing.{ListSoFar}
 use Rattle.xmp_parse.proofs.blocks.+statement.Given as goal
 
 abbrev pub decreases-statement : goal.decreases-statement
@@ -28,6 +28,9 @@ decreases-held l = 16 * length l.r.tokens.now + 4
 
 abbrev pub decreases-if_statement : goal.decreases-if_statement
 decreases-if_statement l = 16 * length l.r.tokens.now + 2
+
+abbrev pub decreases-if_behind : goal.decreases-if_behind
+decreases-if_behind l = 16 * length l.r.tokens.now + 2
 
 abbrev pub decreases-else_part : goal.decreases-else_part
 decreases-else_part l = 16 * length l.r.tokens.now + 1

@@ -1,7 +1,7 @@
 use Rattle.std.proofs.Common.{rules, ◌≡◌, ℕ, true, false, sym, refl, ap, ◌∙◌}
 use Rattle.std.proofs.lemmas.Result.{err_from_is_err_and}
-use Rattle.xmp_parse.proofs.Opening.{seq, into, skip, first, second, again, no_more}
-use Rattle.xmp_parse.proofs.Listing.{split, whole, once_more, if_so, if_not, none_so_far, one_more}
+use Rattle.xmp_reader.proofs.Opening.{seq, into, skip, first, second, again, no_more, first_not, second_not}
+use Rattle.xmp_reader.proofs.Listing.{split, whole, once_more, if_so, if_not, none_so_far, one_more}
 use Rattle.xmp_parse.proofs.declarations.declaration_rest.Goals as goal
 
 pub returns-in_err-first-clause-goes : goal.returns-in_err-first-clause-goes
@@ -9,33 +9,19 @@ returns-in_err-first-clause-goes c = λ s L K w.
     let p = err_from_is_err_and c.from_residual.result c.from_residual.ensures.1 in
     rw (p.1, p.2) (c.in_err-first.ensures.goes s _ _ (w))
 
-pub returns-in_err-more-clause-goes : goal.returns-in_err-more-clause-goes
-returns-in_err-more-clause-goes c = λ s L K w.
-    let p = err_from_is_err_and c.from_residual-in_err-more.result c.from_residual-in_err-more.ensures.1 in
-    rw (p.1, p.2) (c.in_err-more.ensures.goes s _ _ ((c.in_ok-first.ensures.goes s _ _ (w))))
+pub returns-in-Ok-clause-goes : goal.returns-in-Ok-clause-goes
+returns-in-Ok-clause-goes c = λ s L K w. c.in-Ok.ensures.goes s _ _ (c.in_ok-first.ensures.goes s _ _ (w))
 
-pub returns-in_err-end-clause-goes : goal.returns-in_err-end-clause-goes
-returns-in_err-end-clause-goes c = λ s L K w.
-    let p = err_from_is_err_and c.from_residual-in_err-end.result c.from_residual-in_err-end.ensures.1 in
-    rw (p.1, p.2) (c.in_err-end.ensures.goes s _ _ ((c.in_ok-more.ensures.goes s _ _ ((c.in_ok-first.ensures.goes s _ _ (w))))))
-
-pub returns-clause-goes : goal.returns-clause-goes
-returns-clause-goes c = λ s L K w. c.in_ok-end.ensures.goes s _ _ ((c.in_ok-more.ensures.goes s _ _ ((c.in_ok-first.ensures.goes s _ _ (w)))))
+pub returns-in-Err-clause-goes : goal.returns-in-Err-clause-goes
+returns-in-Err-clause-goes c = λ s L K w. c.in-Err.ensures.goes s _ _ (c.in_ok-first.ensures.goes s _ _ (w))
 
 pub returns-in_err-first-clause-before : goal.returns-in_err-first-clause-before
 returns-in_err-first-clause-before c = λ s L N K w.
     let p = err_from_is_err_and c.from_residual.result c.from_residual.ensures.1 in
     rw (p.1, p.2) (c.in_err-first.ensures.goes s _ _ (split w))
 
-pub returns-in_err-more-clause-before : goal.returns-in_err-more-clause-before
-returns-in_err-more-clause-before c = λ s L N K w.
-    let p = err_from_is_err_and c.from_residual-in_err-more.result c.from_residual-in_err-more.ensures.1 in
-    rw (p.1, p.2) (c.in_err-more.ensures.goes s _ _ (split (c.in_ok-first.ensures.goes s _ _ (split w))))
+pub returns-in-Ok-clause-before : goal.returns-in-Ok-clause-before
+returns-in-Ok-clause-before c = λ s L N K w. c.in-Ok.ensures.before s _ _ _ (c.in_ok-first.ensures.goes s _ _ (split w))
 
-pub returns-in_err-end-clause-before : goal.returns-in_err-end-clause-before
-returns-in_err-end-clause-before c = λ s L N K w.
-    let p = err_from_is_err_and c.from_residual-in_err-end.result c.from_residual-in_err-end.ensures.1 in
-    rw (p.1, p.2) (c.in_err-end.ensures.goes s _ _ (split (c.in_ok-more.ensures.goes s _ _ (split (c.in_ok-first.ensures.goes s _ _ (split w))))))
-
-pub returns-clause-before : goal.returns-clause-before
-returns-clause-before c = λ s L N K w. c.in_ok-end.ensures.goes s _ _ (split (c.in_ok-more.ensures.goes s _ _ (split (c.in_ok-first.ensures.goes s _ _ (split w)))))
+pub returns-in-Err-clause-before : goal.returns-in-Err-clause-before
+returns-in-Err-clause-before c = λ s L N K w. c.in-Err.ensures.before s _ _ _ (c.in_ok-first.ensures.goes s _ _ (split w))

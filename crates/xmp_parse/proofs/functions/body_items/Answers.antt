@@ -1,8 +1,8 @@
 use Rattle.std.proofs.Common.{rules, ◌≡◌, ℕ, true, false, sym, refl, ap, ◌∙◌}
 use Rattle.std.proofs.lemmas.Result.{err_from_is_err_and}
-use Rattle.xmp_parse.proofs.Opening.{seq, into, skip, first, second, again, no_more}
-use Rattle.xmp_parse.proofs.Listing.{split, whole, once_more, if_so, if_not, none_so_far, one_more}
-use Rattle.xmp_tree.specs.Grammar as g
+use Rattle.xmp_reader.proofs.Opening.{seq, into, skip, first, second, again, no_more}
+use Rattle.xmp_reader.proofs.Listing.{split, whole, once_more, if_so, if_not, none_so_far, one_more}
+use Rattle.xmp_syntax.specs.Grammar as g
 use Rattle.xmp_lex.specs.declared.token.Mark.TheVariants as m
 use Rattle.xmp_parse.proofs.ItemsRead.{once_more_not, no_more_not, items_each, items_fit}
 use Rattle.xmp_parse.proofs.functions.body_items.Goals as goal

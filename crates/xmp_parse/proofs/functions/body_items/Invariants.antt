@@ -1,11 +1,11 @@
 use Rattle.std.proofs.Common.{length}
 use Rattle.std.specs.Prelude.{not}
 use Rattle.xmp_lex.specs.declared.token.Mark.TheVariants as m
-use Rattle.xmp_tree.specs.Parts as p
-use Rattle.xmp_tree.specs.Reading.{part, many}
-use Rattle.xmp_tree.specs.Grammar.{is_mark}
+use Rattle.xmp_syntax.specs.Parts as p
+use Rattle.xmp_syntax.specs.Reading.{part, many}
+use Rattle.xmp_syntax.specs.Grammar.{is_mark}
 use Rattle.xmp_parse.specs.Blocks.{spell_item, FitsItem}
-use Rattle.xmp_parse.proofs.Listing.{ListSoFar}
+use Rattle.xmp_reader.proofs.Listing.{ListSoFar}
 use Rattle.xmp_parse.proofs.functions.body_items.Given as goal
 
 abbrev pub invariant-loop-alloc : goal.invariant-loop-alloc

@@ -1,11 +1,11 @@
 use Rattle.std.proofs.Common.{rules, ◌≡◌, ℕ, true, false, sym, refl, ap, ◌∙◌}
 use Rattle.std.proofs.lemmas.Result.{err_from_is_err_and}
-use Rattle.xmp_parse.proofs.Opening.{seq, into, skip, first, second, again, no_more, first_not, second_not}
-use Rattle.xmp_parse.proofs.Listing.{split, whole, once_more, if_so, if_not, entered}
+use Rattle.xmp_reader.proofs.Opening.{seq, into, skip, first, second, again, no_more, first_not, second_not}
+use Rattle.xmp_reader.proofs.Listing.{split, whole, once_more, if_so, if_not, entered}
 use Rattle.xmp_lex.specs.declared.token.TokenKind.TheVariants as t
 use Rattle.xmp_lex.specs.declared.token.Mark.TheVariants as m
 use Rattle.xmp_lex.specs.declared.token.Reserved.TheVariants as v
-use Rattle.xmp_parse.proofs.Held.{is_this_mark, is_this_word}
+use Rattle.xmp_reader.proofs.Held.{is_this_mark, is_this_word}
 use Rattle.xmp_parse.proofs.Statements.{statement_at, named_statement, stepped_statement, no_statement}
 use Rattle.xmp_parse.proofs.plain_statements.plain.Goals as goal
 

@@ -1,7 +1,7 @@
 use Rattle.std.proofs.Common.{rules, ◌≡◌, ℕ, true, false, sym, refl, ap, ◌∙◌}
 use Rattle.std.proofs.lemmas.Result.{err_from_is_err_and}
-use Rattle.xmp_parse.proofs.Opening.{seq, into, skip, first, second, again, no_more}
-use Rattle.xmp_parse.proofs.Listing.{split, whole, once_more, if_so, if_not, none_so_far, one_more}
+use Rattle.xmp_reader.proofs.Opening.{seq, into, skip, first, second, again, no_more}
+use Rattle.xmp_reader.proofs.Listing.{split, whole, once_more, if_so, if_not, none_so_far, one_more}
 use Rattle.xmp_parse.proofs.programs.definition.Goals as goal
 
 pub returns-in_err-ty-clause-goes : goal.returns-in_err-ty-clause-goes

@@ -1,6 +1,6 @@
 use Rattle.std.proofs.Common.{subst}
 use Rattle.std.specs.Prelude.{IfErr}
-use Rattle.xmp_parse.specs.Programs.{IsFault}
+use Rattle.xmp_parse.specs.Faults.{IsFault}
 use Rattle.xmp_source.proofs.Sources.{err_map, syntax_fault}
 use Rattle.xmp_source.proofs.source.judged.Goals as goal
 

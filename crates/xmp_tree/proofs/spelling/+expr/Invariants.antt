@@ -1,6 +1,6 @@
 use Rattle.std.proofs.Common.{◌≡◌, drop}
-use Rattle.xmp_tree.specs.View.{links_view, rest_view, subscripts_view}
-use Rattle.xmp_tree.specs.Spell.{spell_links, spell_rest, spell_subscripts}
+use Rattle.xmp_syntax.specs.View.{links_view, rest_view, subscripts_view}
+use Rattle.xmp_syntax.specs.Spell.{spell_links, spell_rest, spell_subscripts}
 use Rattle.xmp_tree.proofs.spelling.+expr.Given as goal
 
 -- what is put down so far is what the items from here on spell

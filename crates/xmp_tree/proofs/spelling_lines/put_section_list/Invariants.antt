@@ -1,5 +1,5 @@
 use Rattle.std.proofs.Common.{◌≡◌, drop}
-use Rattle.xmp_tree.specs.Spell.{dims, section}
+use Rattle.xmp_syntax.specs.Spell.{dims, section}
 use Rattle.xmp_tree.proofs.spelling_lines.put_section_list.Given as goal
 
 -- what is put down so far is what the items from here on spell

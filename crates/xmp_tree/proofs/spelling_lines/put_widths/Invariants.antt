@@ -1,5 +1,5 @@
 use Rattle.std.proofs.Common.{◌≡◌, drop}
-use Rattle.xmp_tree.specs.Spell.{dims, width}
+use Rattle.xmp_syntax.specs.Spell.{dims, width}
 use Rattle.xmp_tree.proofs.spelling_lines.put_widths.Given as goal
 
 -- what is put down so far is what the items from here on spell

@@ -1,5 +1,5 @@
 use Rattle.std.proofs.Common.{◌≡◌, drop}
-use Rattle.xmp_tree.specs.Spell.{each, next, parameter}
+use Rattle.xmp_syntax.specs.Spell.{each, next, parameter}
 use Rattle.xmp_tree.proofs.spelling_program.put_next_parameters.Given as goal
 
 -- what is put down so far is what the items from here on spell

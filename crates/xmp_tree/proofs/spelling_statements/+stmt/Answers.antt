@@ -3,10 +3,10 @@ use Rattle.std.specs.Prelude.{codes}
 use Rattle.xmp_lex.specs.declared.token.Token.{Token}
 use Rattle.xmp_lex.specs.declared.token.TokenKind.TheVariants as t
 use Rattle.xmp_lex.specs.declared.token.Mark.TheVariants as m
-use Rattle.xmp_tree.specs.Trees.{tasks}
-use Rattle.xmp_tree.specs.View.{stmt_view, tasks_view}
-use Rattle.xmp_tree.specs.Seen.{seen_tasks}
-use Rattle.xmp_tree.specs.Spell.{◌at◌, directive_line, spell_tasks}
+use Rattle.xmp_syntax.specs.Trees.{tasks}
+use Rattle.xmp_syntax.specs.View.{stmt_view, tasks_view}
+use Rattle.xmp_syntax.specs.Seen.{seen_tasks}
+use Rattle.xmp_syntax.specs.Spell.{◌at◌, directive_line, spell_tasks}
 use Rattle.xmp_tree.proofs.spelling_statements.+stmt.Goals as goal
 
 pub put_stmt-returns-in_ok-put_sign-in-Tasks-2 : goal.put_stmt-returns-in_ok-put_sign-in-Tasks-2

@@ -1,6 +1,6 @@
 use Rattle.std.proofs.Common.{◌≡◌, drop}
-use Rattle.xmp_tree.specs.View.{items_view, tasks_view}
-use Rattle.xmp_tree.specs.Spell.{spell_items, spell_tasks}
+use Rattle.xmp_syntax.specs.View.{items_view, tasks_view}
+use Rattle.xmp_syntax.specs.Spell.{spell_items, spell_tasks}
 use Rattle.xmp_tree.proofs.spelling_statements.+stmt.Given as goal
 
 -- what is put down so far is what the items from here on spell

@@ -1,5 +1,5 @@
 use Rattle.std.proofs.Common.{◌∙◌, sym, ap}
-use Rattle.xmp_scopes.specs.Log.{visible}
+use Rattle.xmp_scopes.specs.Table.{visible}
 use Rattle.xmp_scopes.proofs.Entries.{join, got}
 use Rattle.xmp_scopes.proofs.current.Current.get.Goals as goal
 

@@ -1,6 +1,0 @@
-use Rattle.std.proofs.Common.{◌≡◌, ◌++◌, map, drop}
-use Rattle.xmp_walk.specs.Directives.{natural}
-use Rattle.xmp_elab.proofs.grids.all_narrowed.Given as goal
-
-abbrev pub invariant-list : goal.invariant-list
-invariant-list l = map natural l.list ≡ l.done ++ map natural (drop l.n-index l.list)

@@ -1,6 +1,0 @@
-use Rattle.std.proofs.Common.{◌≡◌, ◌++◌, map, drop}
-use Rattle.xmp_elab.specs.Parts.{made_form}
-use Rattle.xmp_elab.proofs.grids.made_forms.Given as goal
-
-abbrev pub invariant-forms : goal.invariant-forms
-invariant-forms l = map made_form l.forms ≡ l.done ++ map made_form (drop l.form-index l.forms)

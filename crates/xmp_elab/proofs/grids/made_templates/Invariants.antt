@@ -1,6 +1,0 @@
-use Rattle.std.proofs.Common.{take}
-use Rattle.xmp_elab.specs.Parts.{EachMade, IsTemplate}
-use Rattle.xmp_elab.proofs.grids.made_templates.Given as goal
-
-abbrev pub invariant-lines : goal.invariant-lines
-invariant-lines l = EachMade (λ k line t. IsTemplate l.w l.grid k t) 0 (take l.k l.lines) l.made

@@ -1,6 +1,0 @@
-use Rattle.std.proofs.Common.{take}
-use Rattle.xmp_elab.specs.Parts.{EachMade, IsArray}
-use Rattle.xmp_elab.proofs.homes.made_arrays.Given as goal
-
-abbrev pub invariant-arrays : goal.invariant-arrays
-invariant-arrays l = EachMade (IsArray l.w l.templates) 0 (take l.k l.arrays) l.made

@@ -1,6 +1,0 @@
-use Rattle.std.proofs.Common.{◌≡◌, ◌++◌, drop}
-use Rattle.xmp_elab.specs.Parts.{targets, targets_from}
-use Rattle.xmp_elab.proofs.homes.made_targets.Given as goal
-
-abbrev pub invariant-extents : goal.invariant-extents
-invariant-extents l = targets l.extents l.points ≡ l.made ++ targets_from l.d (drop l.d l.extents) l.points

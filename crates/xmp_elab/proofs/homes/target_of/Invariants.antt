@@ -1,6 +1,0 @@
-use Rattle.std.proofs.Common.{◌≡◌, drop}
-use Rattle.xmp_elab.specs.Parts.{target_from}
-use Rattle.xmp_elab.proofs.homes.target_of.Given as goal
-
-abbrev pub invariant-points : goal.invariant-points
-invariant-points l = target_from l.d 0 l.points ≡ target_from l.d l.k (drop l.k l.points)

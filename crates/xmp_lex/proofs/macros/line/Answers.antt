@@ -1,0 +1,1 @@
+use Rattle.xmp_lex.proofs.macros.line.Goals as goal

@@ -1,0 +1,2 @@
+pub mod MaxOrMin
+pub mod Dispatch

@@ -1,0 +1,23 @@
+use Rattle.std.proofs.Common.{rules, ◌≡◌, ℕ, true, false, sym, refl, ap, ◌∙◌}
+use Rattle.std.proofs.lemmas.Result.{err_from_is_err_and}
+use Rattle.xmp_reader.proofs.Opening.{seq, into, skip, first, second, again, no_more, first_not, second_not}
+use Rattle.xmp_reader.proofs.Listing.{split, whole, once_more, if_so, if_not, none_so_far, one_more}
+use Rattle.xmp_line_reader.proofs.lines.ReductionListsPart.read.Goals as goal
+
+pub returns-in_err-operator-clause-goes : goal.returns-in_err-operator-clause-goes
+returns-in_err-operator-clause-goes c = λ s L K w.
+    let p = err_from_is_err_and c.from_residual.result c.from_residual.ensures.1 in
+    rw (p.1, p.2) (c.in_err-operator.ensures.goes s _ _ (seq w))
+
+pub returns-in_err-colon-clause-goes : goal.returns-in_err-colon-clause-goes
+returns-in_err-colon-clause-goes c = λ s L K w.
+    let p = err_from_is_err_and c.from_residual-in_err-colon.result c.from_residual-in_err-colon.ensures.1 in
+    rw (p.1, p.2) (c.in_err-colon.ensures.goes s _ _ (seq (c.in_ok-operator.ensures.goes s _ _ (seq w))))
+
+pub returns-in_err-names-clause-goes : goal.returns-in_err-names-clause-goes
+returns-in_err-names-clause-goes c = λ s L K w.
+    let p = err_from_is_err_and c.from_residual-in_err-names.result c.from_residual-in_err-names.ensures.1 in
+    rw (p.1, p.2) (c.in_err-names.ensures.goes s _ _ (c.in_ok-colon.ensures.goes s _ _ (seq (c.in_ok-operator.ensures.goes s _ _ (seq w)))))
+
+pub returns-clause-goes : goal.returns-clause-goes
+returns-clause-goes c = λ s L K w. c.in_ok-names.ensures.goes s _ _ (c.in_ok-colon.ensures.goes s _ _ (seq (c.in_ok-operator.ensures.goes s _ _ (seq w))))

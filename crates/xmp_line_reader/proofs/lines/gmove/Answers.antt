@@ -1,0 +1,26 @@
+use Rattle.std.proofs.Common.{rules, ◌≡◌, ℕ, true, false, sym, refl, ap, ◌∙◌}
+use Rattle.std.proofs.lemmas.Result.{err_from_is_err_and}
+use Rattle.xmp_reader.proofs.Opening.{seq, into, skip, first, second, again, no_more, first_not, second_not}
+use Rattle.xmp_reader.proofs.Listing.{split, whole, once_more, if_so, if_not, none_so_far, one_more}
+use Rattle.xmp_line_reader.proofs.lines.gmove.Goals as goal
+
+pub returns-in_err-word-clause-goes : goal.returns-in_err-word-clause-goes
+returns-in_err-word-clause-goes c = λ s L K w.
+    let p = err_from_is_err_and c.from_residual.result c.from_residual.ensures.1 in
+    rw (p.1, p.2) (c.in_err-word.ensures.goes s _ _ (seq w))
+
+pub returns-in_err-close-clause-goes : goal.returns-in_err-close-clause-goes
+returns-in_err-close-clause-goes c = λ s L K w.
+    let p = err_from_is_err_and c.from_residual-in_err-close.result c.from_residual-in_err-close.ensures.1 in
+    rw (p.1, p.2) (c.in_err-close.ensures.goes s _ _ (seq (c.in_ok-word.ensures.goes s _ _ (seq w))))
+
+pub returns-in_err-target-clause-goes : goal.returns-in_err-target-clause-goes
+returns-in_err-target-clause-goes c = λ s L K w.
+    let p = err_from_is_err_and c.from_residual-in_err-target.result c.from_residual-in_err-target.ensures.1 in
+    rw (p.1, p.2) (c.in_err-target.ensures.goes s _ _ (seq (c.in_ok-close.ensures.goes s _ _ (seq (c.in_ok-word.ensures.goes s _ _ (seq w))))))
+
+pub returns-in-Ok-clause-goes : goal.returns-in-Ok-clause-goes
+returns-in-Ok-clause-goes c = λ s L K w. c.in-Ok.ensures.goes s _ _ (c.in_ok-target.ensures.goes s _ _ (seq (c.in_ok-close.ensures.goes s _ _ (seq (c.in_ok-word.ensures.goes s _ _ (seq w))))))
+
+pub returns-in-Err-clause-goes : goal.returns-in-Err-clause-goes
+returns-in-Err-clause-goes c = λ s L K w. c.in-Err.ensures.goes s _ _ (c.in_ok-target.ensures.goes s _ _ (seq (c.in_ok-close.ensures.goes s _ _ (seq (c.in_ok-word.ensures.goes s _ _ (seq w))))))

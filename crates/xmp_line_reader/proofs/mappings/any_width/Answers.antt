@@ -1,0 +1,16 @@
+use Rattle.std.proofs.Common.{rules, ◌≡◌, ℕ, true, false, sym, refl, ap, ◌∙◌}
+use Rattle.std.proofs.lemmas.Result.{err_from_is_err_and}
+use Rattle.xmp_reader.proofs.Opening.{seq, into, skip, first, second, again, no_more}
+use Rattle.xmp_reader.proofs.Listing.{split, whole, once_more, if_so, if_not, none_so_far, one_more}
+use Rattle.xmp_line_reader.proofs.mappings.any_width.Goals as goal
+
+pub returns-then-not-is_mark-clause-goes : goal.returns-then-not-is_mark-clause-goes
+returns-then-not-is_mark-clause-goes c = λ s L K w. skip (if_not (sym c.is_mark.ensures ∙ c.if-not-is_mark.true) w)
+
+pub returns-in_err-width-clause-goes : goal.returns-in_err-width-clause-goes
+returns-in_err-width-clause-goes c = λ s L K w.
+    let p = err_from_is_err_and c.from_residual.result c.from_residual.ensures.1 in
+    rw (p.1, p.2) (c.in_err-width.ensures.goes s _ _ (if_so (sym c.is_mark.ensures ∙ c.if-not-is_mark.false) w))
+
+pub returns-clause-goes : goal.returns-clause-goes
+returns-clause-goes c = λ s L K w. c.in_ok-width.ensures.goes s _ _ (if_so (sym c.is_mark.ensures ∙ c.if-not-is_mark.false) w)

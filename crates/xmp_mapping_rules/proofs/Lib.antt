@@ -1,0 +1,4 @@
+mod Cells
+mod Enumerated
+mod Limits
+mod Places

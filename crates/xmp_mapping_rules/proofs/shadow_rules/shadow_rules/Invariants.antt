@@ -1,0 +1,7 @@
+use Rattle.std.proofs.Common.{◌≡◌, ◌++◌, drop}
+use Rattle.std.specs.List.{flat_map, enumerate_from}
+use Rattle.xmp_mapping_rules.specs.MappingRules.{shadow_rule}
+use Rattle.xmp_mapping_rules.proofs.shadow_rules.shadow_rules.Given as goal
+
+abbrev pub invariant-list : goal.invariant-list
+invariant-list l = l.fn.broken ++ flat_map (shadow_rule l.lines) (enumerate_from 0 l.list) ≡ l.broken ++ flat_map (shadow_rule l.lines) (enumerate_from l.i (drop l.i l.list))

@@ -1,0 +1,158 @@
+// The rules of aligns.
+ghost use Rattle.std.specs.Prelude.{◌≡◌, ◌++◌, ◌&&◌, IfOk, IsTrue, OnOk, option_copied, slice_get};
+ghost use Rattle.xmp_names.specs.Sizes.{extents_in, is_small};
+ghost use Rattle.xmp_mapping_rules.specs.MappingRules.{align_of, align_right, align_rule, align_rules, aligned, all_different, dimension_in, dimensions_in, distributed, distributes, dummies_right, point_fits, point_right, points_right, reaches};
+
+use crate::lines::Lines;
+use crate::nodes_rules::{judge, one_to_three};
+use crate::numbers::{Numbers, is_at};
+use crate::template_rules::distributes;
+use sqlite_items::Items;
+use std::alloc::{AllocError, Global};
+use xmp_names::{Align, AlignPoint, Broken, Form, Rule, extents_in, is_small};
+
+/// Adds the dimension of an array that stands in a point.
+pub(crate) fn add_dimension(dimensions: &mut Numbers, point: AlignPoint) -> Result<(), AllocError>
+    ensures { OnOk result (dimensions.new ≡ dimensions.old ++ dimension_in point) }
+{
+    match point {
+        AlignPoint::Star => Ok(()),
+        AlignPoint::Dummy { dimension, .. } => dimensions.push(dimension),
+    }
+}
+
+fn dimensions_in(alloc: Global, points: &[AlignPoint]) -> Result<Numbers, AllocError>
+    ensures { IfOk result (λ ns. ns ≡ dimensions_in points.now) }
+{
+    let mut dimensions = Numbers::new(alloc);
+    'points: for point in points {
+        add_dimension(&mut dimensions, *point)?;
+    }
+    Ok(dimensions)
+}
+
+fn all_different(dimensions: &Numbers) -> bool
+    ensures { result ≡ all_different dimensions.now }
+{
+    let list = dimensions.as_slice();
+    'list: for (i, dimension) in list.iter().enumerate() {
+        if !is_at(i, dimensions.first_place(*dimension)) {
+            return false;
+        }
+    }
+    true
+}
+
+fn dummies_right(dummies: &[bool], dimensions: &Numbers) -> bool
+    ensures { result ≡ dummies_right dummies.now dimensions.now }
+{
+    'dummies: for (i, dummy) in dummies.iter().enumerate() {
+        if *dummy && dimensions.first_place(i).is_none() {
+            return false;
+        }
+    }
+    true
+}
+
+fn reaches(size: i64, offset: i64, extent: Option<u32>) -> bool
+    requires { IsTrue (is_small offset) }
+    ensures { result ≡ reaches size offset extent }
+{
+    match extent {
+        Some(extent) => 0 <= offset && offset + i64::from(extent) <= size,
+        None => false,
+    }
+}
+
+fn point_right(extents: &[u32], spread: bool, size: i64, point: AlignPoint) -> bool
+    ensures { result ≡ point_right extents.now spread size point }
+{
+    match point {
+        AlignPoint::Star => !spread,
+        AlignPoint::Dummy { dimension, offset } => {
+            is_small(offset) && reaches(size, offset, extents.get(dimension).copied())
+        }
+    }
+}
+
+fn point_fits(extents: &[u32], spread: bool, size: Option<i64>, point: AlignPoint) -> bool
+    ensures { result ≡ point_fits extents.now spread size point }
+{
+    match size {
+        Some(size) => point_right(extents, spread, size, point),
+        None => false,
+    }
+}
+
+// The point of the i-th dimension of the template.
+fn point_at(extents: &[u32], forms: &[Form], sizes: &[i64], i: usize, point: AlignPoint) -> bool
+    ensures { result ≡ point_fits extents.now (distributes (slice_get forms.now i)) (slice_get sizes.now i) point }
+{
+    point_fits(extents, distributes(forms, i), sizes.get(i).copied(), point)
+}
+
+fn points_right(extents: &[u32], forms: &[Form], sizes: &[i64], points: &[AlignPoint]) -> bool
+    ensures { result ≡ points_right extents.now forms.now sizes.now points.now }
+{
+    'points: for (i, point) in points.iter().enumerate() {
+        if !point_at(extents, forms, sizes, i, *point) {
+            return false;
+        }
+    }
+    true
+}
+
+// Whether the points name no dimension twice, and each one with a dummy.
+fn names_right(alloc: Global, line: &Align) -> Result<bool, AllocError>
+    ensures { IfOk result (λ r. r ≡ (all_different (dimensions_in line.now.points) && dummies_right line.now.dummies (dimensions_in line.now.points))) }
+{
+    let dimensions = dimensions_in(alloc, line.points.as_slice())?;
+    Ok(all_different(&dimensions) && dummies_right(line.dummies.as_slice(), &dimensions))
+}
+
+fn align_right(alloc: Global, lines: &Lines, line: &Align) -> Result<bool, AllocError>
+    ensures { IfOk result (λ r. r ≡ align_right lines.now line.now) }
+{
+    let points = line.points.as_slice();
+    let extents = extents_in(lines.world(), line.array);
+    let forms = lines.forms_of(line.template as usize);
+    let sizes = lines.template_sizes(line.template);
+    let numbers = line.dummies.len() == extents.len()
+        && (one_to_three(points.len()) && points.len() == sizes.len());
+    let names = names_right(alloc, line)?;
+    Ok(numbers && (names && points_right(extents, forms, sizes, points)))
+}
+
+fn align_rule(
+    alloc: Global,
+    lines: &Lines,
+    broken: &mut Items<Broken>,
+    i: usize,
+    line: &Align,
+) -> Result<(), AllocError>
+    ensures { OnOk result (broken.new ≡ broken.old ++ align_rule lines.now (i, line.now)) }
+{
+    let first = lines.is_first_align(i, line.array);
+    let right = align_right(alloc, lines, line)?;
+    judge(
+        broken,
+        first && (!lines.world().names.coarray && right),
+        Rule::M5,
+        line.at,
+    )
+}
+
+/// The rules that aligns break.
+pub(crate) fn align_rules(
+    alloc: Global,
+    lines: &Lines,
+    broken: &mut Items<Broken>,
+) -> Result<(), AllocError>
+    ensures { OnOk result (broken.new ≡ broken.old ++ align_rules lines.now) }
+{
+    let list = lines.world().mappings.aligns.as_slice();
+    'list: for (i, line) in list.iter().enumerate() {
+        align_rule(alloc, lines, broken, i, line)?;
+    }
+    Ok(())
+}

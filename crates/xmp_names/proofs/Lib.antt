@@ -1,0 +1,3 @@
+pub mod Rolls
+pub mod Steps
+pub mod Walks

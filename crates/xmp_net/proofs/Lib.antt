@@ -1,0 +1,6 @@
+pub mod Course
+pub mod Progress
+pub mod Orders
+pub mod OneTraffic
+pub mod Tables
+pub mod Pair

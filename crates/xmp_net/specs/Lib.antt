@@ -1,0 +1,5 @@
+pub mod Nodes
+pub mod Traffic
+pub mod Tables
+pub mod Laws
+pub mod Examples

@@ -1,0 +1,4 @@
+pub mod Runs
+pub mod Rounds
+pub mod Loops
+pub mod Counters

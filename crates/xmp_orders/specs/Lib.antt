@@ -1,0 +1,4 @@
+pub mod Movers
+pub mod Choices
+pub mod Progress
+pub mod Examples

@@ -1,0 +1,9 @@
+use Rattle.std.proofs.Common.{IfOk, subst}
+use Rattle.xmp_names.specs.declared.world.World.{World}
+use Rattle.xmp_parts.specs.Parts.{EachMade, IsTemplate}
+use Rattle.xmp_parts.proofs.elaborated.placed_in.Goals as goal
+
+pub returns-in-Ok-clause-templates : goal.returns-in-Ok-clause-templates
+returns-in-Ok-clause-templates c =
+    subst (λ (w : World). IfOk c.place_or_refuse.result (λ m. EachMade (λ k line t. IsTemplate w m.grid k t) 0 w.mappings.templates m.templates))
+    c.in-Ok.ensures c.place_or_refuse.ensures.templates

@@ -1,0 +1,9 @@
+pub mod Taking
+pub mod Held
+pub mod Opening
+pub mod Whole
+pub mod Views
+pub mod Levels
+pub mod Longer
+pub mod Listing
+pub mod Passing

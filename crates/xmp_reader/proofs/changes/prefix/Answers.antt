@@ -1,0 +1,18 @@
+use Rattle.std.proofs.Common.{rules, ◌≡◌, ℕ, true, false, sym, refl, ap, ◌∙◌}
+use Rattle.std.proofs.lemmas.Result.{err_from_is_err_and}
+use Rattle.xmp_reader.proofs.Opening.{seq, into, skip, first, second, again, no_more, first_not, second_not}
+use Rattle.xmp_reader.proofs.Listing.{split, whole, once_more, if_so, if_not, entered}
+use Rattle.xmp_reader.proofs.changes.prefix.Goals as goal
+
+pub returns-in_err-operator-clause-goes : goal.returns-in_err-operator-clause-goes
+returns-in_err-operator-clause-goes c = λ s L K w.
+    let p = err_from_is_err_and c.from_residual.result c.from_residual.ensures.1 in
+    rw (p.1, p.2) (c.in_err-operator.ensures.goes s _ _ (seq w))
+
+pub returns-in_err-target-clause-goes : goal.returns-in_err-target-clause-goes
+returns-in_err-target-clause-goes c = λ s L K w.
+    let p = err_from_is_err_and c.from_residual-in_err-target.result c.from_residual-in_err-target.ensures.1 in
+    rw (p.1, p.2) (c.in_err-target.ensures.goes s _ _ ((c.in_ok-operator.ensures.goes s _ _ (seq w))))
+
+pub returns-clause-goes : goal.returns-clause-goes
+returns-clause-goes c = λ s L K w. c.in_ok-target.ensures.goes s _ _ ((c.in_ok-operator.ensures.goes s _ _ (seq w)))

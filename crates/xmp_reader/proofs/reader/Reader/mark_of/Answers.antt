@@ -1,0 +1,23 @@
+use Rattle.std.proofs.Common.{rules, ◌≡◌, ℕ, true, false, sym, refl, ◌∙◌}
+use Rattle.std.proofs.lemmas.Result.{err_from_is_err_and}
+use Rattle.xmp_lex.specs.declared.token.TokenKind.TheVariants as t
+use Rattle.xmp_syntax.specs.Grammar as g
+use Rattle.xmp_syntax.specs.Spell.{type_word}
+use Rattle.xmp_reader.specs.Classes.{of_class}
+use Rattle.xmp_reader.specs.declared.effect.Effect.TheVariants as eff
+use Rattle.xmp_reader.proofs.Taking.{taken_stuck}
+use Rattle.xmp_reader.proofs.Held.{name_some, name_none, text_some, text_none, number_some, number_none, type_some, type_none, class_some, class_none, class_end}
+use Rattle.xmp_reader.proofs.reader.Reader.mark_of.Goals as goal
+
+pub returns-in_err-at-in-Some-clause-goes : goal.returns-in_err-at-in-Some-clause-goes
+returns-in_err-at-in-Some-clause-goes c = λ s L K w.
+    let p = err_from_is_err_and c.from_residual.result c.from_residual.ensures.1 in
+    rw (p.1, p.2) (c.in_err-at-in-Some.ensures.goes (of_class c.args.class) (class_end c.args.class c.requires)
+    (class_some c.args.class _ _ _ (sym c.in-Some.ensures) (sym c.has.ensures)).1 s L K w)
+
+pub returns-in_ok-at-in-Some-clause-reads : goal.returns-in_ok-at-in-Some-clause-reads
+returns-in_ok-at-in-Some-clause-reads c = c.in_ok-at-in-Some.ensures.reads (t.Mark c.in-Some.what) (λ q. (class_some c.args.class _ _ _ (sym c.in-Some.ensures) (sym c.has.ensures)).0)
+
+pub returns-in-None-clause-goes : goal.returns-in-None-clause-goes
+returns-in-None-clause-goes c = λ s L K w.
+    rw c.unexpected.ensures.value (taken_stuck c.args.effect (of_class c.args.class) c.args.self.depth _ s L K (class_none c.args.class c.requires _ (sym c.in-None.ensures)) w)

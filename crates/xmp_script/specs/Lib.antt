@@ -1,0 +1,9 @@
+pub mod Script
+pub mod World
+pub mod LastPuts
+pub mod Images
+pub mod Carries
+pub mod Bounds
+pub mod Walkers
+pub mod Laws
+pub mod Examples

@@ -1,7 +1,0 @@
-use Rattle.xmp_source.proofs.Sources as lemmas
-use Rattle.xmp_source.proofs.laws.tree_or_refused.Goals as goal
-
-pub returns : goal.returns
-returns c =
-    lemmas.tree_or_refused c.one_cut.ensures c.one_expansion.ensures c.cut_or_refused.ensures c.expanded_or_refused.ensures
-    c.program_or_refused.ensures.stuck c.program_or_refused.ensures.deep

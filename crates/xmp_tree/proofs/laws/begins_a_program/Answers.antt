@@ -1,8 +1,0 @@
-use Rattle.xmp_tree.proofs.Fronts.{front, begins}
-use Rattle.xmp_tree.proofs.laws.begins_a_program.Goals as goal
-
-pub returns-clause-front : goal.returns-clause-front
-returns-clause-front c = front
-
-pub returns-clause-begins : goal.returns-clause-begins
-returns-clause-begins c = begins

@@ -1,5 +1,0 @@
-use Rattle.xmp_tree.proofs.Shorter.{one_place}
-use Rattle.xmp_tree.proofs.laws.one_stuck_token.Goals as goal
-
-pub returns : goal.returns
-returns c = one_place

@@ -1,5 +1,0 @@
-use Rattle.xmp_tree.proofs.OneProgram.{same_tree}
-use Rattle.xmp_tree.proofs.laws.one_tree.Goals as goal
-
-pub returns : goal.returns
-returns c = same_tree

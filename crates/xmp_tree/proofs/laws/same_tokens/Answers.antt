@@ -1,5 +1,0 @@
-use Rattle.xmp_tree.proofs.OneProgram.{same_tokens}
-use Rattle.xmp_tree.proofs.laws.same_tokens.Goals as goal
-
-pub returns : goal.returns
-returns c = same_tokens

@@ -1,9 +1,0 @@
-use Rattle.std.proofs.Common.{◌∙◌}
-use Rattle.xmp_walk.specs.MappingRules.{align_rule}
-use Rattle.xmp_walk.proofs.Enumerated.{part_step}
-use Rattle.xmp_walk.proofs.align_rules.align_rules.Goals as goal
-
-pub lines-preserved : goal.lines-preserved
-lines-preserved c =
-    c.lines.invariant ∙ part_step (align_rule c.args.w.now) c.as_slice-lines.result.now c.lines.i c.index-lines-i.result c.lines.broken c.align_rule.new.broken c.lines-test.true
-    c.index-lines-i.is c.in_ok-align_rule.ensures

@@ -1,9 +1,0 @@
-use Rattle.std.proofs.Common.{◌≡◌, map, drop}
-use Rattle.std.specs.Prelude.{not}
-use Rattle.std.specs.List.{list_all}
-use Rattle.xmp_walk.specs.Directives.{share}
-use Rattle.xmp_walk.proofs.blocks.is_apart.Given as goal
-
--- what is left to do from here gives what the whole gives
-abbrev pub invariant-sets : goal.invariant-sets
-invariant-sets l = list_all (λ other. not (share other l.nodes)) l.fn.before ≡ list_all (λ other. not (share other l.nodes)) (drop l.other-index l.before)

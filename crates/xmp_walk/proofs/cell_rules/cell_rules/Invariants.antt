@@ -1,7 +1,0 @@
-use Rattle.std.proofs.Common.{◌≡◌, ◌+◌, ◌++◌, ◌≤◌, drop}
-use Rattle.xmp_walk.specs.Declarations.{most_cells}
-use Rattle.xmp_walk.specs.MappingRules.{cells_from, copies}
-use Rattle.xmp_walk.proofs.cell_rules.cell_rules.Given as goal
-
-abbrev pub invariant-arrays : goal.invariant-arrays
-invariant-arrays l = (l.before ≤ most_cells + 1) × (l.fn.broken ++ cells_from (copies l.w) 0 l.arrays ≡ l.broken ++ cells_from (copies l.w) l.before (drop l.array-index l.arrays))

@@ -1,7 +1,0 @@
-use Rattle.std.proofs.Common.{◌≡◌, map, drop}
-use Rattle.xmp_walk.specs.Directives.{is_one}
-use Rattle.xmp_walk.proofs.directives.is_one.Given as goal
-
--- what is left to do from here gives what the whole gives
-abbrev pub invariant-list : goal.invariant-list
-invariant-list l = is_one l.fn.ranges ≡ is_one (drop l.range-index l.ranges)

@@ -1,7 +1,0 @@
-use Rattle.std.proofs.Common.{◌≡◌, ◌++◌, drop}
-use Rattle.xmp_walk.specs.Directives.{ranges}
-use Rattle.xmp_walk.proofs.directives.ranges.Given as goal
-
--- what is left to do from here gives what the whole gives
-abbrev pub invariant-sizes : goal.invariant-sizes
-invariant-sizes l = ranges l.sizes l.parts ≡ l.done ++ ranges (drop l.i l.sizes) (drop l.i l.parts)

@@ -1,8 +1,0 @@
-use Rattle.std.proofs.Common.{◌≡◌, ◌-◌}
-use Rattle.xmp_walk.specs.Directives.{nest_of}
-use Rattle.xmp_walk.proofs.Nests.{behind}
-use Rattle.xmp_walk.proofs.loop_lines.nest_of.Given as goal
-
--- the heads so far and those of what is left
-abbrev pub invariant-heads : goal.invariant-heads
-invariant-heads l = nest_of l.count l.fn.s ≡ behind l.heads (nest_of (l.count - l._head) l.left)

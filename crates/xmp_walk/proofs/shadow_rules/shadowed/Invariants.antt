@@ -1,5 +1,0 @@
-use Rattle.std.proofs.Common.{◌≡◌, ◌++◌, map, drop}
-use Rattle.xmp_walk.proofs.shadow_rules.shadowed.Given as goal
-
-abbrev pub invariant-lines : goal.invariant-lines
-invariant-lines l = map (λ d. d.array) l.lines ≡ l.numbers ++ map (λ d. d.array) (drop l.line-index l.lines)

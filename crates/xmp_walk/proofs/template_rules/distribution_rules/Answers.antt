@@ -1,9 +1,0 @@
-use Rattle.std.proofs.Common.{◌∙◌}
-use Rattle.xmp_walk.specs.MappingRules.{distribution_rule}
-use Rattle.xmp_walk.proofs.Enumerated.{part_step}
-use Rattle.xmp_walk.proofs.template_rules.distribution_rules.Goals as goal
-
-pub lines-preserved : goal.lines-preserved
-lines-preserved c =
-    c.lines.invariant ∙ part_step (distribution_rule c.args.w.now) c.as_slice-lines.result.now c.lines.i c.index-lines-i.result c.lines.broken c.distribution_rule.new.broken c.lines-test.true
-    c.index-lines-i.is c.in_ok-distribution_rule.ensures

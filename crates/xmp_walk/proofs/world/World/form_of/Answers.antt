@@ -1,9 +1,0 @@
-use Rattle.std.proofs.Common.{◌∙◌, ap}
-use Rattle.xmp_walk.specs.declared.mappings.Form.TheVariants as form
-use Rattle.xmp_walk.specs.Walk.{and_then, pure}
-use Rattle.xmp_walk.specs.MappingLines.{form_of}
-use Rattle.xmp_walk.proofs.world.World.form_of.Goals as goal
-
-pub returns-in_ok-lengths-in-Gblock : goal.returns-in_ok-lengths-in-Gblock
-returns-in_ok-lengths-in-Gblock c =
-    ap (λ f. form_of f c.args.self.now) c.in-Gblock.is ∙ ap (λ s. and_then s (λ ns. pure (form.Gblock ns))) c.in_ok-lengths-in-Gblock.ensures

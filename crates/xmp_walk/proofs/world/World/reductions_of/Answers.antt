@@ -1,9 +1,0 @@
-use Rattle.std.proofs.Common.{◌∙◌}
-use Rattle.xmp_walk.proofs.Reductions.{reductions_step}
-use Rattle.xmp_walk.proofs.world.World.reductions_of.Goals as goal
-
-pub list-preserved : goal.list-preserved
-list-preserved c =
-    c.list.invariant
-    ∙ reductions_step c.list.done c.append.new.self c.args.list.now c.list.reduction-index c.reduction-item.result c.operation_of.result c.in_ok-more.more c.list.self c.reduction_names.new.self
-    c.list-test.true c.reduction-item.is c.operation_of.ensures c.in_ok-more.ensures c.in_ok-append.ensures

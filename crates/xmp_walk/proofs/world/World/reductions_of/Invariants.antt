@@ -1,7 +1,0 @@
-use Rattle.std.proofs.Common.{◌≡◌, map, drop, []}
-use Rattle.xmp_walk.specs.Directives.{reductions_of}
-use Rattle.xmp_walk.proofs.world.World.reductions_of.Given as goal
-
--- what is left to do from here gives what the whole gives
-abbrev pub invariant-list : goal.invariant-list
-invariant-list l = reductions_of [] l.fn.list l.fn.self ≡ reductions_of l.done (drop l.reduction-index l.list) l.self
