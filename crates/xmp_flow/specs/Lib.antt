@@ -1,6 +1,7 @@
 pub mod Objects
 pub mod Setting
 pub mod Views
+pub mod Written
 pub mod Reads
 pub mod Same
 pub mod Offsets

@@ -13,6 +13,7 @@ mod plain;
 mod role;
 mod scalars;
 mod setting;
+mod written;
 
 pub use elements::{element_read, element_write, home_of};
 pub use equal::same;
@@ -22,6 +23,9 @@ pub use laws::{forms_of_plans, reads_of_forms};
 pub use naming::{is_bound, is_in, is_number, names, scalar_type, type_of};
 pub use nodes::{nodes_in, nodes_of};
 pub use offsets::Reach;
+pub use plain::{form_reads, plain_events};
 pub use role::Role;
 pub use scalars::{assigned, is_written, loops, read_scalar, role_at, wrong_where};
 pub use setting::Around;
+pub use written::{arrays_written, indices, scalars_written};
+

@@ -5,7 +5,8 @@ ghost use Rattle.xmp_paths.specs.Plans.{in_order};
 ghost use Rattle.xmp_paths.specs.Flows.{plan_of};
 ghost use Rattle.xmp_prog.specs.declared.expressions.Expr.{Expr};
 ghost use Rattle.xmp_prog.specs.declared.statements.Target.TheVariants as Target;
-ghost use Rattle.xmp_flow.specs.Setting.{wrong_where};
+ghost use Rattle.xmp_prog.specs.declared.statements.Plain.TheVariants as Plain;
+ghost use Rattle.xmp_flow.specs.Setting.{is_alone, wrong_where};
 ghost use Rattle.xmp_flow.specs.Reads.{reads_of, reads_of_all, reads_of_option, subscript_reads};
 ghost use Rattle.xmp_flow.specs.Elements.{element_write};
 ghost use Rattle.xmp_flow.specs.PlainEvents.{assignment_events, cast, moved, number_events, old_element, old_scalar, part_events, plain_events, plan_of_gmove, reflected, scalar_assigned, scanned, set_events, side_events, source_events};
@@ -337,4 +338,164 @@ fn gmove_events(
     parts.push(source_events(alloc, s, from))?;
     parts.push(moved(alloc, s, to))?;
     Ok(Flow::all(parts))
+}
+
+fn option_reads(alloc: Global, s: &Around, value: &Option<Expr>) -> Result<Flow, AllocError>
+    requires { KnowsAll s.now }
+    ensures { IfOk result (λ flow. plan_of flow ≡ reads_of_option value.now (setting_of s.now)) }
+{
+    match value {
+        Some(e) => reads(alloc, s, e),
+        None => Ok(Flow::nothing(alloc)),
+    }
+}
+
+// A declaration: its initialiser, and the scalar.
+fn declared(
+    alloc: Global,
+    s: &Around,
+    slot: u32,
+    value: &Option<Expr>,
+    at: Place,
+) -> Result<Flow, AllocError>
+    requires { KnowsAll s.now }
+    ensures { IfOk result (λ flow. plan_of flow
+        ≡ in_order (reads_of_option value.now (setting_of s.now) ∷ scalar_assigned (setting_of s.now) slot at)) }
+{
+    let mut parts = Items::new(alloc);
+    let part = option_reads(alloc, s, value)?;
+    parts.push(part)?;
+    let reduced = matches!(role_at(s, slot), Role::Reduced(_));
+    parts.push(wrong_where(alloc, reduced, 5, at))?;
+    parts.push(assigned(s, slot))?;
+    Ok(Flow::all(parts))
+}
+
+// An assignment.
+fn assignment_events(
+    alloc: Global,
+    s: &Around,
+    to: &Target,
+    compound: Option<Compound>,
+    value: &Expr,
+) -> Result<Flow, AllocError>
+    requires { KnowsAll s.now }
+    ensures { IfOk result (λ flow. plan_of flow ≡ assignment_events (setting_of s.now) compound value.now to.now) }
+{
+    match to {
+        Target::Scalar(slot, at) => scalar_events(alloc, s, *slot, *at, compound, value),
+        Target::Cell(a) => element_events(alloc, s, a, compound, value),
+    }
+}
+
+// Expressions in order, and what is wrong behind them.
+fn listed(alloc: Global, s: &Around, es: &[Expr], last: Flow) -> Result<Flow, AllocError>
+    requires { KnowsAll s.now }
+    ensures { IfOk result (λ flow. plan_of flow ≡ in_order (reads_of_all es.now (setting_of s.now) ++ plan_of last ∷ [])) }
+{
+    match reads_of_each(alloc, s, es) {
+        Ok(parts) => with(parts, last),
+        Err(e) => {
+            std::mem::drop(last);
+            Err(e)
+        }
+    }
+}
+
+// A scalar that `scanf` sets, and what is wrong behind it.
+fn scalar_scanned(alloc: Global, s: &Around, slot: u32, at: Place, last: Flow) -> Result<Flow, AllocError>
+    requires { KnowsAll s.now }
+    ensures { IfOk result (λ flow. plan_of flow
+        ≡ in_order (scanned (setting_of s.now) (Target.Scalar slot at) ++ plan_of last ∷ [])) }
+{
+    let mut parts = Items::new(alloc);
+    let reduced = matches!(role_at(s, slot), Role::Reduced(_));
+    parts.push(wrong_where(alloc, reduced, 5, at))?;
+    parts.push(Flow::one(Event::Mark {
+        object: 2 * slot as u64,
+        current: 0,
+        stale: s.all ^ s.nodes,
+    }))?;
+    with(parts, last)
+}
+
+// An element that `scanf` sets, and what is wrong behind it.
+fn element_scanned(alloc: Global, s: &Around, a: &Access, last: Flow) -> Result<Flow, AllocError>
+    requires { KnowsAll s.now }
+    ensures { IfOk result (λ flow. plan_of flow ≡ in_order ((reads_of_all a.now.subscripts (setting_of s.now)
+        ++ element_write (setting_of s.now) a.now.array a.now.subscripts a.now.at ∷ []) ++ plan_of last ∷ [])) }
+{
+    let mut parts = reads_of_each(alloc, s, a.subscripts.as_slice())?;
+    parts.push(element_write(alloc, s, a.array, a.subscripts.as_slice(), a.at))?;
+    with(parts, last)
+}
+
+// `scanf`
+fn scan_events(alloc: Global, s: &Around, to: &Target, at: Place) -> Result<Flow, AllocError>
+    requires { KnowsAll s.now }
+    ensures { IfOk result (λ flow. plan_of flow ≡ plain_events (Plain.Scan to.now at) (setting_of s.now)) }
+{
+    let wrong = wrong_where(alloc, s.over.is_some() || s.nodes != 1, 8, at);
+    match to {
+        Target::Scalar(slot, name) => scalar_scanned(alloc, s, *slot, *name, wrong),
+        Target::Cell(a) => element_scanned(alloc, s, a, wrong),
+    }
+}
+
+// `printf`
+fn print_events(alloc: Global, s: &Around, arguments: &[Expr], at: Place) -> Result<Flow, AllocError>
+    requires { KnowsAll s.now }
+    ensures { IfOk result (λ flow. plan_of flow ≡ in_order (reads_of_all arguments.now (setting_of s.now)
+        ++ wrong_where (is_some (setting_of s.now).over || not (is_alone (setting_of s.now))) 7 at ∷ [])) }
+{
+    let wrong = wrong_where(alloc, s.over.is_some() || s.nodes.count_ones() != 1, 7, at);
+    listed(alloc, s, arguments, wrong)
+}
+
+// A call whose result isn't used.
+fn call_events(
+    alloc: Global,
+    s: &Around,
+    function: u32,
+    arguments: &[Expr],
+    at: Place,
+) -> Result<Flow, AllocError>
+    requires { KnowsAll s.now }
+    ensures { IfOk result (λ flow. plan_of flow ≡ in_order (reads_of_all arguments.now (setting_of s.now)
+        ++ wrong_where ((setting_of s.now).inside && (setting_of s.now).loops function) 9 at ∷ [])) }
+{
+    let wrong = wrong_where(alloc, s.inside && loops(s, function), 9, at);
+    listed(alloc, s, arguments, wrong)
+}
+
+/// The events of a statement that holds no statement.
+pub fn plain_events(alloc: Global, s: &Around, p: &Plain) -> Result<Flow, AllocError>
+    requires { KnowsAll s.now }
+    ensures { IfOk result (λ flow. plan_of flow ≡ plain_events p.now (setting_of s.now)) }
+{
+    match p {
+        Plain::Declare { slot, value, at } => declared(alloc, s, *slot, value, *at),
+        Plain::Set {
+            target,
+            compound,
+            value,
+        } => assignment_events(alloc, s, target, *compound, value),
+        Plain::Return(value) => reads(alloc, s, value),
+        Plain::Call {
+            function,
+            arguments,
+            at,
+        } => call_events(alloc, s, *function, arguments.as_slice(), *at),
+        Plain::Print { arguments, at, .. } => print_events(alloc, s, arguments.as_slice(), *at),
+        Plain::Scan { target, at } => scan_events(alloc, s, target, *at),
+        Plain::Sync { status, .. } => scalar_assigned(alloc, s, status.number, status.at),
+        Plain::Reflect { arrays, at } => reflected_each(alloc, s, arrays.as_slice(), *at),
+        Plain::Barrier { at } => Ok(wrong_where(alloc, s.inside, 10, *at)),
+        Plain::Cast {
+            variables,
+            from,
+            at,
+        } => cast_each(alloc, s, variables.as_slice(), from, *at),
+        Plain::Gmove { target, source, at } => gmove_events(alloc, s, target, source, *at),
+    }
 }
