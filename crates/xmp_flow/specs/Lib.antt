@@ -2,6 +2,7 @@ pub mod Objects
 pub mod Setting
 pub mod Views
 pub mod Written
+pub mod Ready
 pub mod Reads
 pub mod Same
 pub mod Offsets

@@ -71,18 +71,18 @@ own_scalars d body = filter (λ slot. is_own (role_in d body slot)) (scalars_wri
 -- ---- before the iterations
 
 -- the head of a loop of the nest, the indices of the loops round it apart: its bounds, and its index
-abbrev pub head_events : Setting → LoopDirective → Stmt → (outer : List ℕ) → LoopHead → Plan Event
-head_events s d body outer h = in_order (
-    reads_of h.from (at_bounds d body s)
-    ∷ wrong_where (not (is_bound outer (scalars_of d body) h.from)) 12 h.from_at
-    ∷ reads_of h.to (at_bounds d body s)
-    ∷ wrong_where (not (is_bound outer (scalars_of d body) h.to)) 12 h.to_at
-    ∷ wrong_where (is_reduced (role_in d body h.index.number)) 5 h.index.at
+abbrev pub head_events : Setting → (outer written : List ℕ) → LoopHead → Plan Event
+head_events s outer written h = in_order (
+    reads_of h.from s
+    ∷ wrong_where (not (is_bound outer written h.from)) 12 h.from_at
+    ∷ reads_of h.to s
+    ∷ wrong_where (not (is_bound outer written h.to)) 12 h.to_at
+    ∷ wrong_where (is_reduced (s.roles h.index.number)) 5 h.index.at
     ∷ [])
 
-abbrev pub nest_events : Setting → LoopDirective → Stmt → (outer : List ℕ) → List LoopHead → List (Plan Event)
-nest_events s d body outer [] = []
-nest_events s d body outer (h ∷ heads) = head_events s d body outer h ∷ nest_events s d body (outer ++ h.index.number ∷ []) heads
+abbrev pub nest_events : Setting → (outer written : List ℕ) → List LoopHead → List (Plan Event)
+nest_events s outer written [] = []
+nest_events s outer written (h ∷ heads) = head_events s outer written h ∷ nest_events s (outer ++ h.index.number ∷ []) written heads
 
 -- each reduction variable is read on all nodes, and named once
 abbrev pub reduction_events : Setting → (before : List ℕ) → List Reduction → List (Plan Event)
@@ -90,7 +90,7 @@ reduction_events s before [] = []
 reduction_events s before (r ∷ more) =
     emit (Read (scalar_object r.variable.number) (all_nodes s.program) 1 r.variable.at)
     ∷ wrong_where (is_in before r.variable.number) 5 r.variable.at
-    ∷ reduction_events s (r.variable.number ∷ before) more
+    ∷ reduction_events s (before ++ r.variable.number ∷ []) more
 
 -- ---- the iterations, and behind them
 
@@ -118,7 +118,7 @@ ends s d body =
 abbrev pub loop_events : LoopDirective → Stmt → (Setting → Plan Event) → Setting → Plan Event
 loop_events d body events s = in_order (
     wrong_where s.inside 10 d.at
-    ∷ in_order (nest_events s d body [] d.nest)
+    ∷ in_order (nest_events (at_bounds d body s) [] (scalars_of d body) d.nest)
     ∷ in_order (reduction_events s [] d.reductions)
     ∷ loop (iteration s d body events)
     ∷ in_order (ends s d body)

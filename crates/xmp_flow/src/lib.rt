@@ -1,6 +1,7 @@
 //! The rules on copies that are out of date: the events of each form of statement, and the plan of a program.
 #![tactic(auto)]
 
+mod directive;
 mod elements;
 mod equal;
 mod expressions;
@@ -10,9 +11,13 @@ mod naming;
 mod nodes;
 mod offsets;
 mod plain;
+mod ready;
 mod role;
+mod roles;
 mod scalars;
 mod setting;
+mod statements;
+mod tables;
 mod written;
 
 pub use elements::{element_read, element_write, home_of};
@@ -26,6 +31,8 @@ pub use offsets::Reach;
 pub use plain::{form_reads, plain_events};
 pub use role::Role;
 pub use scalars::{assigned, is_written, loops, read_scalar, role_at, wrong_where};
+pub use ready::Ready;
 pub use setting::Around;
+pub use statements::events;
 pub use written::{arrays_written, indices, scalars_written};
 

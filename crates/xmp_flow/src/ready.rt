@@ -1,0 +1,163 @@
+// What stands ready for the body of a loop directive, and the events round those of its body.
+ghost use Rattle.std.specs.Prelude.{◌≡◌, ◌++◌, ◌∷◌, [], ℕ, map, true, Some, IfOk};
+ghost use Rattle.xmp_paths.specs.Plans.{in_order};
+ghost use Rattle.xmp_paths.specs.Flows.{plan_of};
+ghost use Rattle.xmp_prog.specs.Statements.{indices_of};
+ghost use Rattle.xmp_prog.specs.declared.statements.Stmt.{Stmt};
+ghost use Rattle.xmp_flow.specs.Objects.{all_nodes};
+ghost use Rattle.xmp_flow.specs.LoopEvents.{loop_events};
+ghost use Rattle.xmp_flow.specs.Ready.{IsReady, before_turns, ends_with, turn_of};
+ghost use Rattle.xmp_flow.specs.Views.{KnowsAll, flag_at, role_at, setting_of};
+
+use crate::directive::{current_reductions, nest_events, own_scalars, reduction_events, stale_scalars, stale_shadows};
+use crate::expressions::with;
+use crate::role::Role;
+use crate::roles::{bound_roles, roles_in};
+use crate::scalars::wrong_where;
+use crate::setting::Around;
+use crate::tables::flags_of;
+use crate::written::{arrays_written, indices, scalars_written};
+use sqlite_items::Items;
+use std::alloc::{AllocError, Global};
+use xmp_paths::Flow;
+use xmp_prog::{LoopDirective, Stmt};
+
+/// The scalars and arrays that the body writes, what each scalar is to the directive in the iterations and at the bounds
+/// of the nest, by slot, and whether the body writes each array.
+#[derive(Drop)]
+pub struct Ready {
+    pub scalars: Items<u32>,
+    pub arrays: Items<u32>,
+    pub roles: Items<Role>,
+    pub before: Items<Role>,
+    pub written: Items<bool>,
+}
+
+/// What stands ready for a body.
+pub fn ready(alloc: Global, d: &LoopDirective, body: &Stmt) -> Result<Ready, AllocError>
+    ensures { IfOk result (λ r. IsReady r d.now body.now) }
+{
+    let mut scalars = Items::new(alloc);
+    scalars_written(body, &mut scalars)?;
+    let mut arrays = Items::new(alloc);
+    arrays_written(body, &mut arrays)?;
+    let roles = roles_in(alloc, d, scalars.as_slice())?;
+    let before = bound_roles(alloc, roles.as_slice())?;
+    let written = flags_of(alloc, arrays.as_slice())?;
+    Ok(Ready {
+        scalars,
+        arrays,
+        roles,
+        before,
+        written,
+    })
+}
+
+/// An iteration of the directive.
+pub fn within<'a>(s: &Around<'a>, d: &'a LoopDirective, r: &'a Ready) -> Around<'a>
+    requires { KnowsAll s.now }
+    ensures knows { KnowsAll result }
+    ensures setting { setting_of result ≡ record (setting_of s.now) {
+        nodes = all_nodes (setting_of s.now).program; inside = true; over = Some d.now;
+        roles = role_at r.now.roles; written = flag_at r.now.written } }
+{
+    Around {
+        nodes: s.all,
+        inside: true,
+        over: Some(d),
+        roles: r.roles.as_slice(),
+        written: r.written.as_slice(),
+        ..*s
+    }
+}
+
+// The bounds of its nest.
+fn at_bounds<'a>(s: &Around<'a>, d: &'a LoopDirective, r: &'a Ready) -> Around<'a>
+    requires { KnowsAll s.now }
+    ensures knows { KnowsAll result }
+    ensures setting { setting_of result ≡ record (setting_of s.now) {
+        nodes = all_nodes (setting_of s.now).program; inside = true; over = Some d.now;
+        roles = role_at r.now.before; written = flag_at r.now.written } }
+{
+    Around {
+        nodes: s.all,
+        inside: true,
+        over: Some(d),
+        roles: r.before.as_slice(),
+        written: r.written.as_slice(),
+        ..*s
+    }
+}
+
+// One iteration: own scalars out of date, and then the body.
+fn turn(alloc: Global, s: &Around, own: &[u32], body: Flow) -> Result<Flow, AllocError>
+    requires { KnowsAll s.now }
+    ensures { IfOk result (λ flow. plan_of flow ≡ turn_of (setting_of s.now) own.now (plan_of body)) }
+{
+    let mut parts = Items::new(alloc);
+    match stale_scalars(s, own, &mut parts) {
+        Ok(()) => with(parts, body),
+        Err(e) => {
+            std::mem::drop(body);
+            Err(e)
+        }
+    }
+}
+
+// What the directive leaves.
+fn ends(alloc: Global, s: &Around, d: &LoopDirective, own: &[u32], arrays: &[u32]) -> Result<Flow, AllocError>
+    requires { KnowsAll s.now }
+    ensures { IfOk result (λ flow. plan_of flow ≡ in_order (ends_with (setting_of s.now) d.now own.now arrays.now)) }
+{
+    let mut parts = Items::new(alloc);
+    stale_scalars(s, own, &mut parts)?;
+    let mut slots = Items::new(alloc);
+    indices(d.nest.as_slice(), &mut slots)?;
+    stale_scalars(s, slots.as_slice(), &mut parts)?;
+    current_reductions(s, d.reductions.as_slice(), &mut parts)?;
+    stale_shadows(alloc, s, arrays, &mut parts)?;
+    Ok(Flow::all(parts))
+}
+
+// What stands before the iterations.
+fn head(alloc: Global, s: &Around, d: &LoopDirective, r: &Ready) -> Result<Items<Flow>, AllocError>
+    requires { KnowsAll s.now }
+    ensures { IfOk result (λ parts. (body : Stmt) → IsReady r.now d.now body
+        → map plan_of parts ≡ before_turns (setting_of s.now) d.now body) }
+{
+    let mut written = Items::new(alloc);
+    indices(d.nest.as_slice(), &mut written)?;
+    'items: for slot in r.scalars.as_slice() {
+        written.push(*slot)?;
+    }
+    let bounds = at_bounds(s, d, r);
+    let nest = nest_events(alloc, &bounds, written.as_slice(), d.nest.as_slice())?;
+    let reductions = reduction_events(alloc, s, d.reductions.as_slice())?;
+    let mut parts = Items::new(alloc);
+    parts.push(wrong_where(alloc, s.inside, 10, d.at))?;
+    parts.push(Flow::all(nest))?;
+    parts.push(Flow::all(reductions))?;
+    Ok(parts)
+}
+
+/// The events of a directive round those of its body.
+pub fn around(
+    alloc: Global,
+    s: &Around,
+    d: &LoopDirective,
+    r: &Ready,
+    body: Flow,
+) -> Result<Flow, AllocError>
+    requires { KnowsAll s.now }
+    ensures { IfOk result (λ flow. (x : Stmt) → IsReady r.now d.now x
+        → plan_of flow ≡ loop_events d.now x (λ s. plan_of body) (setting_of s.now)) }
+{
+    let own = own_scalars(alloc, r.roles.as_slice(), r.scalars.as_slice())?;
+    let turn = turn(alloc, s, own.as_slice(), body)?;
+    let mut parts = head(alloc, s, d, r)?;
+    let turns = Flow::turns(alloc, turn)?;
+    parts.push(turns)?;
+    let ends = ends(alloc, s, d, own.as_slice(), r.arrays.as_slice())?;
+    parts.push(ends)?;
+    Ok(Flow::all(parts))
+}
