@@ -3,3 +3,5 @@ pub mod FormLaws
 pub mod ReadLaws
 pub mod ReachLaws
 pub mod SameLaws
+pub mod RoleLaws
+pub mod ReadyLaws

@@ -101,10 +101,14 @@ abbrev pub chosen_form : ℕ → Place → Expr → Expr → Option Expr → Opt
 chosen_form v at x w None = None
 chosen_form v at x w (Some y) = if_apart v (same y x && same w (variable v at)) (y ∷ x ∷ []) x
 
+-- whether the variable's type is no wider than that of an operation: else a cast that is written narrows it there
+abbrev pub fits_in : ProgParts → ℕ → Ty → Bool
+fits_in p v ty = same_type (scalar_type p v) ty || same_type (scalar_type p v) Int
+
 -- `v = v o x` and `v = q ? x : v`
 abbrev pub value_form : ProgParts → ℕ → RedOp → Place → Expr-F Expr Access → Option (List Expr)
 value_form p v r here (Expr-F.Binary o ty a x at) =
-    if_apart v (is_operator r o && same a (in_type p ty (variable v at))) (x ∷ []) x
+    if_apart v (is_operator r o && (fits_in p v ty && same a (in_type p ty (variable v at)))) (x ∷ []) x
 value_form p v r here (Expr-F.Choose q x w) = chosen_form v here x w (compared p v r (out-Expr q))
 value_form p v r here _ = None
 

@@ -42,6 +42,25 @@ fn head_events(
     Ok(Flow::all(parts))
 }
 
+// One more head of a nest, with its index among those round the loops in it.
+fn push_head(
+    alloc: Global,
+    s: &Around,
+    outer: &mut Items<u32>,
+    written: &[u32],
+    h: &LoopHead,
+    parts: &mut Items<Flow>,
+) -> Result<(), AllocError>
+    requires { KnowsAll s.now }
+    ensures outer { OnOk result (outer.new ≡ outer.old ++ h.now.index.number ∷ []) }
+    ensures parts { OnOk result (map plan_of parts.new
+        ≡ map plan_of parts.old ++ head_events (setting_of s.now) outer.old written.now h.now ∷ []) }
+{
+    let part = head_events(alloc, s, outer.as_slice(), written, h)?;
+    parts.push(part)?;
+    outer.push(h.index.number)
+}
+
 /// The heads of a nest, the outermost first.
 pub fn nest_events(
     alloc: Global,
@@ -55,9 +74,7 @@ pub fn nest_events(
     let mut outer = Items::new(alloc);
     let mut parts = Items::new(alloc);
     'items: for h in nest {
-        let part = head_events(alloc, s, outer.as_slice(), written, h)?;
-        parts.push(part)?;
-        outer.push(h.index.number)?;
+        push_head(alloc, s, &mut outer, written, h, &mut parts)?;
     }
     Ok(parts)
 }
@@ -87,13 +104,19 @@ pub fn reduction_events(
     Ok(parts)
 }
 
+fn is_own(roles: &[Role], slot: u32) -> bool
+    ensures { result ≡ is_own (role_at roles.now slot) }
+{
+    matches!(roles.get(slot as usize), Some(Role::Own))
+}
+
 /// Those of the scalars that are the iterations' own.
 pub fn own_scalars(alloc: Global, roles: &[Role], written: &[u32]) -> Result<Items<u32>, AllocError>
     ensures { IfOk result (λ own. own ≡ filter (λ slot. is_own (role_at roles.now slot)) written.now) }
 {
     let mut own = Items::new(alloc);
     'items: for slot in written {
-        if let Some(Role::Own) = roles.get(*slot as usize) {
+        if is_own(roles, *slot) {
             own.push(*slot)?;
         }
     }

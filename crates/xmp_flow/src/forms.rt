@@ -3,7 +3,7 @@ ghost use Rattle.std.specs.Prelude.{◌≡◌, ◌&&◌, ◌∷◌, []};
 ghost use Rattle.std.specs.Option.{option_copied};
 ghost use Rattle.xmp_prog.specs.declared.expressions.Expr.{out-Expr};
 ghost use Rattle.xmp_flow.specs.Same.{same};
-ghost use Rattle.xmp_flow.specs.Forms.{assignment_form, chosen_form, compared, goes_before, goes_behind, guarded_form, if_apart, in_type, is_operator, value_form, variable};
+ghost use Rattle.xmp_flow.specs.Forms.{assignment_form, chosen_form, compared, fits_in, goes_before, goes_behind, guarded_form, if_apart, in_type, is_operator, value_form, variable};
 ghost use Rattle.xmp_flow.specs.Views.{read_by};
 
 use crate::equal::same;
@@ -114,6 +114,13 @@ fn compared<'a>(p: &ProgParts, v: u32, r: RedOp, q: &'a Expr) -> Option<&'a Expr
     }
 }
 
+// Whether the variable's type is no wider than that of an operation.
+fn fits_in(p: &ProgParts, v: u32, ty: Ty) -> bool
+    ensures { result ≡ fits_in p.now v ty }
+{
+    scalar_type(p, v) == ty || scalar_type(p, v) == Ty::Int
+}
+
 fn one_if<'a>(v: u32, test: bool, x: &'a Expr) -> Form<'a>
     ensures { read_by result ≡ if_apart v test (x.now ∷ []) x.now }
 {
@@ -149,7 +156,8 @@ fn value_form<'a>(p: &ProgParts, v: u32, r: RedOp, here: Place, e: &'a Expr) -> 
 {
     match e {
         Expr::Binary(o, ty, a, x, at) => {
-            let test = is_operator(r, *o) && is_variable_in(p, *ty, v, *at, a.get());
+            let test = is_operator(r, *o)
+                && (fits_in(p, v, *ty) && is_variable_in(p, *ty, v, *at, a.get()));
             one_if(v, test, x.get())
         }
         Expr::Choose(q, x, w) => {

@@ -6,7 +6,7 @@ ghost use Rattle.xmp_paths.specs.Flows.{plan_of};
 ghost use Rattle.xmp_prog.specs.declared.expressions.Expr.{Expr};
 ghost use Rattle.xmp_prog.specs.declared.statements.Target.TheVariants as Target;
 ghost use Rattle.xmp_prog.specs.declared.statements.Plain.TheVariants as Plain;
-ghost use Rattle.xmp_flow.specs.Setting.{is_alone, wrong_where};
+ghost use Rattle.xmp_flow.specs.Setting.{is_alone, is_first_alone, wrong_where};
 ghost use Rattle.xmp_flow.specs.Reads.{reads_of, reads_of_all, reads_of_option, subscript_reads};
 ghost use Rattle.xmp_flow.specs.Elements.{element_write};
 ghost use Rattle.xmp_flow.specs.PlainEvents.{assignment_events, cast, moved, number_events, old_element, old_scalar, part_events, plain_events, plan_of_gmove, reflected, scalar_assigned, scanned, set_events, side_events, source_events};
@@ -430,12 +430,19 @@ fn element_scanned(alloc: Global, s: &Around, a: &Access, last: Flow) -> Result<
     with(parts, last)
 }
 
+// What is wrong with a `scanf` where it stands.
+fn scan_wrong(alloc: Global, s: &Around, at: Place) -> Flow
+    ensures { plan_of result ≡ wrong_where (is_some (setting_of s.now).over || not (is_first_alone (setting_of s.now))) 8 at }
+{
+    wrong_where(alloc, s.over.is_some() || s.nodes != 1, 8, at)
+}
+
 // `scanf`
 fn scan_events(alloc: Global, s: &Around, to: &Target, at: Place) -> Result<Flow, AllocError>
     requires { KnowsAll s.now }
     ensures { IfOk result (λ flow. plan_of flow ≡ plain_events (Plain.Scan to.now at) (setting_of s.now)) }
 {
-    let wrong = wrong_where(alloc, s.over.is_some() || s.nodes != 1, 8, at);
+    let wrong = scan_wrong(alloc, s, at);
     match to {
         Target::Scalar(slot, name) => scalar_scanned(alloc, s, *slot, *name, wrong),
         Target::Cell(a) => element_scanned(alloc, s, a, wrong),

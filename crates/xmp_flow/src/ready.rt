@@ -1,13 +1,11 @@
 // What stands ready for the body of a loop directive, and the events round those of its body.
-ghost use Rattle.std.specs.Prelude.{◌≡◌, ◌++◌, ◌∷◌, [], ℕ, map, true, Some, IfOk};
+ghost use Rattle.std.specs.Prelude.{◌≡◌, map, IfOk};
 ghost use Rattle.xmp_paths.specs.Plans.{in_order};
 ghost use Rattle.xmp_paths.specs.Flows.{plan_of};
-ghost use Rattle.xmp_prog.specs.Statements.{indices_of};
 ghost use Rattle.xmp_prog.specs.declared.statements.Stmt.{Stmt};
-ghost use Rattle.xmp_flow.specs.Objects.{all_nodes};
-ghost use Rattle.xmp_flow.specs.LoopEvents.{loop_events};
+ghost use Rattle.xmp_flow.specs.LoopEvents.{at_bounds, loop_events};
 ghost use Rattle.xmp_flow.specs.Ready.{IsReady, before_turns, ends_with, turn_of};
-ghost use Rattle.xmp_flow.specs.Views.{KnowsAll, flag_at, role_at, setting_of};
+ghost use Rattle.xmp_flow.specs.Views.{KnowsAll, setting_of};
 
 use crate::directive::{current_reductions, nest_events, own_scalars, reduction_events, stale_scalars, stale_shadows};
 use crate::expressions::with;
@@ -34,7 +32,7 @@ pub struct Ready {
 }
 
 /// What stands ready for a body.
-pub fn ready(alloc: Global, d: &LoopDirective, body: &Stmt) -> Result<Ready, AllocError>
+pub fn make_ready(alloc: Global, d: &LoopDirective, body: &Stmt) -> Result<Ready, AllocError>
     ensures { IfOk result (λ r. IsReady r d.now body.now) }
 {
     let mut scalars = Items::new(alloc);
@@ -51,42 +49,6 @@ pub fn ready(alloc: Global, d: &LoopDirective, body: &Stmt) -> Result<Ready, All
         before,
         written,
     })
-}
-
-/// An iteration of the directive.
-pub fn within<'a>(s: &Around<'a>, d: &'a LoopDirective, r: &'a Ready) -> Around<'a>
-    requires { KnowsAll s.now }
-    ensures knows { KnowsAll result }
-    ensures setting { setting_of result ≡ record (setting_of s.now) {
-        nodes = all_nodes (setting_of s.now).program; inside = true; over = Some d.now;
-        roles = role_at r.now.roles; written = flag_at r.now.written } }
-{
-    Around {
-        nodes: s.all,
-        inside: true,
-        over: Some(d),
-        roles: r.roles.as_slice(),
-        written: r.written.as_slice(),
-        ..*s
-    }
-}
-
-// The bounds of its nest.
-fn at_bounds<'a>(s: &Around<'a>, d: &'a LoopDirective, r: &'a Ready) -> Around<'a>
-    requires { KnowsAll s.now }
-    ensures knows { KnowsAll result }
-    ensures setting { setting_of result ≡ record (setting_of s.now) {
-        nodes = all_nodes (setting_of s.now).program; inside = true; over = Some d.now;
-        roles = role_at r.now.before; written = flag_at r.now.written } }
-{
-    Around {
-        nodes: s.all,
-        inside: true,
-        over: Some(d),
-        roles: r.before.as_slice(),
-        written: r.written.as_slice(),
-        ..*s
-    }
 }
 
 // One iteration: own scalars out of date, and then the body.
@@ -120,18 +82,24 @@ fn ends(alloc: Global, s: &Around, d: &LoopDirective, own: &[u32], arrays: &[u32
 }
 
 // What stands before the iterations.
-fn head(alloc: Global, s: &Around, d: &LoopDirective, r: &Ready) -> Result<Items<Flow>, AllocError>
+fn head(
+    alloc: Global,
+    s: &Around,
+    bounds: &Around,
+    d: &LoopDirective,
+    r: &Ready,
+) -> Result<Items<Flow>, AllocError>
     requires { KnowsAll s.now }
+    requires { KnowsAll bounds.now }
     ensures { IfOk result (λ parts. (body : Stmt) → IsReady r.now d.now body
+        → setting_of bounds.now ≡ at_bounds d.now body (setting_of s.now)
         → map plan_of parts ≡ before_turns (setting_of s.now) d.now body) }
 {
     let mut written = Items::new(alloc);
     indices(d.nest.as_slice(), &mut written)?;
-    'items: for slot in r.scalars.as_slice() {
-        written.push(*slot)?;
-    }
-    let bounds = at_bounds(s, d, r);
-    let nest = nest_events(alloc, &bounds, written.as_slice(), d.nest.as_slice())?;
+    let scalars = Items::from_slice(alloc, r.scalars.as_slice())?;
+    written.append(scalars)?;
+    let nest = nest_events(alloc, bounds, written.as_slice(), d.nest.as_slice())?;
     let reductions = reduction_events(alloc, s, d.reductions.as_slice())?;
     let mut parts = Items::new(alloc);
     parts.push(wrong_where(alloc, s.inside, 10, d.at))?;
@@ -144,17 +112,20 @@ fn head(alloc: Global, s: &Around, d: &LoopDirective, r: &Ready) -> Result<Items
 pub fn around(
     alloc: Global,
     s: &Around,
+    bounds: &Around,
     d: &LoopDirective,
     r: &Ready,
     body: Flow,
 ) -> Result<Flow, AllocError>
     requires { KnowsAll s.now }
+    requires { KnowsAll bounds.now }
     ensures { IfOk result (λ flow. (x : Stmt) → IsReady r.now d.now x
+        → setting_of bounds.now ≡ at_bounds d.now x (setting_of s.now)
         → plan_of flow ≡ loop_events d.now x (λ s. plan_of body) (setting_of s.now)) }
 {
     let own = own_scalars(alloc, r.roles.as_slice(), r.scalars.as_slice())?;
     let turn = turn(alloc, s, own.as_slice(), body)?;
-    let mut parts = head(alloc, s, d, r)?;
+    let mut parts = head(alloc, s, bounds, d, r)?;
     let turns = Flow::turns(alloc, turn)?;
     parts.push(turns)?;
     let ends = ends(alloc, s, d, own.as_slice(), r.arrays.as_slice())?;

@@ -16,7 +16,7 @@ use crate::expressions::reads;
 use crate::forms::{Form, guarded_form};
 use crate::nodes::nodes_in;
 use crate::plain::{form_reads, plain_events};
-use crate::ready::{around, ready, within};
+use crate::ready::{around, make_ready};
 use crate::role::Role;
 use crate::scalars::{assigned, role_at, wrong_where};
 use crate::setting::Around;
@@ -178,10 +178,24 @@ fn directive_events(alloc: Global, s: &Around, d: &LoopDirective, body: &Stmt) -
     requires { KnowsAll s.now }
     ensures { IfOk result (λ flow. plan_of flow ≡ loop_events d.now body.now (events_of body.now) (setting_of s.now)) }
 {
-    let ready = ready(alloc, d, body)?;
-    let inner = within(s, d, &ready);
+    let ready = make_ready(alloc, d, body)?;
+    let bounds = Around {
+        program: s.program,
+        nodes: s.all,
+        all: s.all,
+        inside: true,
+        over: Some(d),
+        roles: ready.before.as_slice(),
+        written: ready.written.as_slice(),
+        loops: s.loops,
+        moving: s.moving,
+    };
+    let inner = Around {
+        roles: ready.roles.as_slice(),
+        ..bounds
+    };
     let turn = events(alloc, &inner, body)?;
-    around(alloc, s, d, &ready, turn)
+    around(alloc, s, &bounds, d, &ready, turn)
 }
 
 #[cycle(events)]
