@@ -5,3 +5,4 @@ pub mod ReachLaws
 pub mod SameLaws
 pub mod RoleLaws
 pub mod ReadyLaws
+pub mod LoopingLaws

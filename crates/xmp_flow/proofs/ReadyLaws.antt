@@ -4,12 +4,13 @@ use Rattle.std.proofs.Math.Path.{fun_ext}
 use Rattle.std.specs.List.{filter}
 use Rattle.xmp_paths.specs.Plans.{Plan, loop, in_order}
 use Rattle.xmp_paths.specs.declared.event.Event.{Event}
+use Rattle.xmp_prog.specs.Statements.{indices_of}
 use Rattle.xmp_prog.specs.declared.statements.LoopDirective.{LoopDirective}
 use Rattle.xmp_prog.specs.declared.statements.Stmt.{Stmt}
 use Rattle.xmp_meaning.specs.Writes.{scalars_written}
 use Rattle.xmp_flow.specs.Objects.{all_nodes}
-use Rattle.xmp_flow.specs.Setting.{Setting}
-use Rattle.xmp_flow.specs.LoopEvents.{at_bounds, before_iterations, ends, is_own, iteration, loop_events, own_scalars, role_in, within}
+use Rattle.xmp_flow.specs.Setting.{Setting, wrong_where}
+use Rattle.xmp_flow.specs.LoopEvents.{at_bounds, before_iterations, is_own, loop_events, nest_events, own_scalars, reduction_events, role_in, scalars_of, within}
 use Rattle.xmp_flow.specs.Ready.{IsReady, before_turns, ends_with, turn_of}
 use Rattle.xmp_flow.specs.Views.{flag_at, role_at}
 use Rattle.xmp_flow.specs.declared.ready.Ready.{Ready}
@@ -44,3 +45,14 @@ module _ (r : Ready) (d : LoopDirective) (body : Stmt) (q : IsReady r d body) wh
       ∙ (ap (λ x. in_order (before_turns s d body ++ loop x ∷ last ∷ [])) (t ∙ ap (λ l. turn_of s l events) (o ∙ own_ready))
       ∙ ap (λ x. in_order (before_turns s d body ++ loop (turn_of s (own_scalars d body) events) ∷ x ∷ []))
       (e ∙ (ap (λ l. in_order (ends_with s d l r.arrays)) (o ∙ own_ready) ∙ ap (λ l. in_order (ends_with s d (own_scalars d body) l)) q.arrays)))
+
+  pub head_ready : (s b : Setting) (written : List ℕ) (wrong nest reductions : Plan Event) →
+      written ≡ indices_of d.nest ++ r.scalars → b ≡ at_bounds d body s → wrong ≡ wrong_where s.inside 10 d.at →
+      nest ≡ in_order (nest_events b [] written d.nest) → reductions ≡ in_order (reduction_events s [] d.reductions) →
+      wrong ∷ nest ∷ reductions ∷ [] ≡ before_turns s d body
+  head_ready s b written wrong nest reductions e k x n y =
+      ap (λ p. p ∷ nest ∷ reductions ∷ []) x
+      ∙ (ap (λ p. wrong_where s.inside 10 d.at ∷ p ∷ reductions ∷ [])
+      (n ∙ (ap (λ z. in_order (nest_events z [] written d.nest)) k
+      ∙ ap (λ l. in_order (nest_events (at_bounds d body s) [] l d.nest)) (e ∙ ap (λ l. indices_of d.nest ++ l) q.scalars)))
+      ∙ ap (λ p. wrong_where s.inside 10 d.at ∷ in_order (nest_events (at_bounds d body s) [] (scalars_of d body) d.nest) ∷ p ∷ []) y)

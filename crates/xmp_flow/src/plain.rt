@@ -403,7 +403,13 @@ fn listed(alloc: Global, s: &Around, es: &[Expr], last: Flow) -> Result<Flow, Al
 }
 
 // A scalar that `scanf` sets, and what is wrong behind it.
-fn scalar_scanned(alloc: Global, s: &Around, slot: u32, at: Place, last: Flow) -> Result<Flow, AllocError>
+fn scalar_scanned(
+    alloc: Global,
+    s: &Around,
+    slot: u32,
+    at: Place,
+    last: Flow,
+) -> Result<Flow, AllocError>
     requires { KnowsAll s.now }
     ensures { IfOk result (λ flow. plan_of flow
         ≡ in_order (scanned (setting_of s.now) (Target.Scalar slot at) ++ plan_of last ∷ [])) }
@@ -450,7 +456,12 @@ fn scan_events(alloc: Global, s: &Around, to: &Target, at: Place) -> Result<Flow
 }
 
 // `printf`
-fn print_events(alloc: Global, s: &Around, arguments: &[Expr], at: Place) -> Result<Flow, AllocError>
+fn print_events(
+    alloc: Global,
+    s: &Around,
+    arguments: &[Expr],
+    at: Place,
+) -> Result<Flow, AllocError>
     requires { KnowsAll s.now }
     ensures { IfOk result (λ flow. plan_of flow ≡ in_order (reads_of_all arguments.now (setting_of s.now)
         ++ wrong_where (is_some (setting_of s.now).over || not (is_alone (setting_of s.now))) 7 at ∷ [])) }

@@ -14,7 +14,9 @@ use sqlite_items::Items;
 use std::alloc::{AllocError, Global};
 use xmp_base::{NoMemory, Phase, Refusal};
 use xmp_paths::Flow;
-use xmp_prog::{Access, Expr, LoopHead, MoveSide, Part, Plain, Prog, ProgParts, Stmt, Target, Task};
+use xmp_prog::{
+    Access, Expr, LoopHead, MoveSide, Part, Plain, Prog, ProgParts, Stmt, Target, Task,
+};
 
 // Whether an expression calls a function that loops.
 #[cycle(calls)]

@@ -7,7 +7,9 @@ ghost use Rattle.xmp_flow.specs.LoopEvents.{at_bounds, loop_events};
 ghost use Rattle.xmp_flow.specs.Ready.{IsReady, before_turns, ends_with, turn_of};
 ghost use Rattle.xmp_flow.specs.Views.{KnowsAll, setting_of};
 
-use crate::directive::{current_reductions, nest_events, own_scalars, reduction_events, stale_scalars, stale_shadows};
+use crate::directive::{
+    current_reductions, nest_events, own_scalars, reduction_events, stale_scalars, stale_shadows,
+};
 use crate::expressions::with;
 use crate::role::Role;
 use crate::roles::{bound_roles, roles_in};
@@ -67,7 +69,13 @@ fn turn(alloc: Global, s: &Around, own: &[u32], body: Flow) -> Result<Flow, Allo
 }
 
 // What the directive leaves.
-fn ends(alloc: Global, s: &Around, d: &LoopDirective, own: &[u32], arrays: &[u32]) -> Result<Flow, AllocError>
+fn ends(
+    alloc: Global,
+    s: &Around,
+    d: &LoopDirective,
+    own: &[u32],
+    arrays: &[u32],
+) -> Result<Flow, AllocError>
     requires { KnowsAll s.now }
     ensures { IfOk result (λ flow. plan_of flow ≡ in_order (ends_with (setting_of s.now) d.now own.now arrays.now)) }
 {
@@ -89,8 +97,8 @@ fn head(
     d: &LoopDirective,
     r: &Ready,
 ) -> Result<Items<Flow>, AllocError>
-    requires { KnowsAll s.now }
-    requires { KnowsAll bounds.now }
+    requires here { KnowsAll s.now }
+    requires at_bounds { KnowsAll bounds.now }
     ensures { IfOk result (λ parts. (body : Stmt) → IsReady r.now d.now body
         → setting_of bounds.now ≡ at_bounds d.now body (setting_of s.now)
         → map plan_of parts ≡ before_turns (setting_of s.now) d.now body) }
@@ -117,8 +125,8 @@ pub fn around(
     r: &Ready,
     body: Flow,
 ) -> Result<Flow, AllocError>
-    requires { KnowsAll s.now }
-    requires { KnowsAll bounds.now }
+    requires here { KnowsAll s.now }
+    requires at_bounds { KnowsAll bounds.now }
     ensures { IfOk result (λ flow. (x : Stmt) → IsReady r.now d.now x
         → setting_of bounds.now ≡ at_bounds d.now x (setting_of s.now)
         → plan_of flow ≡ loop_events d.now x (λ s. plan_of body) (setting_of s.now)) }

@@ -56,7 +56,11 @@ fn put_reductions(roles: &mut Items<Role>, reductions: &[Reduction]) -> Result<(
 }
 
 /// What each scalar is to a directive whose body writes these.
-pub fn roles_in(alloc: Global, d: &LoopDirective, written: &[u32]) -> Result<Items<Role>, AllocError>
+pub fn roles_in(
+    alloc: Global,
+    d: &LoopDirective,
+    written: &[u32],
+) -> Result<Items<Role>, AllocError>
     ensures { IfOk result (λ roles. (n : ℕ) → role_at roles n
         ≡ role_by (find (λ r. r.variable.number == n) d.now.reductions) (is_in (indices_of d.now.nest) n) (is_in written.now n)) }
 {

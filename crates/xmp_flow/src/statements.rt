@@ -54,11 +54,13 @@ fn if_form<'a>(s: &Around, test: &'a Expr, a: &'a Stmt, b: &Stmt) -> Form<'a>
         return Form::Beside;
     }
     match a {
-        Stmt::Plain(Plain::Set {
-            target: Target::Scalar(v, _),
-            compound: None,
-            value,
-        }) => form_of_assignment(s, test, *v, value),
+        Stmt::Plain(
+            Plain::Set {
+                target: Target::Scalar(v, _),
+                compound: None,
+                value,
+            },
+        ) => form_of_assignment(s, test, *v, value),
         _ => Form::Beside,
     }
 }
@@ -98,7 +100,7 @@ fn if_events(alloc: Global, s: &Around, test: &Expr, a: &Stmt, b: &Stmt) -> Resu
     requires { KnowsAll s.now }
     ensures { IfOk result (λ flow. plan_of flow ≡ in_form (setting_of s.now)
         (in_order (reads_of test.now (setting_of s.now)
-            ∷ branch (events_of a.now (setting_of s.now)) (events_of b.now (setting_of s.now)) ∷ []))
+        ∷ branch (events_of a.now (setting_of s.now)) (events_of b.now (setting_of s.now)) ∷ []))
         (if_form (setting_of s.now) test.now a.now b.now)) }
 {
     let form = if_form(s, test, a, b);
@@ -109,7 +111,13 @@ fn if_events(alloc: Global, s: &Around, test: &Expr, a: &Stmt, b: &Stmt) -> Resu
 }
 
 #[cycle(events)]
-fn choice_events(alloc: Global, s: &Around, test: &Expr, a: &Stmt, b: &Stmt) -> Result<Flow, AllocError>
+fn choice_events(
+    alloc: Global,
+    s: &Around,
+    test: &Expr,
+    a: &Stmt,
+    b: &Stmt,
+) -> Result<Flow, AllocError>
     requires { KnowsAll s.now }
     ensures { IfOk result (λ flow. plan_of flow ≡ in_order (reads_of test.now (setting_of s.now)
         ∷ branch (events_of a.now (setting_of s.now)) (events_of b.now (setting_of s.now)) ∷ [])) }
@@ -122,7 +130,13 @@ fn choice_events(alloc: Global, s: &Around, test: &Expr, a: &Stmt, b: &Stmt) -> 
 }
 
 #[cycle(events)]
-fn while_events(alloc: Global, s: &Around, test: &Expr, body: &Stmt, at: Place) -> Result<Flow, AllocError>
+fn while_events(
+    alloc: Global,
+    s: &Around,
+    test: &Expr,
+    body: &Stmt,
+    at: Place,
+) -> Result<Flow, AllocError>
     requires { KnowsAll s.now }
     ensures { IfOk result (λ flow. plan_of flow ≡ while_events test.now (events_of body.now) at (setting_of s.now)) }
 {
@@ -155,7 +169,12 @@ fn counted_turn(alloc: Global, s: &Around, head: &LoopHead, body: &Stmt) -> Resu
 }
 
 #[cycle(events)]
-fn counted_events(alloc: Global, s: &Around, head: &LoopHead, body: &Stmt) -> Result<Flow, AllocError>
+fn counted_events(
+    alloc: Global,
+    s: &Around,
+    head: &LoopHead,
+    body: &Stmt,
+) -> Result<Flow, AllocError>
     requires { KnowsAll s.now }
     ensures { IfOk result (λ flow. plan_of flow ≡ counted_events head.now (events_of body.now) (setting_of s.now)) }
 {
@@ -174,7 +193,12 @@ fn counted_events(alloc: Global, s: &Around, head: &LoopHead, body: &Stmt) -> Re
 }
 
 #[cycle(events)]
-fn directive_events(alloc: Global, s: &Around, d: &LoopDirective, body: &Stmt) -> Result<Flow, AllocError>
+fn directive_events(
+    alloc: Global,
+    s: &Around,
+    d: &LoopDirective,
+    body: &Stmt,
+) -> Result<Flow, AllocError>
     requires { KnowsAll s.now }
     ensures { IfOk result (λ flow. plan_of flow ≡ loop_events d.now body.now (events_of body.now) (setting_of s.now)) }
 {
