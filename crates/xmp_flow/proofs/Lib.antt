@@ -6,3 +6,4 @@ pub mod SameLaws
 pub mod RoleLaws
 pub mod ReadyLaws
 pub mod LoopingLaws
+pub mod NestLaws
