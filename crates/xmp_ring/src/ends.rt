@@ -57,7 +57,7 @@ impl<S: Streams> Model for Receiver<S> {
 
 ghost use Rattle.std.specs.Prelude.{◌≡◌, ◌↔◌, ℕ, ◌∷◌, ◌++◌, [], true, false, IfOk, IsTrue, MatchOption, MatchResult};
 ghost use Rattle.crossbeam_queue.specs.Passes.{view as known, IsPassOf};
-ghost use Rattle.xmp_ring.specs.Pieces.{IsNext, IsNextEntry, IsPiece, IsReceived, IsStopped, fresh, more};
+ghost use Rattle.xmp_ring.specs.Pieces.{IsFront, IsNext, IsNextEntry, IsPiece, IsReceived, IsStopped, fresh, more};
 ghost use Rattle.xmp_ring.specs.Rule.{with_entry};
 ghost use Rattle.xmp_ring.specs.declared.received.Received.TheVariants.{Data, Stop};
 
@@ -77,6 +77,25 @@ fn put<S: Streams>(
         (λ back. (back ≡ entry) × (known pass.new ≡ known pass.old)) }
 {
     queue.try_push_as::<Pushed>(pass, entry)
+}
+
+// Puts the stop word behind the messages that the sender has put, once there is room.
+fn put_stop<S: Streams, R: Wait>(queue: &Line<S>, pass: &mut Pass<Received, Port>, rt: &R)
+    requires queue { IsPassOf queue.now pass.old }
+    requires sends { (known pass.old).sends ≡ true }
+    requires receives { (known pass.old).receives ≡ false }
+    requires front { IsFront (S.stream (known pass.old).ring) (known pass.old).entries }
+    ensures queue { IsPassOf queue.now pass.new }
+    ensures put { known pass.new ≡ with_entry (known pass.old) Stop }
+{
+    let backoff = Backoff::new();
+    for _ in rt.forever() {
+        match put(queue, pass, Received::Stop) {
+            Ok(()) => return,
+            Err(_) => backoff.snooze(),
+        }
+    }
+    unreachable!()
 }
 
 impl<S: Streams> Sender<S> {
@@ -108,13 +127,7 @@ impl<S: Streams> Sender<S> {
     /// Puts the stop word last, once there is room.
     pub fn stop<R: Wait>(self, rt: &R) {
         let Sender { queue, mut pass } = self;
-        let backoff = Backoff::new();
-        for _ in rt.forever() {
-            match put(&queue, &mut pass, Received::Stop) {
-                Ok(()) => break,
-                Err(_) => backoff.snooze(),
-            }
-        }
+        put_stop(&queue, &mut pass, rt);
     }
 }
 
