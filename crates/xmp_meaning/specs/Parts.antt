@@ -15,20 +15,20 @@ use Rattle.xmp_meaning.specs.Runs.{State, RunIn, Run, ◌>>=◌, pure, set_scala
 use Rattle.xmp_meaning.specs.Declarations.{scalar_type}
 use Rattle.xmp_meaning.specs.Blocks.{choose}
 
--- a coordinate of an iteration's point; `*` stands for an undistributed dimension, where any coordinate has one owner
-abbrev pub coordinate : List ℤ → Point → ℤ
-coordinate scalars point.Any = pos 0
-coordinate scalars (point.Index slot offset) = unwrap_or (slice_get scalars slot) (pos 0) +ℤ offset
+-- a position of an iteration's point; `*` stands for an undistributed dimension, where any position has one owner
+abbrev pub position_at : List ℤ → Point → ℤ
+position_at scalars point.Any = pos 0
+position_at scalars (point.Index slot offset) = unwrap_or (slice_get scalars slot) (pos 0) +ℤ offset
 
 -- whether a node owns a point of a template
-abbrev pub owns_coordinates : ProgParts → ℕ → Option Template → List ℤ → Bool
-owns_coordinates p node None at = false
-owns_coordinates p node (Some t) at = owns_point (unravel p.grid.sizes node) t.spread at
+abbrev pub owns_positions : ProgParts → ℕ → Option Template → List ℤ → Bool
+owns_positions p node None at = false
+owns_positions p node (Some t) at = owns_point (unravel p.grid.sizes node) t.spread at
 
 -- whether a node owns the point of the iteration that the indices are at
 abbrev pub owns_iteration : {X : Type 0} → ProgParts → LoopDirective → ℕ → State X → Bool
 owns_iteration p directive node s =
-    owns_coordinates p node (slice_get p.templates directive.template) (map (coordinate s.scalars) directive.points)
+    owns_positions p node (slice_get p.templates directive.template) (map (position_at s.scalars) directive.points)
 
 -- only where the test of the state holds
 abbrev pub only : {S : Type 0} → (S → Bool) → RunIn S Flow → RunIn S Flow

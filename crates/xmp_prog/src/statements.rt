@@ -41,7 +41,7 @@ pub struct LoopHead {
     pub to_at: Place,
 }
 
-/// A coordinate in the `on` part of a loop directive.
+/// A position in the `on` part of a loop directive.
 #[derive(Clone, Copy, Debug, PartialEq, Eq)]
 pub enum Point {
     /// `*`
