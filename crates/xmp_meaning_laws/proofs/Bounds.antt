@@ -5,22 +5,40 @@ use Rattle.std.specs.List.{AllByRecursion}
 use Rattle.xmp_num.specs.declared.types.Ty.{Ty}
 use Rattle.xmp_num.specs.declared.types.BinOp.{BinOp}
 use Rattle.xmp_num.specs.declared.types.BinOp.TheVariants as op
-use Rattle.xmp_num.specs.Arithmetic.{binary_of}
+use Rattle.xmp_num.specs.Arithmetic.{binary_of, wrap}
+use Rattle.xmp_prog.specs.declared.parts.ProgParts.{ProgParts}
 use Rattle.xmp_prog.specs.declared.expressions.Expr.{Expr, map-Expr}
 use Rattle.xmp_prog.specs.declared.expressions.Access.{Access}
 use Rattle.xmp_prog.specs.declared.expressions.Expr.TheOpen.{Expr-F}
 use Rattle.xmp_prog.specs.declared.expressions.Expr.TheFolds.{ind-Expr, fold-Access, fold-roll-Expr}
 use Rattle.xmp_prog.specs.declared.expressions.Expr.TheViews.{roll-Expr}
-use Rattle.xmp_prog.specs.Terms.{Term, Typed, typed, typed_step, terms_of, slots_of_term, slots_of_terms}
+use Rattle.xmp_prog.specs.Terms.{Term, Of, Element, Typed, typed, typed_step, terms_of, slots_of_term, slots_of_terms}
 use Rattle.xmp_prog.specs.Terms as terms
 use Rattle.xmp_prog.specs.Counted.{is_bound_operator, is_bound_term}
-use Rattle.xmp_meaning.specs.Runs.{State, Gave, Run, and_then, ◌>>=◌, or_trap}
+use Rattle.xmp_meaning_laws.specs.Tuples.{is_fixed_term}
+use Rattle.xmp_meaning.specs.Runs.{State, Gave, Run, and_then, ◌>>=◌, pure, or_trap}
 use Rattle.xmp_meaning.specs.Context.{Context}
 use Rattle.xmp_meaning.specs.Handlers.{Handlers}
-use Rattle.xmp_meaning.specs.Expressions.{Element, expr_of, element_of, expr_step, access_step}
+use Rattle.xmp_meaning.specs.Expressions as meant
+use Rattle.xmp_meaning.specs.Expressions.{expr_of, element_of, expr_step, access_step}
 use Rattle.xmp_meaning_laws.specs.Laws.{bound_step, bound_value, value_or_zero}
-use Rattle.xmp_meaning_laws.proofs.Conditions.{all_apart}
+use Rattle.xmp_meaning_laws.proofs.Conditions.{all_apart, all_together}
 use Rattle.xmp_meaning_laws.proofs.WhereExpressions.{typed_access}
+
+-- the terms of a bound that is counted are among those of one that is fixed
+pub counted_is_fixed : (t : Term) → is_bound_term t ≡ true → is_fixed_term t ≡ true
+counted_is_fixed (Of (Expr-F.Const v ty)) e = e
+counted_is_fixed (Of (Expr-F.Scalar slot at)) e = e
+counted_is_fixed (Of (Expr-F.Cell a)) e = e
+counted_is_fixed (Of (Expr-F.Binary o ty a b at)) e = e
+counted_is_fixed (Of (Expr-F.Both a b)) e = e
+counted_is_fixed (Of (Expr-F.Either a b)) e = e
+counted_is_fixed (Of (Expr-F.Choose a b d)) e = e
+counted_is_fixed (Of (Expr-F.Convert ty a)) e = refl
+counted_is_fixed (Of (Expr-F.Call function arguments at)) e = e
+counted_is_fixed (Of Expr-F.Node) e = e
+counted_is_fixed (Of Expr-F.Nodes) e = e
+counted_is_fixed (Element a) e = e
 
 -- ---- the value of a bound
 
@@ -30,7 +48,7 @@ module _ {X : Type 0} (h : Handlers X) (cx : Context) (read : ℕ → ℤ) (s : 
   Reads slots = AllByRecursion (λ n. unwrap_or (slice_get s.scalars n) (pos 0) ≡ read n) slots
 
   abbrev BoundTerms : List Term → Type 0
-  BoundTerms ts = AllByRecursion (λ t. is_bound_term t ≡ true) ts
+  BoundTerms ts = AllByRecursion (λ t. is_fixed_term t ≡ true) ts
 
   abbrev BoundIs : Expr → Type 0
   BoundIs e = BoundTerms (terms_of cx.program e) → Reads (slots_of_terms (terms_of cx.program e)) → expr_of h cx e s ≡ Gave (bound_value read e) s
@@ -74,7 +92,7 @@ module _ {X : Type 0} (h : Handlers X) (cx : Context) (read : ℕ → ℤ) (s : 
     mapped y = map-Expr C D Expr Access p q y
 
     abbrev of_run : Expr-F C D → Run X ℤ
-    of_run y = expr_step h cx (map-Expr Expr Access (Run X ℤ) (Element X) (expr_of h cx) (element_of h cx) (mapped y))
+    of_run y = expr_step h cx (map-Expr Expr Access (Run X ℤ) (meant.Element X) (expr_of h cx) (element_of h cx) (mapped y))
 
     abbrev of_typed : Expr-F C D → Typed
     of_typed y = typed_step cx.program (map-Expr Expr Access Typed Typed (typed cx.program) (typed_access cx.program) (mapped y))
@@ -86,7 +104,7 @@ module _ {X : Type 0} (h : Handlers X) (cx : Context) (read : ℕ → ℤ) (s : 
     bound_of_step (Expr-F.Const v ty) m r = refl
     bound_of_step (Expr-F.Scalar slot at) m r = ap (λ v. Gave v s) r.0
     bound_of_step (Expr-F.Binary o ty a b at) m r =
-        let both : _ = all_apart (λ t. is_bound_term t ≡ true) (terms_of cx.program (p a)) (terms_of cx.program (p b)) m.1 in
+        let both : _ = all_apart (λ t. is_fixed_term t ≡ true) (terms_of cx.program (p a)) (terms_of cx.program (p b)) m.1 in
         let reads : _ = slots_apart (terms_of cx.program (p a)) (terms_of cx.program (p b)) r in
         ap (λ z. and_then z (λ x. expr_of h cx (p b) >>= (λ y. or_trap (binary_of o ty x y) at))) (j a both.0 reads.0)
         ∙ ap (λ z. and_then z (λ y. or_trap (binary_of o ty (bound_value read (p a)) y) at)) (j b both.1 reads.1)
@@ -95,7 +113,7 @@ module _ {X : Type 0} (h : Handlers X) (cx : Context) (read : ℕ → ℤ) (s : 
     bound_of_step (Expr-F.Both a b) m r = no_bound m.0
     bound_of_step (Expr-F.Either a b) m r = no_bound m.0
     bound_of_step (Expr-F.Choose a b d) m r = no_bound m.0
-    bound_of_step (Expr-F.Convert ty a) m r = no_bound m.0
+    bound_of_step (Expr-F.Convert ty a) m r = ap (λ z. and_then z (λ x. pure (wrap ty x))) (j a m.1 r)
     bound_of_step (Expr-F.Call function arguments at) m r = no_bound m.0
     bound_of_step Expr-F.Node m r = no_bound m.0
     bound_of_step Expr-F.Nodes m r = no_bound m.0
@@ -111,7 +129,63 @@ module _ {X : Type 0} (h : Handlers X) (cx : Context) (read : ℕ → ℤ) (s : 
   bound_is = ind-Expr BoundIs (λ a. Unit {0})
       (λ x y e. subst (λ z. BoundIs (roll-Expr z)) e
       (bound_rolls (fold-roll-Expr Typed Typed (typed_step cx.program) (terms.access_step cx.program) _)
-      (fold-roll-Expr (Run X ℤ) (Element X) (expr_step h cx) (access_step cx) _)
+      (fold-roll-Expr (Run X ℤ) (meant.Element X) (expr_step h cx) (access_step cx) _)
       (fold-roll-Expr ℤ (Unit {0}) (bound_step read) (λ a. tt) _)
       (bound_of_step (λ c. c.0) (λ d. d.0) (λ c. c.1) y)))
+      (λ x y e. tt)
+
+-- ---- the same values give the same bound
+
+pub slots_split : (P : ℕ → Type 0) (ts us : List Term) → AllByRecursion P (slots_of_terms (ts ++ us)) → AllByRecursion P (slots_of_terms ts) × AllByRecursion P (slots_of_terms us)
+slots_split P [] us r = (tt, r)
+slots_split P (t ∷ ts) us r =
+    let first : _ = all_apart P (slots_of_term t) (slots_of_terms (ts ++ us)) r in
+    let rest : _ = slots_split P ts us first.1 in
+    (all_together P (slots_of_term t) (slots_of_terms ts) first.0 rest.0, rest.1)
+
+module _ (program : ProgParts) (read other : ℕ → ℤ) where
+  abbrev pub Alike : List ℕ → Type 0
+  Alike slots = AllByRecursion (λ n. read n ≡ other n) slots
+
+  abbrev BoundSame : Expr → Type 0
+  BoundSame e = Alike (slots_of_terms (terms_of program e)) → bound_value read e ≡ bound_value other e
+
+  module _ {C D : Type 0} (p : C → Expr) (q : D → Access) (j : (x : C) → BoundSame (p x)) where
+    abbrev to_whole : Expr-F C D → Expr-F Expr Access
+    to_whole y = map-Expr C D Expr Access p q y
+
+    abbrev typed_whole : Expr-F C D → Typed
+    typed_whole y = typed_step program (map-Expr Expr Access Typed Typed (typed program) (typed_access program) (to_whole y))
+
+    abbrev value_whole : (ℕ → ℤ) → Expr-F C D → ℤ
+    value_whole r y = bound_step r (map-Expr Expr Access ℤ (Unit {0}) (bound_value r) (fold-Access ℤ (Unit {0}) (bound_step r) (λ a. tt)) (to_whole y))
+
+    same_of_step : (y : Expr-F C D) → Alike (slots_of_terms (typed_whole y).terms) → value_whole read y ≡ value_whole other y
+    same_of_step (Expr-F.Const v ty) r = refl
+    same_of_step (Expr-F.Scalar slot at) r = r.0
+    same_of_step (Expr-F.Binary o ty a b at) r =
+        let both : _ = slots_split (λ n. read n ≡ other n) (terms_of program (p a)) (terms_of program (p b)) r in
+        ap (λ x. value_or_zero (binary_of o ty x (bound_value read (p b)))) (j a both.0)
+        ∙ ap (λ y. value_or_zero (binary_of o ty (bound_value other (p a)) y)) (j b both.1)
+    same_of_step (Expr-F.Cell a) r = refl
+    same_of_step (Expr-F.Both a b) r = refl
+    same_of_step (Expr-F.Either a b) r = refl
+    same_of_step (Expr-F.Choose a b d) r = refl
+    same_of_step (Expr-F.Convert ty a) r = ap (wrap ty) (j a r)
+    same_of_step (Expr-F.Call function arguments at) r = refl
+    same_of_step Expr-F.Node r = refl
+    same_of_step Expr-F.Nodes r = refl
+
+  same_rolls : {w w' : Typed} {u u' : ℤ} {v v' : ℤ} → w ≡ w' → u ≡ u' → v ≡ v'
+      → (Alike (slots_of_terms w'.terms) → u' ≡ v') → Alike (slots_of_terms w.terms) → u ≡ v
+  same_rolls {w} {w'} {u} {u'} {v} {v'} a b e f =
+      subst (λ z. Alike (slots_of_terms z.terms) → u ≡ v) (sym a) (λ r. b ∙ f r ∙ sym e)
+
+  pub bound_same : (e : Expr) → BoundSame e
+  bound_same = ind-Expr BoundSame (λ a. Unit {0})
+      (λ x y e. subst (λ z. BoundSame (roll-Expr z)) e
+      (same_rolls (fold-roll-Expr Typed Typed (typed_step program) (terms.access_step program) _)
+      (fold-roll-Expr ℤ (Unit {0}) (bound_step read) (λ a. tt) _)
+      (fold-roll-Expr ℤ (Unit {0}) (bound_step other) (λ a. tt) _)
+      (same_of_step (λ c. c.0) (λ d. d.0) (λ c. c.1) y)))
       (λ x y e. tt)

@@ -31,10 +31,11 @@ use Rattle.xmp_meaning.specs.Laws.{IsCounted, KeepsScalar}
 use Rattle.xmp_meaning.proofs.Counting.{turns_are_counted}
 use Rattle.xmp_meaning.proofs.Stays.{set_other}
 use Rattle.xmp_meaning_laws.specs.Laws.{bound_step, bound_value, scalar_in, keeps_bound, LoopsAreCounted}
-use Rattle.xmp_meaning_laws.proofs.Named.{all_of_test}
+use Rattle.xmp_meaning_laws.proofs.Named.{all_of_test, all_mapped}
 use Rattle.xmp_meaning_laws.proofs.Values.{wrap_fits, same_types, constant_lies}
 use Rattle.xmp_meaning_laws.proofs.WhereExpressions.{typed_access}
-use Rattle.xmp_meaning_laws.proofs.Bounds.{bound_is}
+use Rattle.xmp_meaning_laws.proofs.Bounds.{counted_is_fixed, bound_is}
+use Rattle.xmp_meaning_laws.specs.Tuples.{is_fixed_term}
 
 -- ---- small constants
 
@@ -136,7 +137,7 @@ pub neither : (a b : Bool) → not (a || b) ≡ true → (a ≡ false) × (not b
 neither true b e = absurd (true≢false (sym e))
 neither false b e = (refl, e)
 
-others : (i : ℕ) (ns : List ℕ) → not (is_in ns i) ≡ true → AllByRecursion (λ n. i ≢ n) ns
+pub others : (i : ℕ) (ns : List ℕ) → not (is_in ns i) ≡ true → AllByRecursion (λ n. i ≢ n) ns
 others i [] e = tt
 others i (n ∷ ns) e =
     let parts : _ = neither (n == i) (is_in ns i) e in
@@ -190,6 +191,9 @@ six a b c d e f h =
       fifth = and_left e f after_fourth;
       sixth = and_right e f after_fourth;
     }
+
+pub fixed_terms : (ts : List Term) → list_all is_bound_term ts ≡ true → AllByRecursion (λ t. is_fixed_term t ≡ true) ts
+fixed_terms ts e = all_mapped (λ t. is_bound_term t ≡ true) (λ t. is_fixed_term t ≡ true) counted_is_fixed ts (all_of_test is_bound_term ts e)
 
 module _ {X : Type 0} (h : Handlers X) (cx : Context) (head : LoopHead) (body : Run X Flow) (writes : List ℕ)
     (e : is_counted cx.program head writes ≡ true) (constants : list_all constant_fits (terms_of cx.program head.to) ≡ true)
@@ -278,7 +282,7 @@ module _ {X : Type 0} (h : Handlers X) (cx : Context) (head : LoopHead) (body : 
   pub loop_counted : IsCounted X h cx head body fits from to
   loop_counted = record {
     steps_up = steps_up_of form;
-    bound_is = λ t f. bound_is h cx (scalar_in s) t head.to (all_of_test is_bound_term (terms_of cx.program head.to) bound_terms) (same_reads s t slots (slots_same t f));
+    bound_is = λ t f. bound_is h cx (scalar_in s) t head.to (fixed_terms (terms_of cx.program head.to) bound_terms) (same_reads s t slots (slots_same t f));
     turn_fits = turn_kept;
     index_fits = index_set;
     step_fits = λ k lt. next_index from (k * head.step) head.step (suc k * head.step) (let q : suc k * head.step ≡ k * head.step + head.step = omega arith in q)

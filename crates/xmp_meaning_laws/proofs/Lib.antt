@@ -18,3 +18,6 @@ pub mod CountedLoops
 pub mod Nests
 pub mod Owners
 pub mod Shadows
+pub mod Settings
+pub mod Kept
+pub mod Folds

@@ -41,16 +41,16 @@ use Rattle.xmp_meaning_laws.proofs.CountedLoops.{six, both_true, neither, set_th
 
 -- ---- which scalars are there
 
-abbrev Exists : {X : Type 0} → State X → List ℕ → Type 0
+abbrev pub Exists : {X : Type 0} → State X → List ℕ → Type 0
 Exists s slots = AllByRecursion (λ i. is_some (slice_get s.scalars i) ≡ true) slots
 
-some_by_length : (xs ys : List ℤ) (i : ℕ) → length ys ≡ length xs → is_some (slice_get xs i) ≡ true → is_some (slice_get ys i) ≡ true
+pub some_by_length : (xs ys : List ℤ) (i : ℕ) → length ys ≡ length xs → is_some (slice_get xs i) ≡ true → is_some (slice_get ys i) ≡ true
 some_by_length [] ys i l h = absurd (true≢false (sym h))
 some_by_length (x ∷ xs) [] i l h = absurd (omega (arith, l))
 some_by_length (x ∷ xs) (y ∷ ys) zero l h = refl
 some_by_length (x ∷ xs) (y ∷ ys) (suc i) l h = some_by_length xs ys i (let m : length ys ≡ length xs = omega (arith, l) in m) h
 
-exist_by_length : {X : Type 0} (s t : State X) (slots : List ℕ) → length t.scalars ≡ length s.scalars → Exists s slots → Exists t slots
+pub exist_by_length : {X : Type 0} (s t : State X) (slots : List ℕ) → length t.scalars ≡ length s.scalars → Exists s slots → Exists t slots
 exist_by_length s t [] l h = tt
 exist_by_length s t (i ∷ slots) l h = (some_by_length s.scalars t.scalars i l h.0, exist_by_length s t slots l h.1)
 
@@ -136,7 +136,7 @@ module _ {X : Type 0} (h : Handlers X) (cx : Context) (head : LoopHead) (p q : R
     counted_by_count s l there all = entered s (expr_of h cx head.from s) l there all
 
 -- what is not in a list
-not_in : (slot : ℕ) (ns : List ℕ) → not (is_in ns slot) ≡ true → AllByRecursion (λ n. n ≢ slot) ns
+pub not_in : (slot : ℕ) (ns : List ℕ) → not (is_in ns slot) ≡ true → AllByRecursion (λ n. n ≢ slot) ns
 not_in slot [] e = tt
 not_in slot (n ∷ ns) e =
     let parts : _ = neither (n == slot) (is_in ns slot) e in

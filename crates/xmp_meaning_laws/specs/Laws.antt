@@ -12,7 +12,7 @@ use Rattle.xmp_prog.specs.Terms.{Term, Of, Element, type_of, terms_of, slots_of_
 use Rattle.xmp_prog.specs.Statements.{Statement, statements_of, writes_of, indices_of, slots_of_stmt, terms_of_stmt, terms_in, terms_of_plain, arrays_of_plain}
 use Rattle.xmp_meaning.specs.declared.ends.End.TheVariants.{OutOfSteps}
 use Rattle.xmp_num.specs.declared.types.Ty.{Ty}
-use Rattle.xmp_num.specs.Arithmetic.{FitsType, binary_of}
+use Rattle.xmp_num.specs.Arithmetic.{FitsType, binary_of, wrap}
 use Rattle.xmp_num.specs.declared.types.TrapKind.{TrapKind}
 use Rattle.xmp_prog.specs.declared.expressions.Expr.TheFolds.{fold-Expr}
 use Rattle.xmp_prog.specs.declared.expressions.Expr.{Expr}
@@ -259,6 +259,7 @@ abbrev pub bound_step : (ℕ → ℤ) → Expr-F ℤ (Unit {0}) → ℤ
 bound_step read (Expr-F.Const v ty) = v
 bound_step read (Expr-F.Scalar slot at) = read slot
 bound_step read (Expr-F.Binary op ty a b at) = value_or_zero (binary_of op ty a b)
+bound_step read (Expr-F.Convert ty a) = wrap ty a
 bound_step read _ = pos 0
 
 abbrev pub bound_value : (ℕ → ℤ) → Expr → ℤ
