@@ -109,20 +109,20 @@ next_index from m step n e f = ap (wrap Int) (together from m step) ∙ int_wrap
     together : (from : ℤ) (m step : ℕ) → (from +ℤ pos m) +ℤ pos step ≡ from +ℤ pos (m + step)
     together from m step = omega (arith, ints)
 
-either : (a b : Bool) → (a || b) ≡ true → (a ≡ true) ⊎ (b ≡ true)
+pub either : (a b : Bool) → (a || b) ≡ true → (a ≡ true) ⊎ (b ≡ true)
 either true b e = inl refl
 either false b e = inr e
 
-is_not : (b : Bool) → not b ≡ true → b ≡ false
+pub is_not : (b : Bool) → not b ≡ true → b ≡ false
 is_not true e = absurd (true≢false (sym e))
 is_not false e = refl
 
-small_step_up : (inclusive : Bool) (from to : ℤ) (m step : ℕ) → FitsType Int from → int_le to (pos 1073741823) ≡ true → step ≤ 1073741823
+pub small_step_up : (inclusive : Bool) (from to : ℤ) (m step : ℕ) → FitsType Int from → int_le to (pos 1073741823) ≡ true → step ≤ 1073741823
     → is_inside inclusive (from +ℤ pos m) to ≡ true → FitsType Int (from +ℤ pos (m + step))
 small_step_up true from to m step f g s h = next_small from to m step f g s h
 small_step_up false from to m step f g s h = next_small from to m step f g s (less_is_most (from +ℤ pos m) to h)
 
-unit_step_up : (inclusive : Bool) → inclusive ≡ false → (from to : ℤ) (m : ℕ) → FitsType Int from → FitsType Int to
+pub unit_step_up : (inclusive : Bool) → inclusive ≡ false → (from to : ℤ) (m : ℕ) → FitsType Int from → FitsType Int to
     → is_inside inclusive (from +ℤ pos m) to ≡ true → FitsType Int (from +ℤ pos (m + 1))
 unit_step_up true e from to m f g h = absurd (true≢false e)
 unit_step_up false e from to m f g h = next_fits from to m f g h

@@ -1,5 +1,5 @@
 -- A nest of counted loops is a fold over its index tuples.
-use Rattle.std.proofs.Common.{◌≡◌, ◌≢◌, ◌⊎◌, inl, inr, ◌+◌, ◌*◌, ◌++◌, ◌==◌, ◌&&◌, ◌||◌, not, if◌then◌else◌, ℕ, zero, suc, ℤ, pos, ◌+ℤ◌, Bool, true, false, true≢false, List, [], ◌∷◌, length, map, Option, Some, None, refl, sym, subst, ap, ◌∙◌, arith, eq-eqb, eqb-true}
+use Rattle.std.proofs.Common.{◌≡◌, ◌≢◌, ◌⊎◌, inl, inr, ◌+◌, ◌*◌, ◌++◌, ◌==◌, ◌&&◌, ◌||◌, not, if◌then◌else◌, ℕ, zero, suc, ℤ, pos, ◌+ℤ◌, Bool, true, false, true≢false, List, [], ◌∷◌, length, map, Option, Some, None, refl, sym, subst, ap, ◌∙◌, arith, eq-eqb, eqb-true, ne_eqb}
 use Rattle.std.specs.Prelude.{slice_get, slice_set, unwrap_or, is_some, nat_le}
 use Rattle.std.specs.List.{AllByRecursion, list_all, flat_map, range_with_len}
 use Rattle.std.proofs.lemmas.Int.{ints}
@@ -27,7 +27,7 @@ use Rattle.xmp_meaning.specs.Laws.{KeepsScalar, repeated}
 use Rattle.xmp_meaning.proofs.Sequences.{flows_associate, same_after}
 use Rattle.xmp_meaning.proofs.Stays.{set_other}
 use Rattle.xmp_meaning_laws.specs.Laws.{bound_value, scalar_in, by_count}
-use Rattle.xmp_meaning_laws.specs.Tuples.{is_fixed_term, is_fixed, begins_fixed, NestFits, LeavesScalars, slots_of_nest, index_in_turn, turns_by, index_values, with_value, tuples, later, latest, ends, set_where, leaving, at_tuple, for_each, folded, IndicesThere, NestIsFold}
+use Rattle.xmp_meaning_laws.specs.Tuples.{is_fixed_term, is_fixed, begins_fixed, NestFits, LeavesScalars, slots_of_nest, index_in_turn, turns_by, index_values, with_value, tuples, later, latest, ends, set_where, leaving, at_tuple, for_each, folded, IndicesThere, NestIsFold, TuplesAreKnown}
 use Rattle.xmp_meaning_laws.proofs.Conditions.{all_apart, all_together}
 use Rattle.xmp_meaning_laws.proofs.Named.{all_of_test, all_of_each, all_mapped, all_of_two}
 use Rattle.xmp_meaning_laws.proofs.Bounds.{bound_is, bound_same, slots_split}
@@ -55,7 +55,7 @@ abbrev pub AllFit : ProgParts → List LoopHead → List ℕ → Type 0
 AllFit p [] writes = Unit {0}
 AllFit p (head ∷ heads) writes = HeadFits p head heads writes × AllFit p heads writes
 
-all_none : (ns ms : List ℕ) → apart ns ms ≡ true → AllByRecursion (λ j. NoneIs j ms) ns
+pub all_none : (ns ms : List ℕ) → apart ns ms ≡ true → AllByRecursion (λ j. NoneIs j ms) ns
 all_none [] ms e = tt
 all_none (n ∷ ns) ms e =
     (not_in n ms (and_left (not (is_in ms n)) (apart ns ms) e), all_none ns ms (and_right (not (is_in ms n)) (apart ns ms) e))
@@ -492,3 +492,15 @@ pub nest_is_fold : (X : Type 0) (h : Handlers X) (cx : Context) (heads : List Lo
 nest_is_fold X h cx heads writes body f k s there =
     let kept : _ = all_apart (λ slot. KeepsScalar {X = X} slot body) (indices_of heads) (slots_in_heads cx.program heads) k.kept in
     nest_fold h cx body writes heads (all_fit cx.program heads writes f.counted f.begins f.constants) k.length kept.0 kept.1 s there
+
+not_of_none : (j : ℕ) (ns : List ℕ) → NoneIs j ns → not (is_in ns j) ≡ true
+not_of_none j [] f = refl
+not_of_none j (n ∷ ns) f = ap (λ b. not (b || is_in ns j)) (ne_eqb n j f.0) ∙ not_of_none j ns f.1
+
+pub tuples_are_known : (p : ProgParts) (heads : List LoopHead) (writes : List ℕ) → TuplesAreKnown p heads writes
+tuples_are_known p heads writes f read other h =
+    let fits : AllFit p heads writes = all_fit p heads writes f.counted f.begins f.constants in
+    let alike : ReadAlike read other heads (slots_in_heads p heads) =
+    all_mapped (λ j. not (is_in (indices_of heads) j) ≡ true → read j ≡ other j) (λ j. NoneIs j (indices_of heads) → read j ≡ other j)
+    (λ j g none. g (not_of_none j (indices_of heads) none)) (slots_in_heads p heads) h in
+    (tuples_same p writes read other heads fits alike, ends_same p writes read other heads fits alike)

@@ -21,3 +21,6 @@ pub mod Shadows
 pub mod Settings
 pub mod Kept
 pub mod Folds
+pub mod TupleOrder
+pub mod OwnTuples
+pub mod Bodies

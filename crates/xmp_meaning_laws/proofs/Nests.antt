@@ -161,12 +161,12 @@ module _ {X : Type 0} (cx : Context) where
       of_call s (Gave v t) = refl
       of_call s (Ended e t) = refl
 
-  nest_keeps : (heads : List LoopHead) (body : Stmt) (slot : ℕ) → AllByRecursion (λ n. n ≢ slot) (indices_of heads) → AllByRecursion (λ n. n ≢ slot) (scalars_written body)
+  pub nest_keeps : (heads : List LoopHead) (body : Stmt) (slot : ℕ) → AllByRecursion (λ n. n ≢ slot) (indices_of heads) → AllByRecursion (λ n. n ≢ slot) (scalars_written body)
       → KeepsScalar {X = X} slot (nest erased cx heads (stmt_of erased cx body))
   nest_keeps heads body slot i w = keeps-nest cx (keeps (scalar_respected slot)) (keeps_erased (scalar_respected slot)) {body = stmt_of erased cx body} {body' = stmt_of erased cx body} heads i
       (keeps-stmt cx (keeps (scalar_respected slot)) (keeps_erased (scalar_respected slot)) body w (all_any (arrays_written body)))
 
-  nest_shape : (heads : List LoopHead) (body : Stmt) (t : State X) → length (state_of (nest erased cx heads (stmt_of erased cx body) t)).scalars ≡ length t.scalars
+  pub nest_shape : (heads : List LoopHead) (body : Stmt) (t : State X) → length (state_of (nest erased cx heads (stmt_of erased cx body) t)).scalars ≡ length t.scalars
   nest_shape heads body t = (keeps-nest cx (keeps (shape_respected cx)) (keeps_erased (shape_respected cx)) {body = stmt_of erased cx body} {body' = stmt_of erased cx body} heads (all_any (indices_of heads))
       (keeps-stmt cx (keeps (shape_respected cx)) (keeps_erased (shape_respected cx)) body (all_any (scalars_written body)) (all_any (arrays_written body))) t).scalars
 

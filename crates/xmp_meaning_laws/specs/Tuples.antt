@@ -1,5 +1,5 @@
 -- The index tuples of a nest of counted loops, and a nest as a fold over them (this project).
-use Rattle.std.specs.Prelude.{◌≡◌, ◌+◌, ◌*◌, ◌++◌, ◌&&◌, ◌==◌, if◌then◌else◌, ℕ, ℤ, pos, ◌+ℤ◌, Bool, true, false, List, [], ◌∷◌, length, map, IsTrue, is_some, slice_get, slice_set, Option, Some, None}
+use Rattle.std.specs.Prelude.{◌≡◌, not, ◌+◌, ◌*◌, ◌++◌, ◌&&◌, ◌==◌, if◌then◌else◌, ℕ, ℤ, pos, ◌+ℤ◌, Bool, true, false, List, [], ◌∷◌, length, map, IsTrue, is_some, slice_get, slice_set, Option, Some, None}
 use Rattle.std.specs.List.{AllByRecursion, list_all, flat_map, filter, range_with_len}
 use Rattle.xmp_num.specs.declared.types.Ty.TheVariants.{Int}
 use Rattle.xmp_num.specs.Arithmetic.{FitsType, wrap}
@@ -11,18 +11,21 @@ use Rattle.xmp_prog.specs.declared.statements.LoopHead.{LoopHead}
 use Rattle.xmp_prog.specs.declared.statements.LoopDirective.{LoopDirective}
 use Rattle.xmp_prog.specs.declared.statements.Point.{Point}
 use Rattle.xmp_prog.specs.declared.statements.Point.TheVariants as point
-use Rattle.xmp_prog.specs.Numbers.{apart, pairwise}
+use Rattle.xmp_prog.specs.Numbers.{is_in, apart, pairwise}
 use Rattle.xmp_prog.specs.Terms.{Term, Of, terms_of, slots_of_terms}
 use Rattle.xmp_prog.specs.Tests.{constant_fits}
 use Rattle.xmp_prog.specs.Counted.{is_bound_term, is_nest}
 use Rattle.xmp_prog.specs.Directives.{indices_of_nest}
-use Rattle.xmp_prog.specs.Statements.{indices_of, terms_of_head}
+use Rattle.xmp_prog.specs.Statements.{indices_of, terms_of_head, writes_of}
+use Rattle.xmp_prog.specs.declared.statements.Stmt.{Stmt}
 use Rattle.xmp_meaning.specs.declared.ends.Flow.{Flow}
 use Rattle.xmp_meaning.specs.declared.ends.Flow.TheVariants.{Next}
 use Rattle.xmp_meaning.specs.Runs.{State, Gave, Run, ◌>>=◌, pure, state_of}
 use Rattle.xmp_meaning.specs.Blocks.{then_run}
 use Rattle.xmp_meaning.specs.Context.{Context}
-use Rattle.xmp_meaning.specs.Handlers.{Handlers}
+use Rattle.xmp_meaning.specs.Handlers.{Handlers, erased}
+use Rattle.xmp_meaning.specs.Statements.{stmt_of}
+use Rattle.xmp_meaning.specs.Exchanges.{Notes, note_turn, traced}
 use Rattle.xmp_meaning.specs.Loops.{turn_count, nest}
 use Rattle.xmp_meaning.specs.Parts.{owns_positions, owns_iteration, only, begin, part_of}
 use Rattle.xmp_meaning.specs.LoopEnds.{comes_before}
@@ -189,3 +192,24 @@ PartIsFold X h cx directive writes node body =
     → IsTrue (indices_of_nest directive) → (s : State X) → IndicesThere directive.nest s
     → nest h cx directive.nest (only (owns_iteration cx.program directive node) body) s
     ≡ folded directive.nest (filter (owns_tuple cx.program directive node) (tuples (scalar_in s) directive.nest)) (ends (scalar_in s) directive.nest) body s
+
+-- ---- bodies
+
+-- a statement leaves the indices and the scalars of the bounds of a nest round it
+abbrev pub StatementLeaves : (X : Type 0) → Context → List LoopHead → Stmt → Type 0
+StatementLeaves X cx heads body =
+    NestFits cx.program heads (writes_of body) → LeavesScalars X (slots_of_nest cx.program heads) (stmt_of erased cx body)
+
+-- and so does a turn of a loop directive in the run that notes each exchange
+abbrev pub NotedTurnLeaves : ProgParts → Context → LoopDirective → Stmt → Type 0
+NotedTurnLeaves p cx directive body = NestFits cx.program directive.nest (writes_of body)
+    → LeavesScalars Notes (slots_of_nest cx.program directive.nest) (then_run (note_turn p directive) (stmt_of (traced p) cx body))
+
+-- ---- what the tuples depend on
+
+-- Two readings that have the same values in the scalars of the bounds, the indices apart, have the same tuples, and
+-- leave the indices at the same values.
+abbrev pub TuplesAreKnown : ProgParts → List LoopHead → (writes : List ℕ) → Type 0
+TuplesAreKnown p heads writes = NestFits p heads writes → (read other : ℕ → ℤ)
+    → AllByRecursion (λ j. IsTrue (not (is_in (indices_of heads) j)) → read j ≡ other j) (slots_of_terms (flat_map (terms_of_head p) heads))
+    → (tuples read heads ≡ tuples other heads) × (ends read heads ≡ ends other heads)

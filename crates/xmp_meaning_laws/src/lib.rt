@@ -9,4 +9,6 @@ pub use laws::{
     node_is_unasked, output_is_unseen, points_have_owners, shadows_are_held, shape_stays,
     statements_are_local, steps_stay, values_lie,
 };
-pub use nest_laws::nests_are_folds;
+pub use nest_laws::{
+    bodies_leave_bounds, nests_are_folds, parts_are_folds, tuples_are_known, tuples_rise,
+};
