@@ -24,3 +24,4 @@ pub mod Folds
 pub mod TupleOrder
 pub mod OwnTuples
 pub mod Bodies
+pub mod Reach

@@ -1,2 +1,3 @@
 pub mod Laws
 pub mod Tuples
+pub mod Near

@@ -1,6 +1,7 @@
 // Laws of runs and of statements.
 ghost use Rattle.std.specs.Prelude.{ℕ, List};
 ghost use Rattle.xmp_dist.specs.declared.dimension.Dim.{Dim};
+ghost use Rattle.xmp_map.specs.declared.array_map.ArrayMap.{ArrayMap};
 ghost use Rattle.xmp_map.specs.declared.template.Template.{Template};
 ghost use Rattle.xmp_prog.specs.declared.parts.ProgParts.{ProgParts};
 ghost use Rattle.xmp_prog.specs.declared.expressions.Expr.{Expr};
@@ -11,6 +12,7 @@ ghost use Rattle.xmp_meaning.specs.Runs.{Run};
 ghost use Rattle.xmp_meaning.specs.Context.{Context};
 ghost use Rattle.xmp_meaning.specs.Handlers.{Handlers, erased};
 ghost use Rattle.xmp_meaning.specs.Statements.{stmt_of};
+ghost use Rattle.xmp_meaning_laws.specs.Near.{PointsReach};
 ghost use Rattle.xmp_meaning_laws.specs.Laws.{ShapeStays, HandlersAreIdle, IsLocal, OutputUnseen, StepsStay, InputStays, OutputStays, ExpressionsLie, StatementsLie, ProgramsLie, NodeUnasked, LoopsAreCounted, NestsAreCounted, PointsHaveOwners, ShadowIsHeld};
 
 /// A statement leaves the number of scalars, of arrays and of each array's cells. Directives mean nothing here.
@@ -74,4 +76,9 @@ pub fn points_have_owners()
 /// A node that owns a position of a dimension holds each position within the shadow's widths of it.
 pub fn shadows_are_held()
     ensures { (d : Dim) → ShadowIsHeld d }
+{}
+
+/// A node that owns a point holds the cells of an array near it, and alone owns those at it.
+pub fn points_reach_cells()
+    ensures { (m : ArrayMap) → PointsReach m }
 {}
