@@ -25,3 +25,4 @@ pub mod TupleOrder
 pub mod OwnTuples
 pub mod Bodies
 pub mod Reach
+pub mod NotedTypes

@@ -68,7 +68,7 @@ int_scalar (Some Long) e = absurd (true≢false (sym e))
 head_int : (p : ProgParts) (head : LoopHead) (writes : List ℕ) → is_counted p head writes ≡ true → IsInt p head.index.number
 head_int p head writes e = int_scalar (slice_get p.scalars head.index.number) (and_left (is_int_scalar (slice_get p.scalars head.index.number)) _ e)
 
-nest_ints : (p : ProgParts) (heads : List LoopHead) (writes : List ℕ) → is_nest p heads writes ≡ true → AllByRecursion (IsInt p) (indices_of heads)
+pub nest_ints : (p : ProgParts) (heads : List LoopHead) (writes : List ℕ) → is_nest p heads writes ≡ true → AllByRecursion (IsInt p) (indices_of heads)
 nest_ints p [] writes e = tt
 nest_ints p (head ∷ heads) writes e = (
   head_int p head (indices_of heads ++ writes) (and_left (is_counted p head (indices_of heads ++ writes)) (is_nest p heads writes) e),
@@ -210,7 +210,7 @@ statements_lie X p node input n s inside f t h =
     (statement_lies (context p node input n) (calls_lie p node input n) inside s f t h)
 
 -- all terms of a program whose parts fit
-program_fits : (p : ProgParts) → PartsFit p → TermsFit (terms_of_program p)
+pub program_fits : (p : ProgParts) → PartsFit p → TermsFit (terms_of_program p)
 program_fits p f = record { constants = f.expressions.constants; operands = f.expressions.operands; choices = f.expressions.choices }
 
 pub programs_lie : (X : Type 0) (p : ProgParts) (node : ℕ) (input : List ℕ) (steps : ℕ) → ProgramsLie X p node input steps

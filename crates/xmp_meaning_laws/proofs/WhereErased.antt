@@ -17,16 +17,16 @@ pub record CellsKeep (X Y : Type 0) (t : Two) (c : Conditions) (Lies : Ty → �
       → R (Unit {0}) (Anything (Unit {0})) (set_cell row at v) (set_cell row at v)
 
 module _ {X Y : Type 0} {t : Two} {c : Conditions} {Lies : Ty → ℤ → Type 0} {R : Relation X Y} (k : KeepsWhere X Y t c Lies R) where
-  each_read : (read : ℕ → Run X ℤ) (read' : ℕ → Run Y ℤ) → ((n : ℕ) → R ℤ (Anything ℤ) (read n) (read' n)) → (ns : List ℕ) (vs : List ℤ)
+  pub each_read : (read : ℕ → Run X ℤ) (read' : ℕ → Run Y ℤ) → ((n : ℕ) → R ℤ (Anything ℤ) (read n) (read' n)) → (ns : List ℕ) (vs : List ℤ)
       → R (List ℤ) (Anything (List ℤ)) (each (map read ns) vs) (each (map read' ns) vs)
   each_read read read' h [] vs = k.gives vs tt
   each_read read read' h (n ∷ ns) vs = k.goes_on (h n) (λ v u. each_read read read' h ns (vs ++ v ∷ []))
 
-  after_kept : (flow : Flow) {q : Run X Flow} {q' : Run Y Flow} → R Flow (Anything Flow) q q' → R Flow (Anything Flow) (after flow q) (after flow q')
+  pub after_kept : (flow : Flow) {q : Run X Flow} {q' : Run Y Flow} → R Flow (Anything Flow) q q' → R Flow (Anything Flow) (after flow q) (after flow q')
   after_kept Next r = r
   after_kept (Returned v) r = k.gives (Returned v) tt
 
-  tasks_kept : (ts : List (TaskRun X)) (us : List (TaskRun Y)) → AllAlike (State X) (State Y) (λ A p q. R A (Anything A) p q) ts us
+  pub tasks_kept : (ts : List (TaskRun X)) (us : List (TaskRun Y)) → AllAlike (State X) (State Y) (λ A p q. R A (Anything A) p q) ts us
       → R Flow (Anything Flow) (block (map task_run ts)) (block (map task_run us))
   tasks_kept [] [] alike = k.gives Next tt
   tasks_kept [] (u ∷ us) alike = absurd alike

@@ -1,3 +1,4 @@
 pub mod Laws
 pub mod Tuples
 pub mod Near
+pub mod Noted

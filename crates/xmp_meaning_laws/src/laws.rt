@@ -13,6 +13,7 @@ ghost use Rattle.xmp_meaning.specs.Context.{Context};
 ghost use Rattle.xmp_meaning.specs.Handlers.{Handlers, erased};
 ghost use Rattle.xmp_meaning.specs.Statements.{stmt_of};
 ghost use Rattle.xmp_meaning_laws.specs.Near.{PointsReach};
+ghost use Rattle.xmp_meaning_laws.specs.Noted.{AllNotesLie};
 ghost use Rattle.xmp_meaning_laws.specs.Laws.{ShapeStays, HandlersAreIdle, IsLocal, OutputUnseen, StepsStay, InputStays, OutputStays, ExpressionsLie, StatementsLie, ProgramsLie, NodeUnasked, LoopsAreCounted, NestsAreCounted, PointsHaveOwners, ShadowIsHeld};
 
 /// A statement leaves the number of scalars, of arrays and of each array's cells. Directives mean nothing here.
@@ -81,4 +82,9 @@ pub fn shadows_are_held()
 /// A node that owns a point holds the cells of an array near it, and alone owns those at it.
 pub fn points_reach_cells()
     ensures { (m : ArrayMap) → PointsReach m }
+{}
+
+/// The indices at the ends of the parts of loop directives are values of `int`, so their traps can be read back.
+pub fn notes_lie()
+    ensures { (p : ProgParts) (input : List ℕ) (steps : ℕ) → AllNotesLie p input steps }
 {}
