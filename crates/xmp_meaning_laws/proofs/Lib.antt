@@ -26,3 +26,4 @@ pub mod OwnTuples
 pub mod Bodies
 pub mod Reach
 pub mod NotedTypes
+pub mod Twins
