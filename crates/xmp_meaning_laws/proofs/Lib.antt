@@ -27,3 +27,4 @@ pub mod Bodies
 pub mod Reach
 pub mod NotedTypes
 pub mod Twins
+pub mod TwinStatements

@@ -94,10 +94,10 @@ wrap_known : (ty : Ty) (o : Option ℤ) (x : ℤ) → IsKnown o x → IsKnown (o
 wrap_known ty None x h = tt
 wrap_known ty (Some w) x h = ap (wrap ty) h
 
-all_first : (test : ℕ → Bool) (xs ys : List ℕ) → list_all test (xs ++ ys) ≡ true → list_all test xs ≡ true
+pub all_first : (test : ℕ → Bool) (xs ys : List ℕ) → list_all test (xs ++ ys) ≡ true → list_all test xs ≡ true
 all_first test xs ys e = and_left (list_all test xs) (list_all test ys) (sym (list_all-append test xs ys) ∙ e)
 
-all_last : (test : ℕ → Bool) (xs ys : List ℕ) → list_all test (xs ++ ys) ≡ true → list_all test ys ≡ true
+pub all_last : (test : ℕ → Bool) (xs ys : List ℕ) → list_all test (xs ++ ys) ≡ true → list_all test ys ≡ true
 all_last test xs ys e = and_right (list_all test xs) (list_all test ys) (sym (list_all-append test xs ys) ∙ e)
 
 module _ {X Y : Type 0} {c : Couple} {h : Handlers X} {h' : Handlers Y} {known : ℕ → Option ℤ} {MayGet MayPut : ℕ → List ℕ → ℕ → Type 0}
