@@ -28,3 +28,4 @@ pub mod Reach
 pub mod NotedTypes
 pub mod Twins
 pub mod TwinStatements
+pub mod LocalCells
