@@ -1,5 +1,5 @@
 -- A statement leaves the indices and the scalars of the bounds of a nest round it.
-use Rattle.std.proofs.Common.{◌≡◌, ◌≢◌, ◌==◌, ◌&&◌, ◌||◌, not, ◌++◌, ℕ, zero, suc, ℤ, true, List, [], ◌∷◌, length, refl, sym, subst, ap, ◌∙◌}
+use Rattle.std.proofs.Common.{◌≡◌, ◌≢◌, ◌==◌, ◌&&◌, ◌||◌, not, ◌++◌, ℕ, true, List, [], ◌∷◌, length, refl, sym, subst, ap, ◌∙◌}
 use Rattle.std.specs.Prelude.{slice_get, nat_le}
 use Rattle.std.specs.List.{AllByRecursion, list_all, flat_map}
 use Rattle.xmp_map.proofs.Counted.{and_left, and_right}
@@ -13,7 +13,7 @@ use Rattle.xmp_prog.specs.Terms.{Term, type_of, terms_of, slots_of_term, slots_o
 use Rattle.xmp_prog.specs.Counted.{most_counted, is_int_scalar, is_bound_term, is_small_constant, is_counted, is_nest}
 use Rattle.xmp_prog.specs.Statements.{indices_of, terms_of_head, writes_of}
 use Rattle.xmp_meaning.specs.declared.ends.Flow.{Flow}
-use Rattle.xmp_meaning.specs.Runs.{State, Step, Gave, Ended, Run, state_of}
+use Rattle.xmp_meaning.specs.Runs.{State, Step, Gave, Ended, state_of}
 use Rattle.xmp_meaning.specs.Blocks.{then_run}
 use Rattle.xmp_meaning.specs.Context.{Context}
 use Rattle.xmp_meaning.specs.Handlers.{erased}
@@ -22,7 +22,7 @@ use Rattle.xmp_meaning.specs.Statements.{stmt_of}
 use Rattle.xmp_meaning.specs.Laws.{KeepsScalar, bare, bare_step}
 use Rattle.xmp_meaning.proofs.Notes.{notes_apart}
 use Rattle.xmp_meaning.proofs.WrittenOnce.{writes_are_one}
-use Rattle.xmp_meaning_laws.specs.Tuples.{begins_fixed, is_fixed, NestFits, LeavesScalars, slots_of_nest, StatementLeaves, NotedTurnLeaves}
+use Rattle.xmp_meaning_laws.specs.Tuples.{begins_fixed, is_fixed, NestFits, slots_of_nest, StatementLeaves, NotedTurnLeaves}
 use Rattle.xmp_meaning_laws.proofs.Conditions.{all_apart, all_together}
 use Rattle.xmp_meaning_laws.proofs.Named.{all_mapped}
 use Rattle.xmp_meaning_laws.proofs.CountedLoops.{six}

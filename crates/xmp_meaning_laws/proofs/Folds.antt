@@ -1,6 +1,6 @@
 -- A nest of counted loops is a fold over its index tuples.
-use Rattle.std.proofs.Common.{◌≡◌, ◌≢◌, ◌⊎◌, inl, inr, ◌+◌, ◌*◌, ◌++◌, ◌==◌, ◌&&◌, ◌||◌, not, if◌then◌else◌, ℕ, zero, suc, ℤ, pos, ◌+ℤ◌, Bool, true, false, true≢false, List, [], ◌∷◌, length, map, Option, Some, None, refl, sym, subst, ap, ◌∙◌, arith, eq-eqb, eqb-true, ne_eqb}
-use Rattle.std.specs.Prelude.{slice_get, slice_set, unwrap_or, is_some, nat_le}
+use Rattle.std.proofs.Common.{◌≡◌, ◌≢◌, ◌⊎◌, inl, inr, ◌+◌, ◌*◌, ◌++◌, ◌==◌, ◌&&◌, ◌||◌, not, if◌then◌else◌, ℕ, zero, suc, ℤ, pos, ◌+ℤ◌, Bool, true, false, true≢false, List, [], ◌∷◌, length, map, Option, Some, refl, sym, subst, ap, ◌∙◌, arith, eq-eqb, eqb-true, ne_eqb}
+use Rattle.std.specs.Prelude.{slice_get, slice_set, unwrap_or, nat_le}
 use Rattle.std.specs.List.{AllByRecursion, list_all, flat_map, range_with_len}
 use Rattle.std.proofs.lemmas.Int.{ints}
 use Rattle.std.proofs.lemmas.List.{length-set}
@@ -11,7 +11,7 @@ use Rattle.xmp_num.specs.Arithmetic.{wrap}
 use Rattle.xmp_prog.specs.declared.parts.ProgParts.{ProgParts}
 use Rattle.xmp_prog.specs.declared.statements.LoopHead.{LoopHead}
 use Rattle.xmp_prog.specs.Numbers.{is_in, apart, same_type}
-use Rattle.xmp_prog.specs.Terms.{Term, type_of, terms_of, slots_of_terms}
+use Rattle.xmp_prog.specs.Terms.{type_of, terms_of, slots_of_terms}
 use Rattle.xmp_prog.specs.Tests.{constant_fits}
 use Rattle.xmp_prog.specs.Counted.{most_counted, is_int_scalar, is_bound_term, is_small_constant, is_counted, is_nest}
 use Rattle.xmp_prog.specs.Statements.{indices_of, terms_of_head}
@@ -22,14 +22,14 @@ use Rattle.xmp_meaning.specs.Blocks.{after, then_run}
 use Rattle.xmp_meaning.specs.Context.{Context}
 use Rattle.xmp_meaning.specs.Handlers.{Handlers}
 use Rattle.xmp_meaning.specs.Expressions.{expr_of}
-use Rattle.xmp_meaning.specs.Loops.{turn_count, entering, counted, nest}
+use Rattle.xmp_meaning.specs.Loops.{turn_count, entering, nest}
 use Rattle.xmp_meaning.specs.Laws.{KeepsScalar, repeated}
 use Rattle.xmp_meaning.proofs.Sequences.{flows_associate, same_after}
 use Rattle.xmp_meaning.proofs.Stays.{set_other}
 use Rattle.xmp_meaning_laws.specs.Laws.{bound_value, scalar_in, by_count}
-use Rattle.xmp_meaning_laws.specs.Tuples.{is_fixed_term, is_fixed, begins_fixed, NestFits, LeavesScalars, slots_of_nest, index_in_turn, turns_by, index_values, with_value, tuples, later, latest, ends, set_where, leaving, at_tuple, for_each, folded, IndicesThere, NestIsFold, TuplesAreKnown}
+use Rattle.xmp_meaning_laws.specs.Tuples.{is_fixed_term, is_fixed, begins_fixed, index_in_turn, turns_by, index_values, with_value, tuples, later, latest, ends, set_where, leaving, at_tuple, for_each, folded, NestIsFold, TuplesAreKnown}
 use Rattle.xmp_meaning_laws.proofs.Conditions.{all_apart, all_together}
-use Rattle.xmp_meaning_laws.proofs.Named.{all_of_test, all_of_each, all_mapped, all_of_two}
+use Rattle.xmp_meaning_laws.proofs.Named.{all_of_test, all_mapped, all_of_two}
 use Rattle.xmp_meaning_laws.proofs.Bounds.{bound_is, bound_same, slots_split}
 use Rattle.xmp_meaning_laws.proofs.CountedLoops.{Six, six, others, set_there, fixed_terms}
 use Rattle.xmp_meaning_laws.proofs.Nests.{Exists, some_by_length, exist_by_length, not_in, counted_by_count}

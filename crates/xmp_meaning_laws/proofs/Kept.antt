@@ -1,5 +1,5 @@
 -- What a nest and a fold over tuples leave as it was, where their body does.
-use Rattle.std.proofs.Common.{◌≡◌, ◌++◌, ℕ, zero, suc, ℤ, Bool, true, false, List, [], ◌∷◌, map, Option, Some, None, refl, ap, ◌∙◌}
+use Rattle.std.proofs.Common.{◌≡◌, ℕ, zero, suc, ℤ, Bool, true, false, List, [], ◌∷◌, map, Option, Some, None, refl, ap, ◌∙◌}
 use Rattle.std.specs.Prelude.{slice_get, slice_set, unwrap_or, pos}
 use Rattle.std.specs.List.{AllByRecursion}
 use Rattle.xmp_num.specs.declared.types.Ty.TheVariants.{Int}
@@ -10,12 +10,12 @@ use Rattle.xmp_prog.specs.Terms.{terms_of, slots_of_terms}
 use Rattle.xmp_prog.specs.Statements.{indices_of}
 use Rattle.xmp_meaning.specs.declared.ends.Flow.{Flow}
 use Rattle.xmp_meaning.specs.declared.ends.Flow.TheVariants.{Next, Returned}
-use Rattle.xmp_meaning.specs.Runs.{State, Step, Gave, Ended, Run, and_then, ◌>>=◌, pure, set_scalar, state_of}
+use Rattle.xmp_meaning.specs.Runs.{State, Step, Gave, Ended, Run, and_then, pure, state_of}
 use Rattle.xmp_meaning.specs.Blocks.{after, then_run, choose, turns}
 use Rattle.xmp_meaning.specs.Context.{Context}
 use Rattle.xmp_meaning.specs.Handlers.{Handlers}
 use Rattle.xmp_meaning.specs.Expressions.{expr_of}
-use Rattle.xmp_meaning.specs.Loops.{is_inside, inside, step_up, turn_count, entering, nest}
+use Rattle.xmp_meaning.specs.Loops.{inside, step_up, entering, nest}
 use Rattle.xmp_meaning_laws.specs.Laws.{scalar_in, bound_value}
 use Rattle.xmp_meaning_laws.specs.Tuples.{is_fixed_term, set_where, at_tuple, for_each}
 use Rattle.xmp_meaning_laws.proofs.Named.{all_of_each}

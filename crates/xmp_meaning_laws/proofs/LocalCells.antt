@@ -1,16 +1,16 @@
 -- A statement depends on the scalars and on the cells that it reads alone.
-use Rattle.std.proofs.Common.{◌≡◌, ◌≢◌, ◌++◌, ◌==◌, ◌||◌, ℕ, zero, suc, ℤ, pos, negsuc, Bool, true, false, true≢false, List, [], ◌∷◌, length, map, Option, Some, None, refl, sym, subst, ap, ◌∙◌, arith, eqb-true, eq-eqb}
+use Rattle.std.proofs.Common.{◌≡◌, ◌++◌, ◌==◌, ◌||◌, ℕ, zero, suc, ℤ, pos, negsuc, Bool, true, false, true≢false, List, [], ◌∷◌, length, map, Option, Some, None, refl, sym, subst, ap, ◌∙◌, arith, eqb-true}
 use Rattle.std.specs.Prelude.{slice_get, slice_set, unwrap_or}
 use Rattle.std.proofs.lemmas.List.{length-set}
 use Rattle.xmp_prog.specs.declared.statements.Stmt.{Stmt}
-use Rattle.xmp_meaning.specs.Cells.{row_in, read_in, write_in}
+use Rattle.xmp_meaning.specs.Cells.{read_in, write_in}
 use Rattle.xmp_meaning.specs.Runs.{State}
 use Rattle.xmp_meaning.specs.Layouts.{number_of}
 use Rattle.xmp_meaning.specs.Context.{Context}
 use Rattle.xmp_meaning.specs.Handlers.{erased}
 use Rattle.xmp_meaning.proofs.Stays.{set_other}
-use Rattle.xmp_meaning_laws.specs.Laws.{SameShape, scalar_in}
-use Rattle.xmp_meaning_laws.specs.Agreement.{with_slot, SameBy, CellsStay, SameThen, IsLocalByCells}
+use Rattle.xmp_meaning_laws.specs.Laws.{scalar_in}
+use Rattle.xmp_meaning_laws.specs.Agreement.{with_slot, SameThen, IsLocalByCells}
 use Rattle.xmp_meaning_laws.proofs.Shapes.{rows_shape}
 use Rattle.xmp_meaning_laws.proofs.Twins.{Couple, AreTwins}
 use Rattle.xmp_meaning_laws.proofs.TwinStatements.{stmt_twin}

@@ -1,6 +1,6 @@
 -- In the run that notes each exchange values lie in their types too, those of a part's indices among them.
-use Rattle.std.proofs.Common.{◌≡◌, ◌<◌, ◌≤◌, ◌*◌, ◌++◌, ◌==◌, ◌&&◌, ℕ, zero, suc, ℤ, pos, Bool, true, false, List, [], ◌∷◌, length, map, Option, Some, None, refl, sym, subst, if◌then◌else◌, arith}
-use Rattle.std.specs.Prelude.{slice_get, slice_set, unwrap_or, nat_le}
+use Rattle.std.proofs.Common.{◌≡◌, ◌<◌, ◌≤◌, ◌*◌, ◌++◌, ◌==◌, ℕ, ℤ, pos, Bool, true, false, List, [], ◌∷◌, length, map, sym, subst, if◌then◌else◌, arith}
+use Rattle.std.specs.Prelude.{slice_get, unwrap_or, nat_le}
 use Rattle.std.specs.List.{AllByRecursion, list_all, flat_map, range_with_len}
 use Rattle.std.proofs.lemmas.Bool.{leb-true}
 use Rattle.std.proofs.lemmas.Nat.{mul-lt}
@@ -23,24 +23,24 @@ use Rattle.xmp_prog.specs.Statements.{Statement, statements_of, terms_of_stmt, i
 use Rattle.xmp_prog.specs.Fits.{node_count, PartsFit, terms_of_program, statements_of_program}
 use Rattle.xmp_meaning.specs.declared.ends.Flow.{Flow}
 use Rattle.xmp_meaning.specs.declared.ends.Flow.TheVariants.{Next}
-use Rattle.xmp_meaning.specs.Cells.{row_in, write_in}
-use Rattle.xmp_meaning.specs.Runs.{State, Step, Gave, Ended, Run, and_then, ◌>>=◌, pure, cell, set_cell, set_scalar, state_of}
+use Rattle.xmp_meaning.specs.Cells.{row_in}
+use Rattle.xmp_meaning.specs.Runs.{State, Step, Gave, Ended, Run, ◌>>=◌, pure, set_scalar, state_of}
 use Rattle.xmp_meaning.specs.Blocks.{each, after, then_run, choose, block}
 use Rattle.xmp_meaning.specs.Declarations.{scalar_type, array_type}
 use Rattle.xmp_meaning.specs.Context.{Context}
 use Rattle.xmp_meaning.specs.Handlers.{Aim, task_run}
-use Rattle.xmp_meaning.specs.Expressions.{call, after_call}
+use Rattle.xmp_meaning.specs.Expressions.{after_call}
 use Rattle.xmp_meaning.specs.Statements.{stmt_of}
 use Rattle.xmp_meaning.specs.Calls.{main_context}
 use Rattle.xmp_meaning.specs.Layouts.{Whole, row_length}
 use Rattle.xmp_meaning.specs.Programs.{starts, program, beginning}
 use Rattle.xmp_meaning.specs.Parts.{owns_iteration, only, begin, part_of}
-use Rattle.xmp_meaning.specs.Exchanges.{PartEnd, Exchange, AtBarrier, Broadcast, Reflected, Moved, LoopEnd, TasksEnd, Notes, no_notes, note, note_turn, note_arrays, values_of, part_end, part_ends, task_end, traced}
+use Rattle.xmp_meaning.specs.Exchanges.{Exchange, AtBarrier, Broadcast, Reflected, Moved, LoopEnd, TasksEnd, Notes, no_notes, note, note_turn, note_arrays, values_of, part_end, part_ends, task_end, traced}
 use Rattle.xmp_meaning.specs.Traffic.{traffic}
 use Rattle.xmp_meaning.proofs.TrapsRead.{ends_are_read}
 use Rattle.xmp_meaning_laws.specs.Laws.{ValuesLie, GivesA}
 use Rattle.xmp_meaning_laws.specs.Noted.{OfParts, IndicesLie, TrapIsRead, AllNotesLie}
-use Rattle.xmp_meaning_laws.proofs.Conditions.{Conditions, TermsMeet, KeepsWhere, HandlersKeep, twice, Anything, indices_beside, all_apart, all_together}
+use Rattle.xmp_meaning_laws.proofs.Conditions.{Conditions, TermsMeet, KeepsWhere, HandlersKeep, twice, Anything, all_apart, all_together}
 use Rattle.xmp_meaning_laws.proofs.Named.{named, all_of_test, all_of_each, all_mapped, statements_meet, terms_meet}
 use Rattle.xmp_meaning_laws.proofs.Idle.{Free}
 use Rattle.xmp_meaning_laws.proofs.Values.{zero_fits, zero_read, zero_rows}

@@ -1,8 +1,7 @@
 -- The part of a node is the fold over the tuples whose point it owns.
-use Rattle.std.proofs.Common.{◌≡◌, ◌≢◌, ◌⊎◌, inl, inr, ◌==◌, ◌||◌, ◌&&◌, if◌then◌else◌, ℕ, zero, suc, ℤ, pos, ◌+ℤ◌, Bool, true, false, true≢false, List, [], ◌∷◌, ◌++◌, length, map, Option, Some, None, refl, sym, subst, ap, ◌∙◌, arith, eqb-true}
+use Rattle.std.proofs.Common.{◌≡◌, inl, inr, ◌==◌, ◌||◌, if◌then◌else◌, ℕ, zero, suc, ℤ, pos, ◌+ℤ◌, Bool, true, false, true≢false, List, [], ◌∷◌, length, map, Option, Some, refl, sym, subst, ap, ◌∙◌, arith, eqb-true}
 use Rattle.std.specs.Prelude.{slice_get, slice_set, unwrap_or, is_some, cond}
-use Rattle.std.specs.List.{AllByRecursion, list_all, list_any, flat_map, filter}
-use Rattle.std.proofs.lemmas.List.{length-set}
+use Rattle.std.specs.List.{AllByRecursion, list_all, flat_map, filter}
 use Rattle.xmp_map.proofs.Counted.{and_left, and_right}
 use Rattle.xmp_prog.specs.declared.statements.LoopDirective.{LoopDirective}
 use Rattle.xmp_prog.specs.declared.statements.Point.{Point}
@@ -10,8 +9,8 @@ use Rattle.xmp_prog.specs.declared.statements.Point.TheVariants as point
 use Rattle.xmp_prog.specs.Numbers.{is_in}
 use Rattle.xmp_prog.specs.Statements.{indices_of, slots_of_point}
 use Rattle.xmp_meaning.specs.declared.ends.Flow.{Flow}
-use Rattle.xmp_meaning.specs.declared.ends.Flow.TheVariants.{Next, Returned}
-use Rattle.xmp_meaning.specs.Runs.{State, Step, Gave, Ended, Run, and_then, pure, state_of}
+use Rattle.xmp_meaning.specs.declared.ends.Flow.TheVariants.{Next}
+use Rattle.xmp_meaning.specs.Runs.{State, Step, Gave, Run, and_then, pure, state_of}
 use Rattle.xmp_meaning.specs.Blocks.{after, then_run, choose}
 use Rattle.xmp_meaning.specs.Context.{Context}
 use Rattle.xmp_meaning.specs.Handlers.{Handlers}
@@ -19,12 +18,12 @@ use Rattle.xmp_meaning.specs.Parts.{position_at, owns_positions, owns_iteration,
 use Rattle.xmp_meaning.specs.Laws.{KeepsScalar}
 use Rattle.xmp_meaning.proofs.Sequences.{flows_associate, same_after}
 use Rattle.xmp_meaning_laws.specs.Laws.{scalar_in}
-use Rattle.xmp_meaning_laws.specs.Tuples.{NestFits, LeavesScalars, slots_of_nest, tuples, later, ends, set_where, leaving, at_tuple, for_each, value_in, position_in, owns_tuple, PartIsFold}
+use Rattle.xmp_meaning_laws.specs.Tuples.{slots_of_nest, tuples, later, ends, set_where, leaving, at_tuple, for_each, value_in, position_in, owns_tuple, PartIsFold}
 use Rattle.xmp_meaning_laws.proofs.Named.{all_mapped}
 use Rattle.xmp_meaning_laws.proofs.CountedLoops.{set_there}
 use Rattle.xmp_meaning_laws.proofs.Nests.{Exists, exist_by_length}
-use Rattle.xmp_meaning_laws.proofs.Settings.{Fresh, Apart, Overrides, set_later, where_other, where_length, fresh_flipped}
-use Rattle.xmp_meaning_laws.proofs.Folds.{AllFit, all_fit, all_apart_of, Full, Settled, nest_settled, tuples_full, after_next, fold_over, fold_from, nest_is_fold}
+use Rattle.xmp_meaning_laws.proofs.Settings.{Apart, Overrides, set_later, where_other, where_length, fresh_flipped}
+use Rattle.xmp_meaning_laws.proofs.Folds.{all_fit, all_apart_of, Full, Settled, nest_settled, tuples_full, after_next, fold_over, fold_from, nest_is_fold}
 
 -- ---- the value of an index at a tuple
 

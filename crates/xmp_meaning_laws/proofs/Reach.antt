@@ -1,6 +1,6 @@
 -- A node that owns a point holds the cells near it, and owns those at it.
-use Rattle.std.proofs.Common.{◌≡◌, ◌<◌, ◌≤◌, ◌+◌, ◌-◌, ◌==◌, ◌&&◌, ◌||◌, if◌then◌else◌, ℕ, zero, suc, ℤ, pos, negsuc, ◌+ℤ◌, Bool, true, false, true≢false, List, [], ◌∷◌, length, map, Option, Some, None, refl, sym, subst, ap, ◌∙◌, arith, eqb-true, eq-eqb}
-use Rattle.std.specs.Prelude.{slice_index, int_le, nat_le, nat_lt, min, slice_get, unwrap_or, is_none}
+use Rattle.std.proofs.Common.{◌≡◌, ◌<◌, ◌≤◌, ◌+◌, ◌==◌, ◌&&◌, ◌||◌, if◌then◌else◌, ℕ, zero, suc, ℤ, pos, negsuc, ◌+ℤ◌, Bool, true, false, true≢false, List, [], ◌∷◌, length, map, Option, Some, None, refl, sym, subst, ap, ◌∙◌, arith, eqb-true, eq-eqb}
+use Rattle.std.specs.Prelude.{slice_index, int_le, nat_lt, slice_get, unwrap_or, is_none}
 use Rattle.std.specs.List.{list_all}
 use Rattle.std.proofs.lemmas.Int.{ints}
 use Rattle.std.proofs.lemmas.Bool.{leb-true}
@@ -20,13 +20,13 @@ use Rattle.xmp_map.specs.Shadow.{has_shadow, holds_at}
 use Rattle.xmp_map.specs.Spread.{is_whole, node_along, owns_point}
 use Rattle.xmp_map.specs.Align.{under, names_fit, positions_fit, target_fits, shadow_fits, is_chunked_under, is_target, is_shadow, map_fault}
 use Rattle.xmp_map.specs.Axes.{owner_along}
-use Rattle.xmp_map.specs.Held.{extents, node_count, offset_of, owns_over, holds_over, owns, holds, IsCell}
+use Rattle.xmp_map.specs.Held.{extents, node_count, offset_of, owns_over, holds_over, owns, IsCell}
 use Rattle.xmp_map.proofs.Counted.{and_left, and_right}
-use Rattle.xmp_map.proofs.Order.{AllBelow, inside_below, length_below}
+use Rattle.xmp_map.proofs.Order.{inside_below, length_below}
 use Rattle.xmp_map.proofs.Three.{three_of}
 use Rattle.xmp_map.proofs.OwnerLaws.{OwnerIs, owner_is}
 use Rattle.xmp_meaning_laws.specs.Laws.{OneOwner}
-use Rattle.xmp_meaning_laws.specs.Near.{position_of, is_beside, is_beside_on, is_near, is_at, PointsReach}
+use Rattle.xmp_meaning_laws.specs.Near.{position_of, is_beside, is_beside_on, is_at, PointsReach}
 use Rattle.xmp_meaning_laws.proofs.CountedLoops.{both_true}
 use Rattle.xmp_meaning_laws.proofs.Owners.{points_have_owners}
 use Rattle.xmp_meaning_laws.proofs.Shadows.{shadow_is_held}

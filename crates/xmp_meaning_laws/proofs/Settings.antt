@@ -1,10 +1,10 @@
 -- Scalars that are set in order, some to a value and some not.
-use Rattle.std.proofs.Common.{◌≡◌, ◌≢◌, ◌⊎◌, inl, inr, ◌++◌, ℕ, zero, suc, ℤ, List, [], ◌∷◌, length, map, Option, Some, None, refl, sym, ap, ◌∙◌, arith}
+use Rattle.std.proofs.Common.{◌≡◌, ◌≢◌, ℕ, zero, suc, ℤ, List, [], ◌∷◌, length, map, Option, Some, None, refl, sym, ap, ◌∙◌, arith}
 use Rattle.std.specs.Prelude.{slice_get, slice_set}
 use Rattle.std.specs.List.{AllByRecursion}
 use Rattle.std.proofs.lemmas.List.{length-set, set-set, set_comm}
 use Rattle.xmp_meaning.proofs.Stays.{set_other}
-use Rattle.xmp_meaning_laws.specs.Tuples.{or_earlier, later, set_some, set_where}
+use Rattle.xmp_meaning_laws.specs.Tuples.{later, set_some, set_where}
 
 -- a scalar is none of these
 abbrev pub Fresh : ℕ → List ℕ → Type 0

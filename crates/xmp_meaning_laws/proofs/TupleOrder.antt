@@ -1,5 +1,5 @@
 -- The index tuples of a nest rise, and their values are values of int.
-use Rattle.std.proofs.Common.{◌≡◌, ◌⊎◌, inl, inr, ◌<◌, ◌≤◌, ◌+◌, ◌*◌, ◌++◌, ◌==◌, ◌&&◌, ◌||◌, not, if◌then◌else◌, ℕ, zero, suc, ℤ, pos, ◌+ℤ◌, Bool, true, false, true≢false, List, [], ◌∷◌, length, map, refl, sym, subst, ap, ◌∙◌, arith}
+use Rattle.std.proofs.Common.{◌≡◌, ◌⊎◌, inl, inr, ◌<◌, ◌≤◌, ◌+◌, ◌*◌, ◌++◌, ◌==◌, ◌&&◌, ◌||◌, not, if◌then◌else◌, ℕ, zero, suc, ℤ, pos, ◌+ℤ◌, Bool, true, false, List, [], ◌∷◌, map, refl, sym, subst, ap, ◌∙◌, arith}
 use Rattle.std.specs.Prelude.{int_lt, int_le, nat_le, slice_get}
 use Rattle.std.specs.List.{AllByRecursion, list_all, flat_map, range_with_len}
 use Rattle.std.specs.Ordering.{int_eq}
@@ -15,13 +15,13 @@ use Rattle.xmp_prog.specs.declared.statements.LoopHead.{LoopHead}
 use Rattle.xmp_prog.specs.Numbers.{is_in, apart, same_type, pairwise}
 use Rattle.xmp_prog.specs.Terms.{type_of, terms_of, slots_of_terms}
 use Rattle.xmp_prog.specs.Tests.{constant_fits}
-use Rattle.xmp_prog.specs.Counted.{most_counted, is_int_scalar, is_bound_term, is_small_constant, is_counted}
+use Rattle.xmp_prog.specs.Counted.{most_counted, is_int_scalar, is_bound_term, is_small_constant}
 use Rattle.xmp_prog.specs.Statements.{indices_of}
-use Rattle.xmp_meaning.specs.Loops.{is_inside, turn_count}
+use Rattle.xmp_meaning.specs.Loops.{is_inside}
 use Rattle.xmp_meaning.specs.LoopEnds.{comes_before}
 use Rattle.xmp_meaning.proofs.Counting.{turns_are_counted}
 use Rattle.xmp_meaning_laws.specs.Laws.{bound_value}
-use Rattle.xmp_meaning_laws.specs.Tuples.{NestFits, index_in_turn, turns_by, index_values, with_value, tuples, TuplesRise, AllTuplesRise}
+use Rattle.xmp_meaning_laws.specs.Tuples.{index_in_turn, turns_by, index_values, with_value, tuples, AllTuplesRise}
 use Rattle.xmp_meaning_laws.proofs.Conditions.{all_together}
 use Rattle.xmp_meaning_laws.proofs.Named.{all_of_test}
 use Rattle.xmp_meaning_laws.proofs.Values.{wrap_fits, same_types}

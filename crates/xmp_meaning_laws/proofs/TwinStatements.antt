@@ -1,8 +1,7 @@
 -- Two runs of a statement without directives side by side, in two layouts.
-use Rattle.std.proofs.Common.{◌≡◌, ◌++◌, ◌&&◌, ◌==◌, ◌||◌, ◌+ℤ◌, ℕ, zero, suc, ℤ, pos, Bool, true, false, true≢false, List, [], ◌∷◌, map, Option, Some, None, Result, Ok, Err, refl, sym, subst, ap, ◌∙◌, eq-eqb}
+use Rattle.std.proofs.Common.{◌≡◌, ◌++◌, ◌&&◌, ◌==◌, ◌||◌, ◌+ℤ◌, ℕ, zero, suc, ℤ, pos, Bool, true, false, true≢false, List, [], ◌∷◌, map, Option, Some, None, refl, sym, subst, ap, eq-eqb}
 use Rattle.std.specs.Prelude.{slice_set, is_none}
 use Rattle.std.specs.List.{AllByRecursion, list_all, flat_map}
-use Rattle.xmp_base.specs.declared.place.Place.{Place}
 use Rattle.xmp_map.proofs.Counted.{and_left, and_right}
 use Rattle.xmp_num.specs.declared.types.Ty.TheVariants.{Int}
 use Rattle.xmp_num.specs.Arithmetic.{binary_of, wrap}
@@ -13,32 +12,30 @@ use Rattle.xmp_prog.specs.declared.expressions.Expr.TheFolds.{ind-Access, fold-r
 use Rattle.xmp_prog.specs.declared.expressions.Expr.TheViews.{roll-Access}
 use Rattle.xmp_prog.specs.declared.statements.Compound.{Compound}
 use Rattle.xmp_prog.specs.declared.statements.LoopHead.{LoopHead}
-use Rattle.xmp_prog.specs.declared.statements.Target.{Target}
 use Rattle.xmp_prog.specs.declared.statements.Target.TheVariants as target
 use Rattle.xmp_prog.specs.declared.statements.Plain.{Plain}
 use Rattle.xmp_prog.specs.declared.statements.Plain.TheVariants as plain
 use Rattle.xmp_prog.specs.declared.statements.Stmt.{Stmt, map-Stmt}
 use Rattle.xmp_prog.specs.declared.statements.Task.{Task}
-use Rattle.xmp_prog.specs.declared.statements.Stmt.TheOpen.{Stmt-F, Task-F}
+use Rattle.xmp_prog.specs.declared.statements.Stmt.TheOpen.{Stmt-F}
 use Rattle.xmp_prog.specs.declared.statements.Stmt.TheFolds.{ind-Stmt, fold-Task, fold-roll-Stmt}
 use Rattle.xmp_prog.specs.declared.statements.Stmt.TheViews.{roll-Stmt}
 use Rattle.xmp_meaning.specs.declared.location.Location.{Location}
 use Rattle.xmp_meaning.specs.declared.location.Location.TheVariants as location
 use Rattle.xmp_meaning.specs.declared.ends.Flow.{Flow}
 use Rattle.xmp_meaning.specs.declared.ends.Flow.TheVariants.{Next, Returned}
-use Rattle.xmp_meaning.specs.Runs.{State, Step, StepIn, Gave, Ended, Run, and_then, ◌>>=◌, pure, or_trap, scalar, set_scalar, write, taken, set_taken, step_of, take_step}
+use Rattle.xmp_meaning.specs.Runs.{State, Run, ◌>>=◌, pure, scalar, set_scalar, write, taken, set_taken, step_of, take_step}
 use Rattle.xmp_meaning.specs.Declarations.{scalar_type, array_type}
 use Rattle.xmp_meaning.specs.Layouts.{number_of}
 use Rattle.xmp_meaning.specs.Context.{Context}
 use Rattle.xmp_meaning.specs.Handlers.{Handlers, TaskRun}
 use Rattle.xmp_meaning.specs.Blocks.{each, after, then_run, block, choose, turns}
-use Rattle.xmp_meaning.specs.Expressions.{expr_of, call, holds, is_zero}
+use Rattle.xmp_meaning.specs.Expressions.{expr_of, call, holds}
 use Rattle.xmp_meaning.specs.Formats.{printed}
-use Rattle.xmp_meaning.specs.Assignments.{location_type, store, at_target, new_value, assign, initialise, declare, store_read, scan}
+use Rattle.xmp_meaning.specs.Assignments.{at_target, new_value, assign, initialise, declare, store_read, scan}
 use Rattle.xmp_meaning.specs.Loops.{turn, while_loop, is_inside, inside, step_up, turn_count, entering, counted}
 use Rattle.xmp_meaning.specs.Statements.{plain_of, stmt_step, task_step, stmt_of}
-use Rattle.xmp_meaning_laws.specs.Laws.{scalar_in}
-use Rattle.xmp_meaning_laws.specs.Agreement.{Spot, Seen, SeenElement, seen_step, seen_element, seen, seen_access, seen_option, spots_of_all, slots_of_all, with_slot, old_fits, Verdict, Looked, plain_verdict, plain_reads, plain_writes, judge_all, look_step, look_task, look, IsKnown, MayBe, SpotIn, StepsMeet, AfterFlow}
+use Rattle.xmp_meaning_laws.specs.Agreement.{Spot, Seen, SeenElement, seen_step, seen_element, seen, seen_access, seen_option, spots_of_all, slots_of_all, with_slot, old_fits, Looked, plain_verdict, plain_reads, plain_writes, judge_all, look_step, look_task, look, IsKnown, SpotIn, StepsMeet, AfterFlow}
 use Rattle.xmp_meaning_laws.proofs.Conditions.{all_apart}
 use Rattle.xmp_meaning_laws.proofs.Twins.{Couple, left, right, meet_on, meet_weaker, AreTwins, Same, Twin, Any, same_on, gives, or_trap_twin, scalar_twin, call_twin, SpotGet, OfOneCell, expr_twin, cell_twin, all_first, all_last}
 

@@ -1,6 +1,6 @@
 -- Two runs of an expression side by side, in two layouts: from states that agree on what it reads it comes to the same.
-use Rattle.std.proofs.Common.{◌≡◌, ◌<◌, ◌++◌, ◌&&◌, ◌==◌, ◌||◌, not, ℕ, zero, suc, ℤ, pos, negsuc, Bool, true, false, true≢false, List, [], ◌∷◌, map, Option, Some, None, Result, Ok, Err, refl, sym, subst, ap, ◌∙◌, if◌then◌else◌}
-use Rattle.std.specs.Prelude.{slice_get, slice_set, unwrap_or, is_none, nat_lt}
+use Rattle.std.proofs.Common.{◌≡◌, ◌<◌, ◌++◌, ℕ, suc, ℤ, pos, negsuc, Bool, true, false, true≢false, List, [], ◌∷◌, map, Option, Some, None, Result, Ok, Err, refl, sym, subst, ap, ◌∙◌, if◌then◌else◌}
+use Rattle.std.specs.Prelude.{slice_set, nat_lt}
 use Rattle.std.specs.List.{AllByRecursion, list_all, flat_map}
 use Rattle.std.specs.Option.{option_map}
 use Rattle.std.proofs.lemmas.Bool.{leb-true}
@@ -18,16 +18,15 @@ use Rattle.xmp_prog.specs.declared.expressions.Expr.TheOpen.{Expr-F, Access-F}
 use Rattle.xmp_prog.specs.declared.expressions.Expr.TheFolds.{ind-Expr, ind-Access, fold-roll-Expr, fold-roll-Access}
 use Rattle.xmp_prog.specs.declared.expressions.Expr.TheViews.{roll-Expr, roll-Access}
 use Rattle.xmp_meaning.specs.Runs.{State, Step, StepIn, Gave, Ended, Run, RunIn, and_then, ◌>>=◌, pure, or_trap, scalar}
-use Rattle.xmp_meaning.specs.Declarations.{extents, is_coarray}
+use Rattle.xmp_meaning.specs.Declarations.{extents}
 use Rattle.xmp_meaning.specs.Layouts.{Layout, number_of}
 use Rattle.xmp_meaning.specs.Context.{Context}
 use Rattle.xmp_meaning.specs.Handlers.{Handlers}
 use Rattle.xmp_meaning.specs.Blocks.{each}
-use Rattle.xmp_meaning.specs.Expressions.{Element, expr_of, element_of, expr_step, access_step, natural, within, or_subscript, checked, image_of, cell_number, cell_of, is_zero, as_truth, after_call, call, holds}
+use Rattle.xmp_meaning.specs.Expressions.{Element, expr_of, element_of, expr_step, access_step, natural, within, or_subscript, checked, cell_number, cell_of, is_zero, as_truth, after_call, call}
 use Rattle.xmp_meaning_laws.specs.Laws.{scalar_in}
-use Rattle.xmp_meaning_laws.specs.Agreement.{result_value, Spot, Seen, SeenElement, joined_value, seen_step, seen_element, seen, seen_access, spots_of_all, slots_of_all, with_slot, IsKnown, MayBe, own_image, SpotIn, StepsMeet}
+use Rattle.xmp_meaning_laws.specs.Agreement.{result_value, Spot, Seen, SeenElement, joined_value, seen_step, seen_element, seen, seen_access, with_slot, IsKnown, MayBe, own_image, SpotIn, StepsMeet}
 use Rattle.xmp_meaning_laws.proofs.Conditions.{all_apart}
-use Rattle.xmp_meaning_laws.proofs.Named.{all_of_test}
 
 -- ---- two contexts over one program, with two layouts
 

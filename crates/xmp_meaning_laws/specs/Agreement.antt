@@ -1,6 +1,6 @@
 -- Which scalars and which cells a statement without directives may read and write, where some scalars have known values
 -- (this project).
-use Rattle.std.specs.Prelude.{◌≡◌, ◌<◌, ◌++◌, ◌&&◌, ◌||◌, ◌==◌, not, is_none, if◌then◌else◌, ℕ, ℤ, pos, Bool, true, false, List, [], ◌∷◌, map, IsTrue, Option, Some, None, Result, Ok, Err}
+use Rattle.std.specs.Prelude.{◌≡◌, ◌<◌, ◌++◌, ◌&&◌, ◌||◌, ◌==◌, is_none, if◌then◌else◌, ℕ, ℤ, pos, Bool, true, false, List, [], ◌∷◌, map, IsTrue, Option, Some, None, Result, Ok, Err}
 use Rattle.std.specs.List.{AllByRecursion, list_all, flat_map}
 use Rattle.std.specs.Option.{option_map}
 use Rattle.xmp_num.specs.declared.types.Ty.{Ty}
@@ -23,7 +23,7 @@ use Rattle.xmp_prog.specs.declared.statements.Stmt.TheFolds.{fold-Stmt}
 use Rattle.xmp_meaning.specs.declared.ends.Flow.{Flow}
 use Rattle.xmp_meaning.specs.declared.ends.Flow.TheVariants.{Next, Returned}
 use Rattle.xmp_meaning.specs.Cells.{read_in}
-use Rattle.xmp_meaning.specs.Runs.{StepIn, Gave, Ended, State, Step}
+use Rattle.xmp_meaning.specs.Runs.{StepIn, Gave, Ended, State}
 use Rattle.xmp_meaning.specs.Declarations.{extents, is_coarray}
 use Rattle.xmp_meaning.specs.Layouts.{number_of}
 use Rattle.xmp_meaning.specs.Context.{Context}

@@ -2,7 +2,6 @@
 -- construct).
 use Rattle.std.specs.Prelude.{◌≡◌, ◌<◌, ◌+◌, ◌&&◌, ◌||◌, int_le, ℕ, ℤ, pos, ◌+ℤ◌, Bool, true, List, length, map, IsTrue, Option, Some, None, unwrap_or, slice_get}
 use Rattle.xmp_map.specs.declared.spread_dim.SpreadDim.{SpreadDim}
-use Rattle.xmp_map.specs.declared.aligned.AlignedDim.{AlignedDim}
 use Rattle.xmp_map.specs.declared.array_map.ArrayMap.{ArrayMap}
 use Rattle.xmp_map.specs.RowMajor.{unravel}
 use Rattle.xmp_map.specs.Boxes.{all_pass}

@@ -1,9 +1,8 @@
 -- The index tuples of a nest of counted loops, and a nest as a fold over them (this project).
-use Rattle.std.specs.Prelude.{◌≡◌, not, ◌+◌, ◌*◌, ◌++◌, ◌&&◌, ◌==◌, if◌then◌else◌, ℕ, ℤ, pos, ◌+ℤ◌, Bool, true, false, List, [], ◌∷◌, length, map, IsTrue, is_some, slice_get, slice_set, Option, Some, None}
+use Rattle.std.specs.Prelude.{◌≡◌, not, ◌*◌, ◌++◌, ◌&&◌, ◌==◌, if◌then◌else◌, ℕ, ℤ, pos, ◌+ℤ◌, Bool, true, List, [], ◌∷◌, length, map, IsTrue, is_some, slice_get, slice_set, Option, Some, None}
 use Rattle.std.specs.List.{AllByRecursion, list_all, flat_map, filter, range_with_len}
 use Rattle.xmp_num.specs.declared.types.Ty.TheVariants.{Int}
 use Rattle.xmp_num.specs.Arithmetic.{FitsType, wrap}
-use Rattle.xmp_map.specs.declared.template.Template.{Template}
 use Rattle.xmp_prog.specs.declared.parts.ProgParts.{ProgParts}
 use Rattle.xmp_prog.specs.declared.expressions.Expr.{Expr}
 use Rattle.xmp_prog.specs.declared.expressions.Expr.TheOpen.{Expr-F}
@@ -20,14 +19,14 @@ use Rattle.xmp_prog.specs.Statements.{indices_of, terms_of_head, writes_of}
 use Rattle.xmp_prog.specs.declared.statements.Stmt.{Stmt}
 use Rattle.xmp_meaning.specs.declared.ends.Flow.{Flow}
 use Rattle.xmp_meaning.specs.declared.ends.Flow.TheVariants.{Next}
-use Rattle.xmp_meaning.specs.Runs.{State, Gave, Run, ◌>>=◌, pure, state_of}
+use Rattle.xmp_meaning.specs.Runs.{State, Gave, Run, pure, state_of}
 use Rattle.xmp_meaning.specs.Blocks.{then_run}
 use Rattle.xmp_meaning.specs.Context.{Context}
 use Rattle.xmp_meaning.specs.Handlers.{Handlers, erased}
 use Rattle.xmp_meaning.specs.Statements.{stmt_of}
 use Rattle.xmp_meaning.specs.Exchanges.{Notes, note_turn, traced}
 use Rattle.xmp_meaning.specs.Loops.{turn_count, nest}
-use Rattle.xmp_meaning.specs.Parts.{owns_positions, owns_iteration, only, begin, part_of}
+use Rattle.xmp_meaning.specs.Parts.{owns_positions, owns_iteration, only}
 use Rattle.xmp_meaning.specs.LoopEnds.{comes_before}
 use Rattle.xmp_meaning.specs.Laws.{KeepsScalar}
 use Rattle.xmp_meaning_laws.specs.Laws.{bound_value, scalar_in}
