@@ -10,3 +10,15 @@ pub mod PairsMeant
 pub mod WordLaws
 pub mod PairsInside
 pub mod SidesKept
+pub mod ReachLaws
+pub mod Gathered
+pub mod ByPlace
+pub mod DueSlots
+pub mod SumLaws
+pub mod Narrowed
+pub mod LegLaws
+pub mod GatherLaws
+pub mod EndLaws
+pub mod PickLaws
+pub mod PlanLaws
+pub mod Gathering

@@ -18,7 +18,7 @@ pub first_none : (g h : Option Fault) → first_of g h ≡ None → g ≡ None
 first_none None h e = refl
 first_none (Some f) h e = cc
 
-rest_none : (g h : Option Fault) → first_of g h ≡ None → h ≡ None
+pub rest_none : (g h : Option Fault) → first_of g h ≡ None → h ≡ None
 rest_none None h e = e
 rest_none (Some f) h e = cc
 
@@ -36,7 +36,7 @@ is_some_if : (x : ℕ) (b : Bool) → is_some (if b then Some x else None) ≡ t
 is_some_if x true e = refl
 is_some_if x false e = cc
 
-one_inside : (source : Bool) (n : ℕ) (v : ℤ) → part_fault source n (One v) ≡ None → natural v < n
+pub one_inside : (source : Bool) (n : ℕ) (v : ℤ) → part_fault source n (One v) ≡ None → natural v < n
 one_inside source n (pos x) e =
     is_less x n (is_some_if x (nat_lt x n) (no_fault (is_some (if nat_lt x n then Some x else None)) (record { kind = Subscript; source = source }) e))
 one_inside source n (negsuc x) e = cc
@@ -66,7 +66,7 @@ reaches n (pos b) (pos (suc m)) (negsuc s) k e lt = cc
 reaches n (negsuc b) (pos (suc m)) (negsuc s) k e lt = cc
 reaches n base (negsuc m) step k e lt = cc
 
-many_reaches : (source : Bool) (n : ℕ) (base count step : ℤ) (k : ℕ) → part_fault source n (Many base count step) ≡ None → k < natural count
+pub many_reaches : (source : Bool) (n : ℕ) (base count step : ℤ) (k : ℕ) → part_fault source n (Many base count step) ≡ None → k < natural count
     → Reaches n (natural base) (natural step) k
 many_reaches source n base count step k e lt =
     reaches n base count step k (no_fault (in_range n base count step) (record { kind = Section; source = source }) e) lt

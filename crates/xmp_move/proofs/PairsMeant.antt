@@ -94,7 +94,7 @@ one_cell (Many base length step ∷ cs) places e = cc
 int_same : (a b : ℤ) → int_eq a b ≡ true → a ≡ b
 int_same a b e = grind arith
 
-fit_same : (ms ns : List ℤ) → length ns ≡ length ms → fit ms ns ≡ true → ns ≡ ms
+pub fit_same : (ms ns : List ℤ) → length ns ≡ length ms → fit ms ns ≡ true → ns ≡ ms
 fit_same [] [] l h = refl
 fit_same [] (n ∷ ns) l h = absurd (omega (arith, l))
 fit_same (m ∷ ms) [] l h = absurd (omega (arith, l))
@@ -140,7 +140,7 @@ no_fault (Some f) h e = cc
 abbrev different : Fault
 different = record { kind = Section; source = false }
 
-lengths_good : (to from : List Chosen) → lengths_fault to from ≡ None → fit (lengths to) (lengths from) ≡ true
+pub lengths_good : (to from : List Chosen) → lengths_fault to from ≡ None → fit (lengths to) (lengths from) ≡ true
 lengths_good to from e = at_test (fit (lengths to) (lengths from)) e
   where
     at_test : (b : Bool) → (if b then None else Some different) ≡ None → b ≡ true

@@ -48,14 +48,14 @@ padded_in [] (suc dims) n (x ∷ xs) u e i = absurd i
 padded_in (l ∷ ls) (suc dims) n [] u e i = absurd i
 padded_in (l ∷ ls) (suc dims) n (x ∷ xs) u e i = (i.0, padded_in ls dims n xs u (let m : n + length xs ≡ length ls = omega (arith, e) in m) i.1)
 
-inside_short : (cell es : List ℕ) → IsInside cell es → length cell ≡ length es
+pub inside_short : (cell es : List ℕ) → IsInside cell es → length cell ≡ length es
 unfolding IsInside
 inside_short [] [] i = refl
 inside_short (x ∷ xs) (e ∷ es) i = ap suc (inside_short xs es i.1)
 inside_short [] (e ∷ es) i = absurd i
 inside_short (x ∷ xs) [] i = absurd i
 
-take_short : {A : Type 0} (n : ℕ) (xs : List A) → length (take n xs) ≤ length xs
+pub take_short : {A : Type 0} (n : ℕ) (xs : List A) → length (take n xs) ≤ length xs
 take_short zero xs = omega arith
 take_short (suc n) [] = omega arith
 take_short (suc n) (x ∷ xs) = let r = take_short n xs in omega (arith, r)

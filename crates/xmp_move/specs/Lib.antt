@@ -11,3 +11,11 @@ pub mod Laid
 pub mod Meant
 pub mod Kept
 pub mod Laws
+pub mod Picks
+pub mod Sums
+pub mod Reaches
+pub mod Axes
+pub mod Legs
+pub mod Gathers
+pub mod Ends
+pub mod Plans
