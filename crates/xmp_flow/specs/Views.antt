@@ -1,0 +1,54 @@
+-- The setting that the code holds.
+use Rattle.std.specs.Prelude.{ℕ, ◌≡◌, Bool, true, false, ◌&&◌, List, [], ◌∷◌, slice_get, Option, Some, None, if◌then◌else◌}
+use Rattle.std.specs.List.{list_all}
+use Rattle.std.specs.Option.{unwrap_or, option_copied, option_map}
+use Rattle.xmp_base.specs.declared.place.Place.{Place}
+use Rattle.xmp_paths.specs.Plans.{Plan, skip, emit}
+use Rattle.xmp_paths.specs.declared.event.Event.{Event}
+use Rattle.xmp_paths.specs.declared.event.Event.TheVariants.{Read, Wrong}
+use Rattle.xmp_prog.specs.Numbers.{is_in}
+use Rattle.xmp_loops.specs.Objects.{all_nodes, array_object}
+use Rattle.xmp_loops.specs.Tables.{flag_at, role_at}
+use Rattle.xmp_flow.specs.Setting.{Setting}
+use Rattle.xmp_map.specs.Align.{under}
+use Rattle.xmp_map.specs.declared.aligned.AlignedDim.{AlignedDim}
+use Rattle.xmp_map.specs.declared.spread_dim.SpreadDim.{SpreadDim}
+use Rattle.xmp_prog.specs.declared.expressions.Expr.{Expr}
+use Rattle.xmp_prog.specs.declared.statements.LoopDirective.{LoopDirective}
+use Rattle.xmp_loops.specs.Offsets.{Offset, is_own, is_within, is_distributed, offset_at, point_for}
+use Rattle.xmp_loops.specs.declared.role.Role.{Role}
+use Rattle.xmp_loops.specs.declared.role.Role.TheVariants.{Shared}
+use Rattle.xmp_flow.specs.declared.setting.Around.{Around}
+use Rattle.xmp_loops.specs.declared.offsets.Reach.{Reach}
+use Rattle.xmp_loops.specs.declared.forms.Form.{Form}
+use Rattle.xmp_loops.specs.declared.forms.Form.TheVariants.{Beside, One, Two}
+
+-- what the code holds, as a setting
+abbrev pub setting_of : Around → Setting
+setting_of s = record {
+  program = s.program.now;
+  nodes = s.nodes;
+  inside = s.inside;
+  over = option_copied s.over;
+  roles = role_at s.roles.now;
+  written = is_in s.written.now;
+  loops = flag_at s.loops.now;
+  moving = s.moving;
+}
+
+-- the code holds all nodes beside it
+abbrev pub KnowsAll : Around → Type 0
+KnowsAll s = s.all ≡ all_nodes s.program.now
+
+-- what happens at an element of which the offsets reach so far
+abbrev pub events_at : Setting → ℕ → Place → Reach → Plan Event
+events_at s array at r =
+    if r.own
+    then skip
+    else (if s.written array
+    then emit (Wrong 4 at)
+    else (if r.within then emit (Read (array_object array) (all_nodes s.program) 3 at) else emit (Wrong 3 at)))
+
+abbrev pub events_of_reach : Setting → ℕ → Place → Option Reach → Plan Event
+events_of_reach s array at None = emit (Wrong 2 at)
+events_of_reach s array at (Some r) = events_at s array at r
