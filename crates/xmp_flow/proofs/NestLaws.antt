@@ -1,8 +1,8 @@
 -- The heads of a nest and the reductions of a directive: one more, and sets of numbers that hold the same.
-use Rattle.std.proofs.Common.{◌≡◌, ◌∙◌, eqb, sym, ap, refl, ℕ, Bool, true, false, not, ◌++◌, ◌∷◌, [], List}
+use Rattle.std.proofs.Common.{◌≡◌, ◌∙◌, ◌<◌, ◌+◌, length, get_or, drop, eqb, sym, ap, refl, ℕ, Bool, true, false, not, ◌++◌, ◌∷◌, [], List}
 use Rattle.std.specs.Prelude.{◌||◌, ◌==◌}
 use Rattle.std.proofs.Math.Path.{fun_ext}
-use Rattle.std.proofs.lemmas.List.{append_assoc}
+use Rattle.std.proofs.lemmas.List.{append_assoc, at_drop_more}
 use Rattle.xmp_paths.specs.Plans.{Plan, emit, in_order}
 use Rattle.xmp_paths.specs.declared.event.Event.{Event}
 use Rattle.xmp_paths.specs.declared.event.Event.TheVariants.{Read}
@@ -15,6 +15,26 @@ use Rattle.xmp_loops.specs.Bounds.{is_bound, is_built}
 use Rattle.xmp_flow.specs.Setting.{Setting, is_reduced, wrong_where}
 use Rattle.xmp_flow.specs.Reads.{reads_of}
 use Rattle.xmp_flow.specs.LoopEvents.{head_events, nest_events, reduction_events}
+
+-- ---- sets
+
+or_swap : (a b c : Bool) → (a || (b || c)) ≡ (b || (a || c))
+or_swap true true c = refl
+or_swap true false c = refl
+or_swap false true c = refl
+or_swap false false c = refl
+
+or_nothing : (a : Bool) → (a || false) ≡ a
+or_nothing true = refl
+or_nothing false = refl
+
+set_by : (a c : List ℕ) (m : ℕ) → (is_in c m || is_in a m) ≡ is_in (a ++ c) m
+set_by [] c m = or_nothing (is_in c m)
+set_by (k ∷ ks) c m = or_swap (is_in c m) (eqb k m) (is_in ks m) ∙ ap (λ b. eqb k m || b) (set_by ks c m)
+
+-- two lists that are put into an empty set, one and then the other
+pub set_of : (a c : List ℕ) (m : ℕ) → (is_in c m || (is_in a m || is_in [] m)) ≡ is_in (a ++ c) m
+set_of a c m = ap (λ b. is_in c m || b) (or_nothing (is_in a m)) ∙ set_by a c m
 
 -- ---- nests
 
@@ -46,13 +66,15 @@ nest_step s written outer more parts longer h heads e p =
     ∙ (append_assoc parts (head_events s outer written h ∷ []) (nest_events s more written heads)
     ∙ ap (λ o. parts ++ head_events s outer written h ∷ nest_events s o written heads) e)
 
--- ---- reductions
+pub nest_more : (s : Setting) (written outer more : List ℕ) (parts longer : List (Plan Event)) (nest : List LoopHead) (i : ℕ) (h : LoopHead) (whole : List (Plan Event)) →
+    i < length nest → h ≡ get_or nest i h → more ≡ outer ++ h.index.number ∷ [] → longer ≡ parts ++ head_events s outer written h ∷ [] →
+    parts ++ nest_events s outer written (drop i nest) ≡ whole → longer ++ nest_events s more written (drop (i + 1) nest) ≡ whole
+nest_more s written outer more parts longer nest i h whole w g e p q =
+    nest_step s written outer more parts longer h (drop (i + 1) nest) e p
+    ∙ (ap (λ x. parts ++ nest_events s outer written (x ∷ drop (i + 1) nest)) g
+    ∙ (sym (at_drop_more (λ l. parts ++ nest_events s outer written l) nest i h w) ∙ q))
 
-or_swap : (a b c : Bool) → (a || (b || c)) ≡ (b || (a || c))
-or_swap true true c = refl
-or_swap true false c = refl
-or_swap false true c = refl
-or_swap false false c = refl
+-- ---- reductions
 
 behind : (ns : List ℕ) (n m : ℕ) → is_in (ns ++ n ∷ []) m ≡ (eqb n m || is_in ns m)
 behind [] n m = refl
@@ -79,3 +101,12 @@ reduction_step s before more parts longer r rs e p =
     (reduction_events s more rs)
     ∙ ap (λ l. parts ++ emit (Read (scalar_object r.variable.number) (all_nodes s.program) 1 r.variable.at) ∷ wrong_where (is_in before r.variable.number) 5 r.variable.at ∷ l)
     (reductions_same s more (before ++ r.variable.number ∷ []) (λ m. e m ∙ sym (behind before r.variable.number m)) rs))
+
+pub reduction_more : (s : Setting) (before more : List ℕ) (parts longer : List (Plan Event)) (rs : List Reduction) (i : ℕ) (r : Reduction) (whole : List (Plan Event)) →
+    i < length rs → ((m : ℕ) → is_in more m ≡ (eqb (get_or rs i r).variable.number m || is_in before m)) →
+    longer ≡ parts ++ emit (Read (scalar_object (get_or rs i r).variable.number) (all_nodes s.program) 1 (get_or rs i r).variable.at)
+    ∷ wrong_where (is_in before (get_or rs i r).variable.number) 5 (get_or rs i r).variable.at ∷ [] →
+    parts ++ reduction_events s before (drop i rs) ≡ whole → longer ++ reduction_events s more (drop (i + 1) rs) ≡ whole
+reduction_more s before more parts longer rs i r whole w e p q =
+    reduction_step s before more parts longer (get_or rs i r) (drop (i + 1) rs) e p
+    ∙ (sym (at_drop_more (λ l. parts ++ reduction_events s before l) rs i r w) ∙ q)

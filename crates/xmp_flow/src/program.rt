@@ -10,7 +10,7 @@ use std::alloc::{AllocError, Global};
 use xmp_base::{NoMemory, Phase, Refusal};
 use xmp_loops::{Numbers, Roles, loopers, nodes_of};
 use xmp_paths::Flow;
-use xmp_prog::{Prog, ProgParts};
+use xmp_prog::{LoopDirective, Prog, ProgParts};
 
 // The plan of a program.
 fn plan(alloc: Global, p: &ProgParts) -> Result<Flow, AllocError>
@@ -20,12 +20,13 @@ fn plan(alloc: Global, p: &ProgParts) -> Result<Flow, AllocError>
     let all = nodes_of(&p.grid);
     let roles = Roles::new(alloc);
     let written = Numbers::new(alloc);
+    let over: Option<&LoopDirective> = None;
     let outermost = Around {
         program: p,
         nodes: all,
         all,
         inside: false,
-        over: None,
+        over,
         roles: &roles,
         written: &written,
         loops: loops.as_slice(),

@@ -1,9 +1,11 @@
 // What stands ready for the body of a loop directive, and the events round those of its body.
-ghost use Rattle.std.specs.Prelude.{◌≡◌, map, IfOk};
+ghost use Rattle.std.specs.Prelude.{◌≡◌, ◌++◌, [], ℕ, map, IfOk};
 ghost use Rattle.xmp_paths.specs.Plans.{in_order};
 ghost use Rattle.xmp_paths.specs.Flows.{plan_of};
 ghost use Rattle.xmp_prog.specs.declared.statements.Stmt.{Stmt};
-ghost use Rattle.xmp_flow.specs.LoopEvents.{at_bounds, loop_events};
+ghost use Rattle.xmp_prog.specs.Numbers.{is_in};
+ghost use Rattle.xmp_prog.specs.Statements.{indices_of};
+ghost use Rattle.xmp_flow.specs.LoopEvents.{at_bounds, loop_events, nest_events};
 ghost use Rattle.xmp_flow.specs.Ready.{IsReady, before_turns, ends_with, turn_of};
 ghost use Rattle.xmp_flow.specs.Views.{KnowsAll, setting_of};
 
@@ -87,6 +89,28 @@ fn ends(
     Ok(Flow::all(parts))
 }
 
+// All scalars that the directive writes.
+#[tactic(auto, using(crate::proofs::NestLaws::set_of))]
+fn written_of(alloc: Global, d: &LoopDirective, r: &Ready) -> Result<Numbers, AllocError>
+    ensures { IfOk result (λ written. (m : ℕ) → is_in written m ≡ is_in (indices_of d.now.nest ++ r.now.scalars) m) }
+{
+    let mut written = Numbers::new(alloc);
+    put_indices(d.nest.as_slice(), &mut written)?;
+    written.put_all(r.scalars.as_slice())?;
+    Ok(written)
+}
+
+// The heads of its nest.
+fn heads(alloc: Global, bounds: &Around, d: &LoopDirective, r: &Ready) -> Result<Flow, AllocError>
+    requires { KnowsAll bounds.now }
+    ensures { IfOk result (λ flow. plan_of flow
+        ≡ in_order (nest_events (setting_of bounds.now) [] (indices_of d.now.nest ++ r.now.scalars) d.now.nest)) }
+{
+    let written = written_of(alloc, d, r)?;
+    let nest = nest_events(alloc, bounds, &written, d.nest.as_slice())?;
+    Ok(Flow::all(nest))
+}
+
 // What stands before the iterations.
 fn head(
     alloc: Global,
@@ -101,14 +125,11 @@ fn head(
         → setting_of bounds.now ≡ at_bounds d.now body (setting_of s.now)
         → map plan_of parts ≡ before_turns (setting_of s.now) d.now body) }
 {
-    let mut written = Numbers::new(alloc);
-    put_indices(d.nest.as_slice(), &mut written)?;
-    written.put_all(r.scalars.as_slice())?;
-    let nest = nest_events(alloc, bounds, &written, d.nest.as_slice())?;
+    let nest = heads(alloc, bounds, d, r)?;
     let reductions = reduction_events(alloc, s, d.reductions.as_slice())?;
     let mut parts = Items::new(alloc);
     parts.push(wrong_where(alloc, s.inside, 10, d.at))?;
-    parts.push(Flow::all(nest))?;
+    parts.push(nest)?;
     parts.push(Flow::all(reductions))?;
     Ok(parts)
 }

@@ -66,6 +66,7 @@ fn if_form<'a>(s: &Around, test: &'a Expr, a: &'a Stmt, b: &Stmt) -> Form<'a>
 
 /// The events of a statement where it stands.
 #[cycle(events)]
+#[tactic(auto, using(crate::proofs::FormLaws::events_plain, crate::proofs::FormLaws::events_block, crate::proofs::FormLaws::events_if, crate::proofs::FormLaws::events_while, crate::proofs::FormLaws::events_counted, crate::proofs::FormLaws::events_loop, crate::proofs::FormLaws::events_tasks))]
 pub fn events(alloc: Global, s: &Around, x: &Stmt) -> Result<Flow, AllocError>
     requires { KnowsAll s.now }
     ensures { IfOk result (λ flow. plan_of flow ≡ events_of x.now (setting_of s.now)) }
