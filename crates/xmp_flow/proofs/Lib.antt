@@ -3,3 +3,4 @@ pub mod FormLaws
 pub mod ReadLaws
 pub mod ReadyLaws
 pub mod NestLaws
+pub mod EventLaws

@@ -44,11 +44,11 @@ bound_same outer v w h e = ap (λ (t : ℕ → Bool). is_built t e) (fun_ext (λ
 head_same : (s : Setting) (outer v w : List ℕ) → ((m : ℕ) → is_in v m ≡ is_in w m) → (x : LoopHead) → head_events s outer v x ≡ head_events s outer w x
 head_same s outer v w h x =
     ap (λ b. in_order (
-      reads_of x.from s ∷ wrong_where (not b) 12 x.from_at ∷ reads_of x.to s ∷ wrong_where (not (is_bound outer v x.to)) 12 x.to_at
-      ∷ wrong_where (is_reduced (s.roles x.index.number)) 5 x.index.at ∷ [])) (bound_same outer v w h x.from)
+    reads_of x.from s ∷ wrong_where (not b) 12 x.from_at ∷ reads_of x.to s ∷ wrong_where (not (is_bound outer v x.to)) 12 x.to_at
+    ∷ wrong_where (is_reduced (s.roles x.index.number)) 5 x.index.at ∷ [])) (bound_same outer v w h x.from)
     ∙ ap (λ b. in_order (
-      reads_of x.from s ∷ wrong_where (not (is_bound outer w x.from)) 12 x.from_at ∷ reads_of x.to s ∷ wrong_where (not b) 12 x.to_at
-      ∷ wrong_where (is_reduced (s.roles x.index.number)) 5 x.index.at ∷ [])) (bound_same outer v w h x.to)
+    reads_of x.from s ∷ wrong_where (not (is_bound outer w x.from)) 12 x.from_at ∷ reads_of x.to s ∷ wrong_where (not b) 12 x.to_at
+    ∷ wrong_where (is_reduced (s.roles x.index.number)) 5 x.index.at ∷ [])) (bound_same outer v w h x.to)
 
 -- what the directive writes counts as a set
 pub nest_same : (s : Setting) (v w : List ℕ) → ((m : ℕ) → is_in v m ≡ is_in w m) → (outer : List ℕ) (heads : List LoopHead) →

@@ -1,6 +1,7 @@
 -- The parts of a loop directive's events by the lists and tables of the code are those by the directive and its body.
-use Rattle.std.proofs.Common.{◌≡◌, eqb, false, ◌∙◌, refl, sym, ap, ℕ, Bool, true, ◌++◌, ◌∷◌, [], List, map, Some}
+use Rattle.std.proofs.Common.{◌≡◌, IfOk, Result, eqb, false, ◌∙◌, refl, sym, ap, ℕ, Bool, true, ◌++◌, ◌∷◌, [], List, map, Some}
 use Rattle.std.proofs.Math.Path.{fun_ext}
+use Rattle.std.proofs.lemmas.Result.{IfOk-weaker}
 use Rattle.std.specs.Prelude.{◌==◌, ◌||◌}
 use Rattle.std.specs.List.{filter, find}
 use Rattle.xmp_prog.specs.Numbers.{is_in}
@@ -117,3 +118,12 @@ module _ (r : Ready) (d : LoopDirective) (body : Stmt) (q : IsReady r d body) wh
       (o ∙ ap (λ (k : List ℕ). filter (λ slot. is_own (role_at r.roles slot)) k) c) p
       (t ∙ ap (λ k. turn_of s k events) a)
       (e ∙ (ap (λ k. in_order (ends_with s d k arrays)) b ∙ ap (λ k. in_order (ends_with s d own k)) v))))
+
+  -- the events of a directive, from those of its body where the code stands in it
+  pub directive_by : {E : Type 0} (s bounds inner : Setting) (turn : Plan Event) (result : Result Flow E) →
+      bounds ≡ inside_of s d (role_at r.before) (is_in r.written) → inner ≡ inside_of s d (role_at r.roles) (is_in r.written) →
+      turn ≡ events_of body inner →
+      IfOk result (λ flow. (x : Stmt) → IsReady r d x → bounds ≡ at_bounds d x s → plan_of flow ≡ loop_events d x (λ y. turn) s) →
+      IfOk result (λ flow. plan_of flow ≡ loop_events d body (events_of body) s)
+  directive_by s bounds inner turn result b i t =
+      IfOk-weaker result _ _ (λ flow f. f body q (b ∙ bounds_ready s) ∙ turn_ready s inner turn (i ∙ within_ready s) t)

@@ -15,7 +15,7 @@ ghost use Rattle.xmp_loops.specs.Tables.{role_at};
 
 use crate::elements::home_of;
 use crate::expressions::reads;
-use crate::scalars::{wrong_where};
+use crate::scalars::wrong_where;
 use crate::setting::Around;
 use sqlite_items::Items;
 use std::alloc::{AllocError, Global};

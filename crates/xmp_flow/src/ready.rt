@@ -10,7 +10,8 @@ ghost use Rattle.xmp_flow.specs.Ready.{IsReady, before_turns, ends_with, turn_of
 ghost use Rattle.xmp_flow.specs.Views.{KnowsAll, setting_of};
 
 use crate::directive::{
-    current_reductions, nest_events, own_scalars, put_indices, reduction_events, stale_scalars, stale_shadows,
+    current_reductions, nest_events, own_scalars, put_indices, reduction_events, stale_scalars,
+    stale_shadows,
 };
 use crate::expressions::with;
 use crate::scalars::wrong_where;

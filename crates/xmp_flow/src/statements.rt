@@ -64,9 +64,110 @@ fn if_form<'a>(s: &Around, test: &'a Expr, a: &'a Stmt, b: &Stmt) -> Form<'a>
     }
 }
 
+// The condition of an `if`, and then either part.
+fn choice(alloc: Global, first: Flow, left: Flow, right: Flow) -> Result<Flow, AllocError>
+    ensures { IfOk result (λ flow. plan_of flow ≡ in_order (plan_of first ∷ branch (plan_of left) (plan_of right) ∷ [])) }
+{
+    let either = Flow::either(alloc, left, right)?;
+    Flow::both(alloc, first, either)
+}
+
+// An `if` whose parts have these events: it may be a reduction form.
+fn if_events(
+    alloc: Global,
+    s: &Around,
+    test: &Expr,
+    form: Form<'_>,
+    left: Flow,
+    right: Flow,
+) -> Result<Flow, AllocError>
+    requires { KnowsAll s.now }
+    ensures { IfOk result (λ flow. plan_of flow ≡ in_form (setting_of s.now)
+        (in_order (reads_of test.now (setting_of s.now) ∷ branch (plan_of left) (plan_of right) ∷ [])) (read_by form.entry)) }
+{
+    let whole = match reads(alloc, s, test) {
+        Ok(first) => choice(alloc, first, left, right)?,
+        Err(e) => {
+            std::mem::drop(left);
+            std::mem::drop(right);
+            return Err(e);
+        }
+    };
+    match form_reads(alloc, s, form) {
+        Ok(Some(flow)) => {
+            std::mem::drop(whole);
+            Ok(flow)
+        }
+        Ok(None) => Ok(whole),
+        Err(e) => {
+            std::mem::drop(whole);
+            Err(e)
+        }
+    }
+}
+
+// An uncounted loop whose body has these events.
+fn while_events(
+    alloc: Global,
+    s: &Around,
+    test: &Expr,
+    body: Flow,
+    at: Place,
+) -> Result<Flow, AllocError>
+    requires { KnowsAll s.now }
+    ensures { IfOk result (λ flow. plan_of flow ≡ while_events test.now (λ s. plan_of body) at (setting_of s.now)) }
+{
+    let first = reads(alloc, s, test)?;
+    let turn = Flow::both(alloc, first, body)?;
+    let turns = Flow::turns(alloc, turn)?;
+    let last = reads(alloc, s, test)?;
+    let mut parts = Items::new(alloc);
+    parts.push(wrong_where(alloc, s.inside, 9, at))?;
+    parts.push(turns)?;
+    parts.push(last)?;
+    Ok(Flow::all(parts))
+}
+
+// A turn of a counted loop whose body has these events.
+fn counted_turn(alloc: Global, s: &Around, head: &LoopHead, body: Flow) -> Result<Flow, AllocError>
+    requires { KnowsAll s.now }
+    ensures { IfOk result (λ flow. plan_of flow ≡ in_order (reads_of head.now.to (setting_of s.now)
+        ∷ plan_of body ∷ assigned (setting_of s.now) head.now.index.number ∷ [])) }
+{
+    let to = reads(alloc, s, &head.to)?;
+    let mut parts = Items::new(alloc);
+    parts.push(to)?;
+    parts.push(body)?;
+    parts.push(assigned(s, head.index.number))?;
+    Ok(Flow::all(parts))
+}
+
+// A counted loop whose body has these events.
+fn counted_events(
+    alloc: Global,
+    s: &Around,
+    head: &LoopHead,
+    body: Flow,
+) -> Result<Flow, AllocError>
+    requires { KnowsAll s.now }
+    ensures { IfOk result (λ flow. plan_of flow ≡ counted_events head.now (λ s. plan_of body) (setting_of s.now)) }
+{
+    let turn = counted_turn(alloc, s, head, body)?;
+    let turns = Flow::turns(alloc, turn)?;
+    let from = reads(alloc, s, &head.from)?;
+    let to = reads(alloc, s, &head.to)?;
+    let mut parts = Items::new(alloc);
+    let reduced = matches!(s.roles.at(head.index.number), Role::Reduced(_));
+    parts.push(wrong_where(alloc, reduced, 5, head.index.at))?;
+    parts.push(from)?;
+    parts.push(assigned(s, head.index.number))?;
+    parts.push(turns)?;
+    parts.push(to)?;
+    Ok(Flow::all(parts))
+}
+
 /// The events of a statement where it stands.
 #[cycle(events)]
-#[tactic(auto, using(crate::proofs::FormLaws::events_plain, crate::proofs::FormLaws::events_block, crate::proofs::FormLaws::events_if, crate::proofs::FormLaws::events_while, crate::proofs::FormLaws::events_counted, crate::proofs::FormLaws::events_loop, crate::proofs::FormLaws::events_tasks))]
 pub fn events(alloc: Global, s: &Around, x: &Stmt) -> Result<Flow, AllocError>
     requires { KnowsAll s.now }
     ensures { IfOk result (λ flow. plan_of flow ≡ events_of x.now (setting_of s.now)) }
@@ -74,9 +175,20 @@ pub fn events(alloc: Global, s: &Around, x: &Stmt) -> Result<Flow, AllocError>
     match x {
         Stmt::Plain(p) => plain_events(alloc, s, p),
         Stmt::Block(all) => block_events(alloc, s, all.as_slice()),
-        Stmt::If(test, a, b) => if_events(alloc, s, test, a.get(), b.get()),
-        Stmt::While(test, body, at) => while_events(alloc, s, test, body.get(), *at),
-        Stmt::Counted(head, body) => counted_events(alloc, s, head, body.get()),
+        Stmt::If(test, a, b) => {
+            let left = events(alloc, s, a.get())?;
+            let right = events(alloc, s, b.get())?;
+            let form = if_form(s, test, a.get(), b.get());
+            if_events(alloc, s, test, form, left, right)
+        }
+        Stmt::While(test, body, at) => {
+            let turn = events(alloc, s, body.get())?;
+            while_events(alloc, s, test, turn, *at)
+        }
+        Stmt::Counted(head, body) => {
+            let turn = events(alloc, s, body.get())?;
+            counted_events(alloc, s, head, turn)
+        }
         Stmt::Loop(d, body) => directive_events(alloc, s, d, body.get()),
         Stmt::Tasks(all, at) => tasks_events(alloc, s, all.as_slice(), *at),
     }
@@ -92,103 +204,6 @@ fn block_events(alloc: Global, s: &Around, all: &[Stmt]) -> Result<Flow, AllocEr
         let part = events(alloc, s, x)?;
         parts.push(part)?;
     }
-    Ok(Flow::all(parts))
-}
-
-#[cycle(events)]
-fn if_events(alloc: Global, s: &Around, test: &Expr, a: &Stmt, b: &Stmt) -> Result<Flow, AllocError>
-    requires { KnowsAll s.now }
-    ensures { IfOk result (λ flow. plan_of flow ≡ in_form (setting_of s.now)
-        (in_order (reads_of test.now (setting_of s.now)
-        ∷ branch (events_of a.now (setting_of s.now)) (events_of b.now (setting_of s.now)) ∷ []))
-        (if_form (setting_of s.now) test.now a.now b.now)) }
-{
-    let form = if_form(s, test, a, b);
-    if let Some(flow) = form_reads(alloc, s, form)? {
-        return Ok(flow);
-    }
-    choice_events(alloc, s, test, a, b)
-}
-
-#[cycle(events)]
-fn choice_events(
-    alloc: Global,
-    s: &Around,
-    test: &Expr,
-    a: &Stmt,
-    b: &Stmt,
-) -> Result<Flow, AllocError>
-    requires { KnowsAll s.now }
-    ensures { IfOk result (λ flow. plan_of flow ≡ in_order (reads_of test.now (setting_of s.now)
-        ∷ branch (events_of a.now (setting_of s.now)) (events_of b.now (setting_of s.now)) ∷ [])) }
-{
-    let first = reads(alloc, s, test)?;
-    let left = events(alloc, s, a)?;
-    let right = events(alloc, s, b)?;
-    let either = Flow::either(alloc, left, right)?;
-    Flow::both(alloc, first, either)
-}
-
-#[cycle(events)]
-fn while_events(
-    alloc: Global,
-    s: &Around,
-    test: &Expr,
-    body: &Stmt,
-    at: Place,
-) -> Result<Flow, AllocError>
-    requires { KnowsAll s.now }
-    ensures { IfOk result (λ flow. plan_of flow ≡ while_events test.now (events_of body.now) at (setting_of s.now)) }
-{
-    let mut parts = Items::new(alloc);
-    parts.push(wrong_where(alloc, s.inside, 9, at))?;
-    let first = reads(alloc, s, test)?;
-    let second = events(alloc, s, body)?;
-    let turn = Flow::both(alloc, first, second)?;
-    let turns = Flow::turns(alloc, turn)?;
-    parts.push(turns)?;
-    let last = reads(alloc, s, test)?;
-    parts.push(last)?;
-    Ok(Flow::all(parts))
-}
-
-// A turn of a counted loop.
-#[cycle(events)]
-fn counted_turn(alloc: Global, s: &Around, head: &LoopHead, body: &Stmt) -> Result<Flow, AllocError>
-    requires { KnowsAll s.now }
-    ensures { IfOk result (λ flow. plan_of flow ≡ in_order (reads_of head.now.to (setting_of s.now)
-        ∷ events_of body.now (setting_of s.now) ∷ assigned (setting_of s.now) head.now.index.number ∷ [])) }
-{
-    let mut parts = Items::new(alloc);
-    let to = reads(alloc, s, &head.to)?;
-    parts.push(to)?;
-    let part = events(alloc, s, body)?;
-    parts.push(part)?;
-    parts.push(assigned(s, head.index.number))?;
-    Ok(Flow::all(parts))
-}
-
-#[cycle(events)]
-fn counted_events(
-    alloc: Global,
-    s: &Around,
-    head: &LoopHead,
-    body: &Stmt,
-) -> Result<Flow, AllocError>
-    requires { KnowsAll s.now }
-    ensures { IfOk result (λ flow. plan_of flow ≡ counted_events head.now (events_of body.now) (setting_of s.now)) }
-{
-    let mut parts = Items::new(alloc);
-    let reduced = matches!(s.roles.at(head.index.number), Role::Reduced(_));
-    parts.push(wrong_where(alloc, reduced, 5, head.index.at))?;
-    let from = reads(alloc, s, &head.from)?;
-    parts.push(from)?;
-    parts.push(assigned(s, head.index.number))?;
-    let turn = counted_turn(alloc, s, head, body)?;
-    let turns = Flow::turns(alloc, turn)?;
-    parts.push(turns)?;
-    let to = reads(alloc, s, &head.to)?;
-    parts.push(to)?;
     Ok(Flow::all(parts))
 }
 
