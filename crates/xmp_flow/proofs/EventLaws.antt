@@ -1,5 +1,5 @@
 -- The events of a statement from those of its parts, as the code has them.
-use Rattle.std.proofs.Common.{◌≡◌, ◌∙◌, sym, ap, refl, IfOk, Result, ◌∷◌, [], List, Option, Some, None, map}
+use Rattle.std.proofs.Common.{◌≡◌, ◌∙◌, sym, ap, IfOk, Result, ◌∷◌, [], List, Option, map}
 use Rattle.std.proofs.lemmas.Result.{IfOk-weaker}
 use Rattle.xmp_base.specs.declared.place.Place.{Place}
 use Rattle.xmp_paths.specs.Plans.{Plan, branch, in_order}

@@ -1,8 +1,7 @@
 -- The events of each form of statement.
-use Rattle.std.proofs.Common.{◌≡◌, ◌∙◌, sym, ap, refl, ◌∷◌, [], List, map}
+use Rattle.std.proofs.Common.{◌≡◌, ◌∙◌, ap, refl, ◌∷◌, [], List, map}
 use Rattle.xmp_base.specs.declared.place.Place.{Place}
-use Rattle.xmp_paths.specs.Plans.{Plan, branch, in_order}
-use Rattle.xmp_paths.specs.declared.event.Event.{Event}
+use Rattle.xmp_paths.specs.Plans.{branch, in_order}
 use Rattle.xmp_prog.proofs.Rolls.{at_plain, at_block, at_if, at_while, at_counted, at_loop, at_tasks}
 use Rattle.xmp_prog.specs.declared.expressions.Expr.{Expr}
 use Rattle.xmp_prog.specs.declared.statements.LoopHead.{LoopHead}
@@ -10,9 +9,7 @@ use Rattle.xmp_prog.specs.declared.statements.LoopDirective.{LoopDirective}
 use Rattle.xmp_prog.specs.declared.statements.Plain.{Plain}
 use Rattle.xmp_prog.specs.declared.statements.Stmt.{Stmt}
 use Rattle.xmp_prog.specs.declared.statements.Stmt.TheVariants as stmt
-use Rattle.xmp_prog.specs.declared.statements.Stmt.TheOpen.{Task-F}
 use Rattle.xmp_prog.specs.declared.statements.Stmt.TheFolds.{fold-roll-Task}
-use Rattle.xmp_prog.specs.declared.statements.Stmt.TheViews.{roll-Task}
 use Rattle.xmp_prog.specs.declared.statements.Task.{Task}
 use Rattle.xmp_flow.specs.Setting.{Setting, in_task, wrong_where}
 use Rattle.xmp_flow.specs.Reads.{reads_of}

@@ -1,6 +1,6 @@
 -- The heads of a nest and the reductions of a directive: one more, and sets of numbers that hold the same.
 use Rattle.std.proofs.Common.{◌≡◌, ◌∙◌, ◌<◌, ◌+◌, length, get_or, drop, eqb, sym, ap, refl, ℕ, Bool, true, false, not, ◌++◌, ◌∷◌, [], List}
-use Rattle.std.specs.Prelude.{◌||◌, ◌==◌}
+use Rattle.std.specs.Prelude.{◌||◌}
 use Rattle.std.proofs.Math.Path.{fun_ext}
 use Rattle.std.proofs.lemmas.List.{append_assoc, at_drop_more}
 use Rattle.xmp_paths.specs.Plans.{Plan, emit, in_order}

@@ -1,11 +1,9 @@
 -- The reads of each form of expression, and that an expression beside its reads is that expression.
 use Rattle.std.proofs.Common.{◌≡◌, ◌∙◌, sym, ap, refl, subst, ◌&&◌, ◌∷◌, ◌++◌, [], ℕ, ℤ, List, map, Option, Some, None}
-use Rattle.std.specs.Option.{option_map}
 use Rattle.xmp_base.specs.declared.place.Place.{Place}
 use Rattle.xmp_num.specs.declared.types.Ty.{Ty}
 use Rattle.xmp_num.specs.declared.types.BinOp.{BinOp}
-use Rattle.xmp_paths.specs.Plans.{Plan, skip, branch, in_order}
-use Rattle.xmp_paths.specs.declared.event.Event.{Event}
+use Rattle.xmp_paths.specs.Plans.{skip, branch, in_order}
 use Rattle.xmp_prog.proofs.Rolls.{at_const, at_scalar, at_cell, at_binary, at_both, at_either, at_choose, at_convert, at_call}
 use Rattle.xmp_prog.specs.declared.expressions.Expr.{Expr, map-Expr}
 use Rattle.xmp_prog.specs.declared.expressions.Expr.TheVariants as expr
@@ -15,7 +13,7 @@ use Rattle.xmp_prog.specs.declared.expressions.Expr.TheViews.{roll-Expr, roll-Ac
 use Rattle.xmp_prog.specs.declared.expressions.Access.{Access, map-Access}
 use Rattle.xmp_flow.specs.Setting.{Setting, wrong_where, reads_scalar}
 use Rattle.xmp_flow.specs.Elements.{element_read}
-use Rattle.xmp_flow.specs.Reads.{Reading, Element, plain_expr, reading_step, element_step, reading, element, reads_element, reads_of, reads_of_all, subscript_reads}
+use Rattle.xmp_flow.specs.Reads.{Reading, Element, plain_expr, reading_step, element_step, reading, element, reads_of, reads_of_all, subscript_reads}
 
 abbrev ExprTold : Expr → Type 0
 ExprTold e = (reading e).expr ≡ e

@@ -1,5 +1,5 @@
 -- The parts of a loop directive's events by the lists and tables of the code are those by the directive and its body.
-use Rattle.std.proofs.Common.{◌≡◌, IfOk, Result, eqb, false, ◌∙◌, refl, sym, ap, ℕ, Bool, true, ◌++◌, ◌∷◌, [], List, map, Some}
+use Rattle.std.proofs.Common.{◌≡◌, IfOk, Result, eqb, false, ◌∙◌, refl, ap, ℕ, Bool, true, ◌++◌, ◌∷◌, [], List, map, Some}
 use Rattle.std.proofs.Math.Path.{fun_ext}
 use Rattle.std.proofs.lemmas.Result.{IfOk-weaker}
 use Rattle.std.specs.Prelude.{◌==◌, ◌||◌}
@@ -21,7 +21,6 @@ use Rattle.xmp_flow.specs.Setting.{Setting, wrong_where}
 use Rattle.xmp_flow.specs.LoopEvents.{at_bounds, loop_events, nest_events, reduction_events, within}
 use Rattle.xmp_loops.specs.Roles.{before_iterations, is_own, own_scalars, role_by, role_in, scalars_of}
 use Rattle.xmp_flow.specs.Ready.{IsReady, before_turns, ends_with, turn_of}
-use Rattle.xmp_loops.specs.Tables.{flag_at}
 use Rattle.xmp_loops.specs.Tables.{role_at}
 use Rattle.xmp_flow.specs.declared.ready.Ready.{Ready}
 use Rattle.xmp_loops.specs.declared.role.Role.{Role}

@@ -4,7 +4,7 @@ use Rattle.xmp_prog.specs.declared.statements.Stmt.{Stmt, map-Stmt}
 use Rattle.xmp_prog.specs.declared.statements.Stmt.TheVariants as stmt
 use Rattle.xmp_prog.specs.declared.statements.Task.{Task, map-Task}
 use Rattle.xmp_prog.specs.declared.statements.Stmt.TheOpen.{Stmt-F, Task-F}
-use Rattle.xmp_prog.specs.declared.statements.Stmt.TheFolds.{ind-Stmt, ind-Task, fold-roll-Stmt, fold-roll-Task}
+use Rattle.xmp_prog.specs.declared.statements.Stmt.TheFolds.{ind-Stmt, fold-roll-Stmt, fold-roll-Task}
 use Rattle.xmp_prog.specs.declared.statements.Stmt.TheViews.{roll-Stmt, roll-Task}
 use Rattle.xmp_flow.specs.Statements.{Told, ToldTask, plain_statement, stmt_step, task_step, told, told_task}
 

@@ -1,5 +1,5 @@
 -- What happens where an element of an array is read or written. Source: this project.
-use Rattle.std.specs.Prelude.{ℕ, ◌==◌, Bool, true, false, not, List, slice_get, Option, Some, None, if◌then◌else◌}
+use Rattle.std.specs.Prelude.{ℕ, ◌==◌, List, slice_get, Option, Some, None, if◌then◌else◌}
 use Rattle.std.specs.List.{list_all}
 use Rattle.std.specs.Option.{option_map}
 use Rattle.xmp_base.specs.declared.place.Place.{Place}
@@ -8,12 +8,11 @@ use Rattle.xmp_paths.specs.declared.event.Event.{Event}
 use Rattle.xmp_paths.specs.declared.event.Event.TheVariants.{Read, Wrong, Mark}
 use Rattle.xmp_map.specs.declared.array_map.ArrayMap.{ArrayMap}
 use Rattle.xmp_prog.specs.declared.expressions.Expr.{Expr}
-use Rattle.xmp_prog.specs.declared.parts.Array.{Array}
 use Rattle.xmp_prog.specs.declared.parts.Home.{Home}
 use Rattle.xmp_prog.specs.declared.parts.Home.TheVariants as home
 use Rattle.xmp_prog.specs.declared.statements.LoopDirective.{LoopDirective}
 use Rattle.xmp_loops.specs.Objects.{array_object, all_nodes}
-use Rattle.xmp_flow.specs.Setting.{Setting, others, wrong_where}
+use Rattle.xmp_flow.specs.Setting.{Setting, others}
 use Rattle.xmp_loops.specs.Offsets.{Offset, offsets_of, is_own, is_within}
 
 -- where the cells of an array lie, if there is such an array

@@ -1,9 +1,8 @@
 -- The events of a loop directive. Source: this project, after the loop construct of XcalableMP 1.4 and its reduction clause.
-use Rattle.std.specs.Prelude.{ℕ, ◌==◌, Bool, true, false, not, ◌&&◌, List, [], ◌∷◌, ◌++◌, map, Option, Some, None, if◌then◌else◌}
-use Rattle.std.specs.List.{filter, find}
+use Rattle.std.specs.Prelude.{ℕ, true, not, List, [], ◌∷◌, ◌++◌, map, Option, Some}
 use Rattle.xmp_paths.specs.Plans.{Plan, skip, emit, loop, in_order}
 use Rattle.xmp_paths.specs.declared.event.Event.{Event}
-use Rattle.xmp_paths.specs.declared.event.Event.TheVariants.{Read, Wrong, Mark}
+use Rattle.xmp_paths.specs.declared.event.Event.TheVariants.{Read}
 use Rattle.xmp_prog.specs.Numbers.{is_in}
 use Rattle.xmp_prog.specs.Statements.{indices_of}
 use Rattle.xmp_prog.specs.declared.parts.Home.{Home}
@@ -12,15 +11,13 @@ use Rattle.xmp_prog.specs.declared.statements.LoopHead.{LoopHead}
 use Rattle.xmp_prog.specs.declared.statements.LoopDirective.{LoopDirective}
 use Rattle.xmp_prog.specs.declared.statements.Reduction.{Reduction}
 use Rattle.xmp_prog.specs.declared.statements.Stmt.{Stmt}
-use Rattle.xmp_meaning.specs.Writes.{scalars_written, arrays_written}
+use Rattle.xmp_meaning.specs.Writes.{arrays_written}
 use Rattle.xmp_loops.specs.Objects.{scalar_object, array_object, all_nodes}
 use Rattle.xmp_flow.specs.Setting.{Setting, wrong_where, is_reduced, stale_on_all, current_on_all}
 use Rattle.xmp_flow.specs.Elements.{home_of}
 use Rattle.xmp_flow.specs.Reads.{reads_of}
 use Rattle.xmp_loops.specs.Bounds.{is_bound}
 use Rattle.xmp_loops.specs.Roles.{before_iterations, own_scalars, role_in, scalars_of, writes_array}
-use Rattle.xmp_loops.specs.declared.role.Role.{Role}
-use Rattle.xmp_loops.specs.declared.role.Role.TheVariants.{Shared, Index, Reduced, Own}
 
 -- an iteration: all nodes may execute it
 abbrev pub within : LoopDirective → Stmt → Setting → Setting

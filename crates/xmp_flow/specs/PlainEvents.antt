@@ -1,11 +1,10 @@
 -- The events of the statements that hold no statement: one line a form.
 -- Source: this project, after the bcast, reflect, barrier and gmove of XcalableMP 1.4.
-use Rattle.std.specs.Prelude.{ℕ, Bool, not, ◌&&◌, ◌||◌, List, [], ◌∷◌, ◌++◌, map, Option, Some, None, is_some}
+use Rattle.std.specs.Prelude.{ℕ, not, ◌&&◌, ◌||◌, List, [], ◌∷◌, ◌++◌, map, Option, Some, None, is_some}
 use Rattle.xmp_base.specs.declared.place.Place.{Place}
-use Rattle.xmp_num.specs.declared.types.RedOp.{RedOp}
 use Rattle.xmp_paths.specs.Plans.{Plan, skip, emit, in_order}
 use Rattle.xmp_paths.specs.declared.event.Event.{Event}
-use Rattle.xmp_paths.specs.declared.event.Event.TheVariants.{Read, Wrong, Mark}
+use Rattle.xmp_paths.specs.declared.event.Event.TheVariants.{Read, Mark}
 use Rattle.xmp_map.specs.declared.grid.NodeSet.{NodeSet}
 use Rattle.xmp_prog.specs.declared.expressions.Expr.{Expr}
 use Rattle.xmp_prog.specs.declared.expressions.Access.{Access}
@@ -23,13 +22,13 @@ use Rattle.xmp_prog.specs.declared.statements.Target.TheVariants as target
 use Rattle.xmp_prog.specs.declared.statements.Plain.{Plain}
 use Rattle.xmp_prog.specs.declared.statements.Plain.TheVariants as plain
 use Rattle.xmp_loops.specs.Objects.{scalar_object, array_object, nodes_in, all_nodes}
-use Rattle.xmp_flow.specs.Setting.{Setting, others, is_alone, is_first_alone, in_move, wrong_where, read_scalar, reads_scalar, assigned, is_reduced, stale_on_all, current_on_all}
+use Rattle.xmp_flow.specs.Setting.{Setting, others, is_alone, is_first_alone, in_move, wrong_where, reads_scalar, assigned, is_reduced, stale_on_all, current_on_all}
 use Rattle.xmp_flow.specs.Elements.{home_of, element_read, element_write}
 use Rattle.xmp_flow.specs.Reads.{reads_of, reads_of_all, reads_of_option, subscript_reads}
 use Rattle.xmp_loops.specs.Forms.{assignment_form}
 use Rattle.xmp_loops.specs.Bounds.{is_number}
 use Rattle.xmp_loops.specs.declared.role.Role.{Role}
-use Rattle.xmp_loops.specs.declared.role.Role.TheVariants.{Shared, Index, Reduced, Own}
+use Rattle.xmp_loops.specs.declared.role.Role.TheVariants.{Reduced}
 
 -- ---- assignments
 

@@ -1,25 +1,15 @@
 -- The plan of a program, and the rules of the phase Flow that break in it. Source: this project.
-use Rattle.std.specs.Prelude.{ℕ, Bool, true, false, ◌||◌, List, [], ◌∷◌, ◌++◌, slice_get, Option, Some, None}
-use Rattle.std.specs.List.{list_any}
-use Rattle.std.specs.Option.{unwrap_or}
-use Rattle.xmp_base.specs.declared.refusal.Phase.{Phase}
+use Rattle.std.specs.Prelude.{false, None}
 use Rattle.xmp_base.specs.declared.refusal.Phase.TheVariants as phase
 use Rattle.xmp_base.specs.declared.refusal.Refusal.{Refusal}
 use Rattle.xmp_paths.specs.Plans.{Plan}
 use Rattle.xmp_paths.specs.Rules.{Breaks, in_phase}
 use Rattle.xmp_paths.specs.declared.event.Event.{Event}
-use Rattle.xmp_prog.specs.Terms.{Term, Of}
-use Rattle.xmp_prog.specs.Statements.{Statement, statements_of, terms_in}
-use Rattle.xmp_prog.specs.declared.expressions.Expr.TheOpen.{Expr-F}
-use Rattle.xmp_prog.specs.declared.statements.Stmt.{Stmt}
-use Rattle.xmp_prog.specs.declared.statements.Stmt.TheOpen.{Stmt-F}
-use Rattle.xmp_prog.specs.declared.parts.Function.{Function}
 use Rattle.xmp_prog.specs.declared.parts.ProgParts.{ProgParts}
 use Rattle.xmp_loops.specs.Objects.{all_nodes}
 use Rattle.xmp_loops.specs.Loopers.{function_loops}
 use Rattle.xmp_flow.specs.Setting.{Setting}
 use Rattle.xmp_flow.specs.Statements.{events_of}
-use Rattle.xmp_loops.specs.declared.role.Role.{Role}
 use Rattle.xmp_loops.specs.declared.role.Role.TheVariants.{Shared}
 
 -- the body of main: all nodes execute it

@@ -1,8 +1,8 @@
 -- What an expression reads: a fold that keeps each expression beside its reads.
 -- Source: this project; the order of evaluation of ISO C11, 6.5, decides nothing here, since reading marks nothing.
-use Rattle.std.specs.Prelude.{ℕ, ◌&&◌, List, [], ◌∷◌, ◌++◌, map, Option, Some, None}
+use Rattle.std.specs.Prelude.{◌&&◌, List, [], ◌∷◌, ◌++◌, map, Option, Some, None}
 use Rattle.std.specs.Option.{option_map}
-use Rattle.xmp_paths.specs.Plans.{Plan, skip, emit, branch, in_order}
+use Rattle.xmp_paths.specs.Plans.{Plan, skip, branch, in_order}
 use Rattle.xmp_paths.specs.declared.event.Event.{Event}
 use Rattle.xmp_prog.specs.declared.expressions.Expr.{Expr}
 use Rattle.xmp_prog.specs.declared.expressions.Expr.TheVariants as expr

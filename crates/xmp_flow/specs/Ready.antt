@@ -11,7 +11,6 @@ use Rattle.xmp_loops.specs.Objects.{scalar_object}
 use Rattle.xmp_flow.specs.Setting.{Setting, wrong_where, stale_on_all, current_on_all}
 use Rattle.xmp_flow.specs.LoopEvents.{at_bounds, nest_events, reduction_events, shadow_stale}
 use Rattle.xmp_loops.specs.Roles.{before_iterations, role_in, scalars_of, writes_array}
-use Rattle.xmp_loops.specs.Tables.{flag_at}
 use Rattle.xmp_loops.specs.Tables.{role_at}
 use Rattle.xmp_flow.specs.declared.ready.Ready.{Ready}
 

@@ -1,5 +1,5 @@
 -- Where a statement stands: what the events of it depend on. Source: this project.
-use Rattle.std.specs.Prelude.{ℕ, ◌==◌, Bool, true, false, not, ◌&&◌, ◌||◌, Option, Some, None, is_some, bit_xor, count_ones, if◌then◌else◌}
+use Rattle.std.specs.Prelude.{ℕ, ◌==◌, Bool, true, false, Option, bit_xor, count_ones, if◌then◌else◌}
 use Rattle.xmp_base.specs.declared.place.Place.{Place}
 use Rattle.xmp_paths.specs.Plans.{Plan, skip, emit}
 use Rattle.xmp_paths.specs.declared.event.Event.{Event}
@@ -7,7 +7,7 @@ use Rattle.xmp_paths.specs.declared.event.Event.TheVariants.{Read, Wrong, Mark}
 use Rattle.xmp_map.specs.declared.grid.NodeSet.{NodeSet}
 use Rattle.xmp_prog.specs.declared.statements.LoopDirective.{LoopDirective}
 use Rattle.xmp_prog.specs.declared.parts.ProgParts.{ProgParts}
-use Rattle.xmp_loops.specs.Objects.{scalar_object, array_object, nodes_in, all_nodes}
+use Rattle.xmp_loops.specs.Objects.{scalar_object, nodes_in, all_nodes}
 use Rattle.xmp_loops.specs.declared.role.Role.{Role}
 use Rattle.xmp_loops.specs.declared.role.Role.TheVariants.{Shared, Index, Reduced, Own}
 

@@ -1,7 +1,7 @@
 -- The events of every statement: a fold that keeps each statement beside its events, one line a form. Source: this project.
-use Rattle.std.specs.Prelude.{ℕ, Bool, ◌&&◌, List, [], ◌∷◌, ◌++◌, map, Option, Some, None, if◌then◌else◌}
+use Rattle.std.specs.Prelude.{ℕ, List, [], ◌∷◌, map, Option, Some, None, if◌then◌else◌}
 use Rattle.xmp_base.specs.declared.place.Place.{Place}
-use Rattle.xmp_paths.specs.Plans.{Plan, skip, branch, loop, in_order}
+use Rattle.xmp_paths.specs.Plans.{Plan, branch, loop, in_order}
 use Rattle.xmp_paths.specs.declared.event.Event.{Event}
 use Rattle.xmp_prog.specs.declared.expressions.Expr.{Expr, out-Expr}
 use Rattle.xmp_prog.specs.declared.statements.LoopHead.{LoopHead}
@@ -16,7 +16,7 @@ use Rattle.xmp_loops.specs.Forms.{compared, guarded_form, is_nothing, assigns}
 use Rattle.xmp_flow.specs.PlainEvents.{in_form, plain_events}
 use Rattle.xmp_flow.specs.LoopEvents.{loop_events}
 use Rattle.xmp_loops.specs.declared.role.Role.{Role}
-use Rattle.xmp_loops.specs.declared.role.Role.TheVariants.{Shared, Index, Reduced, Own}
+use Rattle.xmp_loops.specs.declared.role.Role.TheVariants.{Reduced}
 
 -- a statement beside its events, and a task beside those of its statement
 pub record Told : Type 0 where

@@ -1,7 +1,6 @@
 -- The setting that the code holds.
-use Rattle.std.specs.Prelude.{ℕ, ◌≡◌, Bool, true, false, ◌&&◌, List, [], ◌∷◌, slice_get, Option, Some, None, if◌then◌else◌}
-use Rattle.std.specs.List.{list_all}
-use Rattle.std.specs.Option.{unwrap_or, option_copied, option_map}
+use Rattle.std.specs.Prelude.{ℕ, ◌≡◌, Option, Some, None, if◌then◌else◌}
+use Rattle.std.specs.Option.{option_copied}
 use Rattle.xmp_base.specs.declared.place.Place.{Place}
 use Rattle.xmp_paths.specs.Plans.{Plan, skip, emit}
 use Rattle.xmp_paths.specs.declared.event.Event.{Event}
@@ -10,18 +9,8 @@ use Rattle.xmp_prog.specs.Numbers.{is_in}
 use Rattle.xmp_loops.specs.Objects.{all_nodes, array_object}
 use Rattle.xmp_loops.specs.Tables.{flag_at, role_at}
 use Rattle.xmp_flow.specs.Setting.{Setting}
-use Rattle.xmp_map.specs.Align.{under}
-use Rattle.xmp_map.specs.declared.aligned.AlignedDim.{AlignedDim}
-use Rattle.xmp_map.specs.declared.spread_dim.SpreadDim.{SpreadDim}
-use Rattle.xmp_prog.specs.declared.expressions.Expr.{Expr}
-use Rattle.xmp_prog.specs.declared.statements.LoopDirective.{LoopDirective}
-use Rattle.xmp_loops.specs.Offsets.{Offset, is_own, is_within, is_distributed, offset_at, point_for}
-use Rattle.xmp_loops.specs.declared.role.Role.{Role}
-use Rattle.xmp_loops.specs.declared.role.Role.TheVariants.{Shared}
 use Rattle.xmp_flow.specs.declared.setting.Around.{Around}
 use Rattle.xmp_loops.specs.declared.offsets.Reach.{Reach}
-use Rattle.xmp_loops.specs.declared.forms.Form.{Form}
-use Rattle.xmp_loops.specs.declared.forms.Form.TheVariants.{Beside, One, Two}
 
 -- what the code holds, as a setting
 abbrev pub setting_of : Around → Setting

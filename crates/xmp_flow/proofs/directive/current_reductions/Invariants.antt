@@ -1,8 +1,7 @@
 use Rattle.std.proofs.Common.{◌≡◌, ◌++◌, map, drop}
 use Rattle.xmp_paths.specs.Flows.{plan_of}
 use Rattle.xmp_loops.specs.Objects.{scalar_object}
-use Rattle.xmp_flow.specs.Setting.{current_on_all, stale_on_all}
-use Rattle.xmp_flow.specs.LoopEvents.{shadow_stale}
+use Rattle.xmp_flow.specs.Setting.{current_on_all}
 use Rattle.xmp_flow.specs.Views.{setting_of}
 use Rattle.xmp_flow.proofs.directive.current_reductions.Given as goal
 

@@ -1,11 +1,11 @@
-use Rattle.std.proofs.Common.{◌≡◌, ◌∙◌, ap, sym, subst, IfOk, ◌++◌, ◌∷◌, [], ◌||◌, List, not, is_some}
+use Rattle.std.proofs.Common.{◌≡◌, ◌∙◌, ap, sym, subst, IfOk, ◌++◌, ◌∷◌, [], ◌||◌, not, is_some}
 use Rattle.xmp_paths.specs.Plans.{Plan, in_order}
 use Rattle.xmp_paths.specs.Flows.{plan_of}
 use Rattle.xmp_paths.specs.declared.event.Event.{Event}
 use Rattle.xmp_flow.specs.Setting.{is_first_alone, wrong_where}
-use Rattle.xmp_flow.specs.Reads.{reads_of, reads_of_all}
+use Rattle.xmp_flow.specs.Reads.{reads_of_all}
 use Rattle.xmp_flow.specs.Elements.{element_write}
-use Rattle.xmp_flow.specs.PlainEvents.{assignment_events, old_element, plain_events}
+use Rattle.xmp_flow.specs.PlainEvents.{plain_events}
 use Rattle.xmp_flow.specs.Views.{setting_of}
 use Rattle.xmp_prog.specs.declared.statements.Plain.TheVariants as Plain
 use Rattle.xmp_flow.proofs.ReadLaws.{subscript-reads}

@@ -1,8 +1,7 @@
-use Rattle.std.proofs.Common.{◌∙◌, ap, refl, sym, Some, true}
+use Rattle.std.proofs.Common.{ap}
 use Rattle.xmp_paths.specs.Flows.{plan_of}
 use Rattle.xmp_prog.specs.Numbers.{is_in}
 use Rattle.xmp_loops.specs.Tables.{role_at}
-use Rattle.xmp_flow.specs.Setting.{Setting}
 use Rattle.xmp_flow.specs.Views.{setting_of}
 use Rattle.xmp_flow.proofs.ReadyLaws.{directive_by, inside_of}
 use Rattle.xmp_flow.proofs.EventLaws.{from_block, from_if, from_loop, from_tasks}
