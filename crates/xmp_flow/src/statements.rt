@@ -1,10 +1,10 @@
 // The events of every statement.
 ghost use Rattle.std.specs.Prelude.{◌≡◌, ◌∷◌, [], map, IfOk, Some};
 ghost use Rattle.std.specs.Option.{option_map};
-ghost use Rattle.xmp_paths.specs.Plans.{branch, in_order};
+ghost use Rattle.xmp_paths.specs.Plans.{branch, in_order, loop};
 ghost use Rattle.xmp_paths.specs.Flows.{plan_of};
 ghost use Rattle.xmp_prog.specs.declared.statements.Stmt.{out-Stmt};
-ghost use Rattle.xmp_flow.specs.Setting.{assigned, in_task, wrong_where};
+ghost use Rattle.xmp_flow.specs.Setting.{assigned, in_task, is_reduced, wrong_where};
 ghost use Rattle.xmp_loops.specs.Forms.{is_nothing};
 ghost use Rattle.xmp_flow.specs.Reads.{reads_of};
 ghost use Rattle.xmp_flow.specs.PlainEvents.{in_form};
@@ -13,7 +13,7 @@ ghost use Rattle.xmp_flow.specs.Statements.{counted_events, events_of, form_of_i
 ghost use Rattle.xmp_flow.specs.Views.{KnowsAll, setting_of};
 ghost use Rattle.xmp_loops.specs.Views.{read_by};
 
-use crate::expressions::reads;
+use crate::expressions::{reads, with};
 use crate::plain::{form_reads, plain_events};
 use crate::ready::{around, make_ready};
 use crate::scalars::{assigned, wrong_where};
@@ -106,6 +106,23 @@ fn if_events(
     }
 }
 
+// The turns of an uncounted loop whose body has these events.
+fn while_turns(alloc: Global, s: &Around, test: &Expr, body: Flow) -> Result<Flow, AllocError>
+    requires { KnowsAll s.now }
+    ensures { IfOk result (λ flow. plan_of flow ≡ loop (in_order (reads_of test.now (setting_of s.now) ∷ plan_of body ∷ []))) }
+{
+    match reads(alloc, s, test) {
+        Ok(first) => {
+            let turn = Flow::both(alloc, first, body)?;
+            Flow::turns(alloc, turn)
+        }
+        Err(e) => {
+            std::mem::drop(body);
+            Err(e)
+        }
+    }
+}
+
 // An uncounted loop whose body has these events.
 fn while_events(
     alloc: Global,
@@ -117,15 +134,17 @@ fn while_events(
     requires { KnowsAll s.now }
     ensures { IfOk result (λ flow. plan_of flow ≡ while_events test.now (λ s. plan_of body) at (setting_of s.now)) }
 {
-    let first = reads(alloc, s, test)?;
-    let turn = Flow::both(alloc, first, body)?;
-    let turns = Flow::turns(alloc, turn)?;
-    let last = reads(alloc, s, test)?;
+    let turns = while_turns(alloc, s, test, body)?;
     let mut parts = Items::new(alloc);
-    parts.push(wrong_where(alloc, s.inside, 9, at))?;
-    parts.push(turns)?;
-    parts.push(last)?;
-    Ok(Flow::all(parts))
+    match parts.push(wrong_where(alloc, s.inside, 9, at)) {
+        Ok(()) => parts.push(turns)?,
+        Err(e) => {
+            std::mem::drop(turns);
+            return Err(e);
+        }
+    }
+    let last = reads(alloc, s, test)?;
+    with(parts, last)
 }
 
 // A turn of a counted loop whose body has these events.
@@ -142,6 +161,47 @@ fn counted_turn(alloc: Global, s: &Around, head: &LoopHead, body: Flow) -> Resul
     Ok(Flow::all(parts))
 }
 
+// What stands before the turns of a counted loop.
+fn counted_head(alloc: Global, s: &Around, head: &LoopHead) -> Result<Items<Flow>, AllocError>
+    requires { KnowsAll s.now }
+    ensures { IfOk result (λ parts. map plan_of parts
+        ≡ wrong_where (is_reduced ((setting_of s.now).roles head.now.index.number)) 5 head.now.index.at
+        ∷ reads_of head.now.from (setting_of s.now) ∷ assigned (setting_of s.now) head.now.index.number ∷ []) }
+{
+    let mut parts = Items::new(alloc);
+    let reduced = matches!(s.roles.at(head.index.number), Role::Reduced(_));
+    parts.push(wrong_where(alloc, reduced, 5, head.index.at))?;
+    let from = reads(alloc, s, &head.from)?;
+    parts.push(from)?;
+    parts.push(assigned(s, head.index.number))?;
+    Ok(parts)
+}
+
+// A counted loop with these turns.
+fn counted_round(
+    alloc: Global,
+    s: &Around,
+    head: &LoopHead,
+    turns: Flow,
+) -> Result<Flow, AllocError>
+    requires { KnowsAll s.now }
+    ensures { IfOk result (λ flow. plan_of flow
+        ≡ in_order (wrong_where (is_reduced ((setting_of s.now).roles head.now.index.number)) 5 head.now.index.at
+        ∷ reads_of head.now.from (setting_of s.now) ∷ assigned (setting_of s.now) head.now.index.number
+        ∷ plan_of turns ∷ reads_of head.now.to (setting_of s.now) ∷ [])) }
+{
+    let mut parts = match counted_head(alloc, s, head) {
+        Ok(parts) => parts,
+        Err(e) => {
+            std::mem::drop(turns);
+            return Err(e);
+        }
+    };
+    parts.push(turns)?;
+    let to = reads(alloc, s, &head.to)?;
+    with(parts, to)
+}
+
 // A counted loop whose body has these events.
 fn counted_events(
     alloc: Global,
@@ -154,16 +214,7 @@ fn counted_events(
 {
     let turn = counted_turn(alloc, s, head, body)?;
     let turns = Flow::turns(alloc, turn)?;
-    let from = reads(alloc, s, &head.from)?;
-    let to = reads(alloc, s, &head.to)?;
-    let mut parts = Items::new(alloc);
-    let reduced = matches!(s.roles.at(head.index.number), Role::Reduced(_));
-    parts.push(wrong_where(alloc, reduced, 5, head.index.at))?;
-    parts.push(from)?;
-    parts.push(assigned(s, head.index.number))?;
-    parts.push(turns)?;
-    parts.push(to)?;
-    Ok(Flow::all(parts))
+    counted_round(alloc, s, head, turns)
 }
 
 /// The events of a statement where it stands.
