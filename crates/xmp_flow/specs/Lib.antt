@@ -1,0 +1,9 @@
+pub mod Setting
+pub mod Views
+pub mod Ready
+pub mod Reads
+pub mod Elements
+pub mod PlainEvents
+pub mod LoopEvents
+pub mod Statements
+pub mod Program

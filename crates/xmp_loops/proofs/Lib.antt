@@ -1,0 +1,4 @@
+pub mod SameLaws
+pub mod ReachLaws
+pub mod RoleLaws
+pub mod LoopingLaws

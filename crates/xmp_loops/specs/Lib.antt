@@ -1,0 +1,10 @@
+pub mod Objects
+pub mod Tables
+pub mod Same
+pub mod Forms
+pub mod Bounds
+pub mod Offsets
+pub mod Written
+pub mod Roles
+pub mod Loopers
+pub mod Views
