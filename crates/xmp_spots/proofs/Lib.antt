@@ -1,0 +1,2 @@
+mod EarlyLaws
+mod MeetingLaws
