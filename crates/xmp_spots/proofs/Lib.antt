@@ -1,2 +1,6 @@
 mod EarlyLaws
 mod MeetingLaws
+mod KeyLaws
+mod NearestLaws
+mod EnteringLaws
+mod AskingLaws

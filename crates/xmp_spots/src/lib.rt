@@ -5,8 +5,17 @@
 //! joins paths.
 #![tactic(auto)]
 
+mod accesses;
+mod asking;
+mod entering;
+mod images;
+mod keys;
 mod laws;
+mod nearest;
+mod order;
+mod table;
 mod touches;
 
+pub use accesses::Accesses;
 pub use laws::meetings;
 pub use touches::{By, Spot, Subscripts, Touch};
