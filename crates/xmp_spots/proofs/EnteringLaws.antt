@@ -53,14 +53,14 @@ either true true true false = refl
 either true true false false = refl
 either true false s d = refl
 
-last_either : (a b c e p s d : Bool) →
+pub last_either : (a b c e p s d : Bool) →
     ((a && (b && (c && (e && p)))) && d || (a && (b && (c && (e && s)))) && d) ≡ ((a && (b && (c && (e && (p || s))))) && d)
 last_either false b c e p s d = refl
 last_either true false c e p s d = refl
 last_either true true false e p s d = refl
 last_either true true true e p s d = either e p s d
 
-middle_either : (a b c p s e d : Bool) →
+pub middle_either : (a b c p s e d : Bool) →
     ((a && (b && (c && (p && e)))) && d || (a && (b && (c && (s && e)))) && d) ≡ ((a && (b && (c && ((p || s) && e)))) && d)
 middle_either false b c p s e d = refl
 middle_either true false c p s e d = refl
@@ -73,7 +73,7 @@ middle_either true true true true false true false = refl
 middle_either true true true true false false d = refl
 middle_either true true true false s e d = refl
 
-first_either : (a b p s c e d : Bool) →
+pub first_either : (a b p s c e d : Bool) →
     ((a && (b && (p && (c && e)))) && d || (a && (b && (s && (c && e)))) && d) ≡ ((a && (b && ((p || s) && (c && e)))) && d)
 first_either a b p s true e d = middle_two a b p s e d
   where

@@ -3,7 +3,8 @@ ghost use Rattle.std.specs.Prelude.{◌≡◌, ◌&&◌, ◌++◌, [], ◌∷◌
 ghost use Rattle.xmp_base.specs.First.{IsFirst};
 ghost use Rattle.std.specs.Prelude.{List, filter};
 ghost use Rattle.xmp_spots.specs.declared.touches.Touch.{Touch};
-ghost use Rattle.xmp_spots.specs.Races.{refused, ClashesWith};
+ghost use Rattle.xmp_spots.specs.Clashes.{clash};
+ghost use Rattle.xmp_spots.specs.Races.{refused, IsAtOne, ClashesWith};
 ghost use Rattle.xmp_spots.specs.Sets.{Finds};
 
 use crate::table::Table;
@@ -106,10 +107,20 @@ impl Accesses {
     pub fn ask(&self, touch: &Touch) -> Option<Refusal>
         ensures { IsFirst (ClashesWith touch.now self.now) result }
     {
-        let table = if touch.writes { &self.all } else { &self.writers };
-        match table.ask_spots(touch.array, touch.spots.as_slice()) {
+        match self.partner(touch) {
             None => None,
             Some(other) => earlier(Some(other), Some(refused(touch))),
         }
+    }
+
+    // The first of the set that clashes with the access.
+    fn partner(&self, touch: &Touch) -> Option<Refusal>
+        ensures { IsFirst (IsAtOne (clash touch.now) self.now) result }
+    {
+        let spots = touch.spots.as_slice();
+        if touch.writes {
+            return self.all.ask_spots(touch.array, spots);
+        }
+        self.writers.ask_spots(touch.array, spots)
     }
 }
