@@ -105,7 +105,7 @@ over_first number test ts f h =
 int_eq_swap : (a b : ℤ) → int_eq a b ≡ int_eq b a
 int_eq_swap a b = int_eq_equiv.symm a b
 
-nat_eq_swap : (a b : ℕ) → (a == b) ≡ (b == a)
+pub nat_eq_swap : (a b : ℕ) → (a == b) ≡ (b == a)
 nat_eq_swap a b = grind (arith, nat_tests)
 
 asked : (here there : Option ℤ) → over_test here (λ m. enters there m) ≡ may_agree here there

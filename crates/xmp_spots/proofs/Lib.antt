@@ -4,3 +4,4 @@ mod KeyLaws
 mod NearestLaws
 mod EnteringLaws
 mod AskingLaws
+mod BetweenLaws

@@ -9,3 +9,4 @@ pub mod Entering
 pub mod Asking
 pub mod Races
 pub mod Sets
+pub mod Images

@@ -19,3 +19,8 @@ abbrev pub ClashesWith : Touch → List Touch → Refusal → Type 0
 ClashesWith t [] r = ⊥
 ClashesWith t (other ∷ others) r =
     ((clash t other ≡ true) × ((refused t ≡ r) ⊎ (refused other ≡ r))) ⊎ ClashesWith t others r
+
+-- the same for one of these and one of those
+abbrev pub ClashBetween : (these those : List Touch) → Refusal → Type 0
+ClashBetween [] those r = ⊥
+ClashBetween (t ∷ these) those r = ClashesWith t those r ⊎ ClashBetween these those r

@@ -1,10 +1,11 @@
 // A set of accesses.
 ghost use Rattle.std.specs.Prelude.{◌≡◌, ◌&&◌, ◌++◌, [], ◌∷◌, OnOk, OnErr};
 ghost use Rattle.xmp_base.specs.First.{IsFirst};
-ghost use Rattle.std.specs.Prelude.{List, filter};
+ghost use Rattle.std.specs.Prelude.{List, filter, reverse};
+ghost use Rattle.std.specs.List.Sorted.{IsPermutation};
 ghost use Rattle.xmp_spots.specs.declared.touches.Touch.{Touch};
 ghost use Rattle.xmp_spots.specs.Clashes.{clash};
-ghost use Rattle.xmp_spots.specs.Races.{refused, IsAtOne, ClashesWith};
+ghost use Rattle.xmp_spots.specs.Races.{refused, IsAtOne, ClashesWith, ClashBetween};
 ghost use Rattle.xmp_spots.specs.Sets.{Finds};
 
 use crate::table::Table;
@@ -111,6 +112,62 @@ impl Accesses {
             None => None,
             Some(other) => earlier(Some(other), Some(refused(touch))),
         }
+    }
+
+    /// The first place at which an access of one set and one of the other break rule 2. The accesses of the smaller set are
+    /// asked.
+    pub fn between(&self, other: &Accesses) -> Option<Refusal>
+        ensures { IsFirst (ClashBetween self.now other.now) result }
+    {
+        if self.touches.len() <= other.touches.len() {
+            return other.ask_each(self.touches());
+        }
+        self.ask_each(other.touches())
+    }
+
+    /// The accesses of both sets, in some order. Those of the smaller are added to the larger. Where memory runs out none
+    /// is left.
+    pub fn absorb(&mut self, alloc: Global, mut other: Accesses) -> Result<(), NoMemory>
+        ensures ok { OnOk result (IsPermutation (self.old ++ other) self.new) }
+        ensures err { OnErr result (self.new ≡ []) }
+    {
+        if self.touches.len() < other.touches.len() {
+            std::mem::swap(self, &mut other);
+            return self.extend(alloc, other.into_touches());
+        }
+        self.extend(alloc, other.into_touches())
+    }
+
+    // The first place at which one of these accesses and one of the set break rule 2.
+    fn ask_each(&self, touches: &[Touch]) -> Option<Refusal>
+        ensures { IsFirst (ClashBetween touches.now self.now) result }
+    {
+        let mut found = None;
+        'touches: for touch in touches {
+            found = earlier(found, self.ask(touch));
+        }
+        found
+    }
+
+    // These accesses more, the last first.
+    fn extend(&mut self, alloc: Global, mut more: Items<Touch>) -> Result<(), NoMemory>
+        ensures ok { OnOk result (self.new ≡ self.old ++ reverse more) }
+        ensures err { OnErr result (self.new ≡ []) }
+    {
+        'more: while let Some(touch) = more.pop() {
+            if let Err(NoMemory) = self.add(alloc, touch) {
+                std::mem::drop(more);
+                return Err(NoMemory);
+            }
+        }
+        Ok(())
+    }
+
+    // The accesses.
+    fn into_touches(self) -> Items<Touch>
+        ensures { result ≡ self }
+    {
+        self.touches
     }
 
     // The first of the set that clashes with the access.
