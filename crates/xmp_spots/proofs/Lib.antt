@@ -5,3 +5,4 @@ mod NearestLaws
 mod EnteringLaws
 mod AskingLaws
 mod BetweenLaws
+mod ImageLaws

@@ -1,7 +1,7 @@
 -- Image expressions and image variables (this project, after XcalableMP 1.4, coarrays): what an expression gives on an
 -- image, where that depends on nothing but the image.
-use Rattle.std.specs.Prelude.{ℕ, suc, Bool, true, false, not, ◌&&◌, ◌==◌, if◌then◌else◌, List, [], ◌∷◌, ◌++◌, map, length, ℤ, pos, Option, Some, None, Result, Ok, Err, is_some, slice_get, slice_set, unwrap_or, count}
-use Rattle.std.specs.List.{list_all, list_any, flat_map, range_with_len, repeat}
+use Rattle.std.specs.Prelude.{ℕ, Bool, true, false, ◌&&◌, if◌then◌else◌, List, [], ◌∷◌, map, ℤ, pos, Option, Some, None, Result, Ok, Err, is_some, slice_get, unwrap_or}
+use Rattle.std.specs.List.{range_with_len}
 use Rattle.xmp_base.specs.declared.place.Place.{Place}
 use Rattle.xmp_num.specs.declared.types.TrapKind.{TrapKind}
 use Rattle.xmp_num.specs.Arithmetic.{binary_of, wrap}

@@ -8,6 +8,7 @@
 mod accesses;
 mod asking;
 mod entering;
+mod expressions;
 mod images;
 mod keys;
 mod laws;
@@ -17,5 +18,6 @@ mod table;
 mod touches;
 
 pub use accesses::Accesses;
+pub use expressions::image_values;
 pub use laws::meetings;
 pub use touches::{By, Spot, Subscripts, Touch};
