@@ -167,7 +167,7 @@ module _ (array : ℕ) (s : Spot) (other : ℕ) (o : Spot) where
 
   spot_asked :
       over_test s.subscripts.first (λ a. over_test s.subscripts.second (λ b. over_test s.subscripts.third (λ c.
-          enters_first other o (record { array = array; on = s.on; first = a; second = b; third = c }) && by_two s.by o.by)))
+      enters_first other o (record { array = array; on = s.on; first = a; second = b; third = c }) && by_two s.by o.by)))
       ≡ (array == other && spots_clash s o)
   spot_asked =
       (λ i. over_test s.subscripts.first (λ a. over_test s.subscripts.second (λ b. thirds a b i)))
@@ -197,7 +197,7 @@ both_or false p q = refl
 
 spots_asked : (array : ℕ) (s : Spot) (other : ℕ) (others : List Spot) →
     over_test s.subscripts.first (λ a. over_test s.subscripts.second (λ b. over_test s.subscripts.third (λ c.
-        entered other others (record { array = array; on = s.on; first = a; second = b; third = c }) s.by)))
+    entered other others (record { array = array; on = s.on; first = a; second = b; third = c }) s.by)))
     ≡ (array == other && list_any (spots_clash s) others)
 spots_asked array s other [] = sym (and_false (array == other))
 spots_asked array s other (o ∷ others) =
@@ -227,24 +227,24 @@ spot_first : (table : Table) (ts : List Touch) (array : ℕ) (s : Spot) → Find
 spot_first table ts array s h =
     alike
     (λ t. over_test s.subscripts.first (λ a. over_test s.subscripts.second (λ b. over_test s.subscripts.third (λ c.
-        entered t.array t.spots (record { array = array; on = s.on; first = a; second = b; third = c }) s.by))))
+    entered t.array t.spots (record { array = array; on = s.on; first = a; second = b; third = c }) s.by))))
     (λ t. array == t.array && list_any (spots_clash s) t.spots) ts (asked_spot table array s)
     (λ t. spots_asked array s t.array t.spots)
     (over_first s.subscripts.first
     (λ a t. over_test s.subscripts.second (λ b. over_test s.subscripts.third (λ c.
-        entered t.array t.spots (record { array = array; on = s.on; first = a; second = b; third = c }) s.by))) ts
+    entered t.array t.spots (record { array = array; on = s.on; first = a; second = b; third = c }) s.by))) ts
     (λ a. over s.subscripts.second (λ b. over s.subscripts.third (λ c.
-        found table (record { array = array; on = s.on; first = a; second = b; third = c }) s.by)))
+    found table (record { array = array; on = s.on; first = a; second = b; third = c }) s.by)))
     (λ a. over_first s.subscripts.second
-        (λ b t. over_test s.subscripts.third (λ c.
-            entered t.array t.spots (record { array = array; on = s.on; first = a; second = b; third = c }) s.by)) ts
-        (λ b. over s.subscripts.third (λ c. found table (record { array = array; on = s.on; first = a; second = b; third = c }) s.by))
-        (λ b. over_first s.subscripts.third
-            (λ c t. entered t.array t.spots (record { array = array; on = s.on; first = a; second = b; third = c }) s.by) ts
-            (λ c. found table (record { array = array; on = s.on; first = a; second = b; third = c }) s.by)
-            (λ c. subst (IsFirst (IsAtOne (λ t. entered t.array t.spots (record { array = array; on = s.on; first = a; second = b; third = c }) s.by) ts))
-                (sym (h (record { array = array; on = s.on; first = a; second = b; third = c }) s.by))
-                (first_among (λ t. entered t.array t.spots (record { array = array; on = s.on; first = a; second = b; third = c }) s.by) ts)))))
+    (λ b t. over_test s.subscripts.third (λ c.
+    entered t.array t.spots (record { array = array; on = s.on; first = a; second = b; third = c }) s.by)) ts
+    (λ b. over s.subscripts.third (λ c. found table (record { array = array; on = s.on; first = a; second = b; third = c }) s.by))
+    (λ b. over_first s.subscripts.third
+    (λ c t. entered t.array t.spots (record { array = array; on = s.on; first = a; second = b; third = c }) s.by) ts
+    (λ c. found table (record { array = array; on = s.on; first = a; second = b; third = c }) s.by)
+    (λ c. subst (IsFirst (IsAtOne (λ t. entered t.array t.spots (record { array = array; on = s.on; first = a; second = b; third = c }) s.by) ts))
+    (sym (h (record { array = array; on = s.on; first = a; second = b; third = c }) s.by))
+    (first_among (λ t. entered t.array t.spots (record { array = array; on = s.on; first = a; second = b; third = c }) s.by) ts)))))
 
 spots_first_from : (table : Table) (ts : List Touch) (array : ℕ) (spots : List Spot) (f : Touch → Bool) (x : Option Refusal) → Finds table ts →
     IsFirst (IsAtOne f ts) x →
@@ -318,7 +318,7 @@ asked_writers table x ts h e =
     let g = λ (t : Touch). x.array == t.array && list_any (λ s. list_any (spots_clash s) t.spots) x.spots in
     alike (λ t. t.writes && g t) (clash x) ts (asked_spots table x.array x.spots)
     (λ t. writer_first (x.array == t.array) t.writes (list_any (λ s. list_any (spots_clash s) t.spots) x.spots)
-        ∙ ap (λ w. x.array == t.array && ((w || t.writes) && list_any (λ s. list_any (spots_clash s) t.spots) x.spots)) (sym e))
+    ∙ ap (λ w. x.array == t.array && ((w || t.writes) && list_any (λ s. list_any (spots_clash s) t.spots) x.spots)) (sym e))
     (first_same (IsAtOne g (filter (λ t. t.writes) ts)) (IsAtOne (λ t. t.writes && g t) ts)
     (λ r. (writers_forth g ts r, writers_back g ts r)) (asked_spots table x.array x.spots)
     (asked_first table (filter (λ t. t.writes) ts) x.array x.spots h))

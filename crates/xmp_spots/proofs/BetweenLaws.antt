@@ -58,7 +58,7 @@ next_of f g (s ∷ ss) = ap (λ l. (f s || g s) || l) (next_of f g ss) ∙ four 
     four false false true d = refl
     four false false false d = refl
 
-any_swap : (ss ts : List Spot) → list_any (λ s. list_any (spots_clash s) ts) ss ≡ list_any (λ t. list_any (spots_clash t) ss) ts
+pub any_swap : (ss ts : List Spot) → list_any (λ s. list_any (spots_clash s) ts) ss ≡ list_any (λ t. list_any (spots_clash t) ss) ts
 any_swap [] ts = sym (none_of ts)
 any_swap (s ∷ ss) ts =
     (λ i. list_any (λ t. spots_swap s t i) ts || any_swap ss ts i)

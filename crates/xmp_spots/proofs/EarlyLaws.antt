@@ -32,8 +32,7 @@ passes_forth (emit e) h = (e ∷ [], refl, and_from _ _ h refl)
 passes_forth (sequence p q) h =
     let both = and_parts (passes p) (passes q) h in
     let x = passes_forth p both.0 in
-    let y = passes_forth q both.1 in
-    (
+    let y = passes_forth q both.1 in (
       x.0 ++ y.0,
       record { front = x.0; back = y.0; whole = refl; in_front = x.1; in_back = y.1 },
       one_phase-append x.0 y.0 x.2 y.2,
@@ -64,35 +63,35 @@ early_forth (emit e) t h = record { before = []; after = []; path = ap (λ x. x 
 early_forth (sequence p q) t h =
     ⊎_elim
     (λ k.
-        let r = early_forth p t k in
-        let y = some_path q in
-        record {
-          before = r.before;
-          after = r.after ++ y.0;
-          path = record {
-            front = r.before ++ Touches t ∷ r.after;
-            back = y.0;
-            whole = sym (append_assoc r.before (Touches t ∷ r.after) y.0);
-            in_front = r.path;
-            in_back = y.1;
-          };
-          clear = r.clear;
-        })
+    let r = early_forth p t k in
+    let y = some_path q in
+    record {
+      before = r.before;
+      after = r.after ++ y.0;
+      path = record {
+        front = r.before ++ Touches t ∷ r.after;
+        back = y.0;
+        whole = sym (append_assoc r.before (Touches t ∷ r.after) y.0);
+        in_front = r.path;
+        in_back = y.1;
+      };
+      clear = r.clear;
+    })
     (λ k.
-        let x = passes_forth p k.0 in
-        let r = early_forth q t k.1 in
-        record {
-          before = x.0 ++ r.before;
-          after = r.after;
-          path = record {
-            front = x.0;
-            back = r.before ++ Touches t ∷ r.after;
-            whole = append_assoc x.0 r.before (Touches t ∷ r.after);
-            in_front = x.1;
-            in_back = r.path;
-          };
-          clear = one_phase-append x.0 r.before x.2 r.clear;
-        })
+    let x = passes_forth p k.0 in
+    let r = early_forth q t k.1 in
+    record {
+      before = x.0 ++ r.before;
+      after = r.after;
+      path = record {
+        front = x.0;
+        back = r.before ++ Touches t ∷ r.after;
+        whole = append_assoc x.0 r.before (Touches t ∷ r.after);
+        in_front = x.1;
+        in_back = r.path;
+      };
+      clear = one_phase-append x.0 r.before x.2 r.clear;
+    })
     h
 early_forth (branch p q) t h =
     ⊎_elim
@@ -124,7 +123,7 @@ in_some_turn p t back (suc n) before after w h =
     ⊎_elim
     (λ s. back (record { before = before; after = s.0; path = subst (Path p) s.1 w.in_front; clear = h }))
     (λ s. in_some_turn p t back n s.0 after (subst (Repeated (Path p) n) s.2 w.in_back)
-        (one_phase_back w.front s.0 (subst (λ l. in_one_phase l ≡ true) s.1 h)))
+    (one_phase_back w.front s.0 (subst (λ l. in_one_phase l ≡ true) s.1 h)))
     (split before after w.front w.back (Touches t) w.whole)
 
 pub early_back : (p : Plan Event) (t : Touch) → Reached p t → IsEarly p t
@@ -135,16 +134,16 @@ early_back (sequence p q) t r =
     ⊎_elim
     (λ s. inl (early_back p t (record { before = r.before; after = s.0; path = subst (Path p) s.1 w.in_front; clear = r.clear })))
     (λ s.
-        let clear : in_one_phase (w.front ++ s.0) ≡ true = subst (λ l. in_one_phase l ≡ true) s.1 r.clear in
-        inr (
-          passes_back p w.front w.in_front (one_phase_front w.front s.0 clear),
-          early_back q t (record {
-            before = s.0;
-            after = r.after;
-            path = subst (Path q) s.2 w.in_back;
-            clear = one_phase_back w.front s.0 clear;
-          }),
-        ))
+    let clear : in_one_phase (w.front ++ s.0) ≡ true = subst (λ l. in_one_phase l ≡ true) s.1 r.clear in
+    inr (
+      passes_back p w.front w.in_front (one_phase_front w.front s.0 clear),
+      early_back q t (record {
+        before = s.0;
+        after = r.after;
+        path = subst (Path q) s.2 w.in_back;
+        clear = one_phase_back w.front s.0 clear;
+      }),
+    ))
     (split r.before r.after w.front w.back (Touches t) w.whole)
 early_back (branch p q) t r =
     ⊎_elim

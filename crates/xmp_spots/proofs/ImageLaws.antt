@@ -1,7 +1,8 @@
 -- Values on each image, one after another.
-use Rattle.std.proofs.Common.{◌≡◌, ℕ, suc, ◌+◌, ◌-◌, ◌<◌, List, [], ◌∷◌, ◌++◌, map, ℤ, Option, Some, None, refl, sym, ap, ◌∙◌, append_assoc, append-nil, arith}
+use Rattle.std.proofs.Common.{◌≡◌, ℕ, suc, ◌+◌, ◌-◌, ◌<◌, List, [], ◌∷◌, ◌++◌, map, ℤ, Option, Some, None, refl, sym, ap, ◌∙◌, append_assoc, append-nil, arith, Bool, true, if◌then◌else◌}
+use Rattle.xmp_prog.specs.declared.expressions.Expr.{Expr}
 use Rattle.std.specs.List.{range_with_len}
-use Rattle.xmp_spots.specs.Images.{put_first, all_given}
+use Rattle.xmp_spots.specs.Images.{put_first, all_given, is_built, value_on, image_values}
 
 -- values, and then those
 abbrev pub then_given : List ℤ → Option (List ℤ) → Option (List ℤ)
@@ -38,3 +39,8 @@ pub last_given : (f : ℕ → Option ℤ) (count image : ℕ) (vs : List ℤ) �
 last_given f count image vs e =
     let z : count - image ≡ 0 = omega (arith, e) in
     ap (λ n. then_given vs (all_given (map f (range_with_len image n)))) z ∙ ap Some (append-nil vs)
+
+pub when_built : (count : ℕ) (values : List (List ℤ)) (e : Expr) (b : Bool) → b ≡ is_built values e → b ≡ true →
+    all_given (map (λ image. value_on count values image e) (range_with_len 0 count)) ≡ image_values count values e
+when_built count values e b is holds =
+    ap (λ (t : Bool). if t then all_given (map (λ image. value_on count values image e) (range_with_len 0 count)) else None) (sym (sym is ∙ holds))

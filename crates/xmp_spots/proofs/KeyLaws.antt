@@ -44,7 +44,6 @@ key_is a b h =
     let y : a.third ≡ b.third = mark_is a.third b.third four.1 in
     λ i. record { array = u i; on = v i; first = w i; second = x i; third = y i }
 
-
 mark_alike : (a b : Mark) → mark_eq.eq-value.it a b ≡ same_mark a b
 mark_alike mark.Whole mark.Whole = refl
 mark_alike mark.Whole mark.Any = refl

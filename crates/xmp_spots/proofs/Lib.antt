@@ -6,3 +6,4 @@ mod EnteringLaws
 mod AskingLaws
 mod BetweenLaws
 mod ImageLaws
+mod GatheredLaws

@@ -27,9 +27,9 @@ some_rest (emit (Wrong rule at)) = inl refl
 some_rest (sequence p q) =
     ⊎_elim
     (λ e. ⊎_elim
-        (λ f. inl (and_from _ _ f e))
-        (λ r. inr (sequence r.0 q, inl (r.0, r.1, refl), and_from _ _ r.2 e))
-        (some_rest p))
+    (λ f. inl (and_from _ _ f e))
+    (λ r. inr (sequence r.0 q, inl (r.0, r.1, refl), and_from _ _ r.2 e))
+    (some_rest p))
     (λ r. inr (r.0, inr r.1, r.2))
     (some_rest q)
 some_rest (branch p q) =
@@ -44,52 +44,52 @@ late_forth (emit e) t h = inl (h, ap (λ x. not (is_sync x)) h)
 late_forth (sequence p q) t h =
     ⊎_elim
     (λ k. ⊎_elim
-        (λ f. ⊎_elim
-            (λ e. inl (inr (e, f.0), and_from _ _ e f.1))
-            (λ r. inr (record {
-              rest = sequence r.0 q;
-              behind = inl (r.0, r.1, refl);
-              early = inr (r.2, f.0);
-              passing = and_from _ _ r.2 f.1;
-            }))
-            (some_rest p))
-        (λ b. inr (record { rest = b.rest; behind = inr b.behind; early = b.early; passing = b.passing }))
-        (late_forth q t k))
+    (λ f. ⊎_elim
+    (λ e. inl (inr (e, f.0), and_from _ _ e f.1))
+    (λ r. inr (record {
+      rest = sequence r.0 q;
+      behind = inl (r.0, r.1, refl);
+      early = inr (r.2, f.0);
+      passing = and_from _ _ r.2 f.1;
+    }))
+    (some_rest p))
+    (λ b. inr (record { rest = b.rest; behind = inr b.behind; early = b.early; passing = b.passing }))
+    (late_forth q t k))
     (λ k. ⊎_elim
-        (λ f. inl (inl f.0, and_from _ _ f.1 k.0))
-        (λ b. inr (record {
-          rest = sequence b.rest q;
-          behind = inl (b.rest, b.behind, refl);
-          early = inl b.early;
-          passing = and_from _ _ b.passing k.0;
-        }))
-        (late_forth p t k.1))
+    (λ f. inl (inl f.0, and_from _ _ f.1 k.0))
+    (λ b. inr (record {
+      rest = sequence b.rest q;
+      behind = inl (b.rest, b.behind, refl);
+      early = inl b.early;
+      passing = and_from _ _ b.passing k.0;
+    }))
+    (late_forth p t k.1))
     h
 late_forth (branch p q) t h =
     ⊎_elim
     (λ k. ⊎_elim
-        (λ l. ⊎_elim
-            (λ f. inl (inl f.0, or_left _ _ f.1))
-            (λ b. inr (record { rest = b.rest; behind = inl b.behind; early = b.early; passing = b.passing }))
-            (late_forth p t l))
-        (λ l. ⊎_elim
-            (λ f. inl (inr f.0, or_right _ _ f.1))
-            (λ b. inr (record { rest = b.rest; behind = inr b.behind; early = b.early; passing = b.passing }))
-            (late_forth q t l))
-        k)
+    (λ l. ⊎_elim
+    (λ f. inl (inl f.0, or_left _ _ f.1))
+    (λ b. inr (record { rest = b.rest; behind = inl b.behind; early = b.early; passing = b.passing }))
+    (late_forth p t l))
+    (λ l. ⊎_elim
+    (λ f. inl (inr f.0, or_right _ _ f.1))
+    (λ b. inr (record { rest = b.rest; behind = inr b.behind; early = b.early; passing = b.passing }))
+    (late_forth q t l))
+    k)
     (λ k. inl (k.1, k.0))
     h
 late_forth (loop p) t h =
     ⊎_elim
     (λ k. ⊎_elim
-        (λ f. inl (f.0, refl))
-        (λ b. inr (record {
-          rest = sequence b.rest (loop p);
-          behind = (b.rest, b.behind, refl);
-          early = inl b.early;
-          passing = and_from _ _ b.passing refl;
-        }))
-        (late_forth p t k))
+    (λ f. inl (f.0, refl))
+    (λ b. inr (record {
+      rest = sequence b.rest (loop p);
+      behind = (b.rest, b.behind, refl);
+      early = inl b.early;
+      passing = and_from _ _ b.passing refl;
+    }))
+    (late_forth p t k))
     (λ k. inl (k, refl))
     h
 
@@ -110,11 +110,11 @@ behind_late (emit x) t r b h e = absurd (subst (λ (l : Plan Event). IsEarly l t
 behind_late (sequence p q) t r b h e =
     ⊎_elim
     (λ s.
-        let both = and_parts (passes s.0) (passes q) (subst (λ (l : Plan Event). passes l ≡ true) s.2 e) in
-        ⊎_elim
-        (λ k. inr (both.1, behind_late p t s.0 s.1 k both.0))
-        (λ k. inl (early_late q t k.1 both.1))
-        (subst (λ (l : Plan Event). IsEarly l t) s.2 h))
+    let both = and_parts (passes s.0) (passes q) (subst (λ (l : Plan Event). passes l ≡ true) s.2 e) in
+    ⊎_elim
+    (λ k. inr (both.1, behind_late p t s.0 s.1 k both.0))
+    (λ k. inl (early_late q t k.1 both.1))
+    (subst (λ (l : Plan Event). IsEarly l t) s.2 h))
     (λ s. inl (behind_late q t r s h e))
     b
 behind_late (branch p q) t r b h e =
@@ -156,14 +156,14 @@ in_back : (p q : Plan Event) (a b : Touch) → Together q a b → Together (sequ
 in_back p q a b h =
     ⊎_elim
     (λ k. ⊎_elim
-        (λ e. inl (inr (e, k.0), inr (e, k.1)))
-        (λ r. inr (record {
-          rest = sequence r.0 q;
-          behind = inl (r.0, r.1, refl);
-          one = inr (r.2, k.0);
-          other = inr (r.2, k.1);
-        }))
-        (some_rest p))
+    (λ e. inl (inr (e, k.0), inr (e, k.1)))
+    (λ r. inr (record {
+      rest = sequence r.0 q;
+      behind = inl (r.0, r.1, refl);
+      one = inr (r.2, k.0);
+      other = inr (r.2, k.1);
+    }))
+    (some_rest p))
     (λ k. inr (record { rest = k.rest; behind = inr k.behind; one = k.one; other = k.other }))
     h
 
@@ -243,61 +243,61 @@ meet_back (emit e) a b h =
 meet_back (sequence p q) a b h =
     ⊎_elim
     (λ k. ⊎_elim
-        (λ x. ⊎_elim
-            (λ y. inl (inl (meet_back p a b (inl (x, y)))))
-            (λ y. inr (inl (early_late p a x y.0, y.1)))
-            k.1)
-        (λ x. ⊎_elim
-            (λ y. inr (inr (early_late p b y x.0, x.1)))
-            (λ y. inl (inr (meet_back q a b (inl (x.1, y.1)))))
-            k.1)
-        k.0)
+    (λ x. ⊎_elim
+    (λ y. inl (inl (meet_back p a b (inl (x, y)))))
+    (λ y. inr (inl (early_late p a x y.0, y.1)))
+    k.1)
+    (λ x. ⊎_elim
+    (λ y. inr (inr (early_late p b y x.0, x.1)))
+    (λ y. inl (inr (meet_back q a b (inl (x.1, y.1)))))
+    k.1)
+    k.0)
     (λ k. ⊎_elim
-        (λ s. ⊎_elim
-            (λ x. ⊎_elim
-                (λ y. inl (inl (meet_back p a b (inr (record { rest = s.0; behind = s.1; one = x; other = y })))))
-                (λ y. inr (inl (behind_late p a s.0 s.1 x y.0, y.1)))
-                (subst (λ (l : Plan Event). IsEarly l b) s.2 k.other))
-            (λ x. ⊎_elim
-                (λ y. inr (inr (behind_late p b s.0 s.1 y x.0, x.1)))
-                (λ y. inl (inr (meet_back q a b (inl (x.1, y.1)))))
-                (subst (λ (l : Plan Event). IsEarly l b) s.2 k.other))
-            (subst (λ (l : Plan Event). IsEarly l a) s.2 k.one))
-        (λ s. inl (inr (meet_back q a b (inr (record { rest = k.rest; behind = s; one = k.one; other = k.other })))))
-        k.behind)
+    (λ s. ⊎_elim
+    (λ x. ⊎_elim
+    (λ y. inl (inl (meet_back p a b (inr (record { rest = s.0; behind = s.1; one = x; other = y })))))
+    (λ y. inr (inl (behind_late p a s.0 s.1 x y.0, y.1)))
+    (subst (λ (l : Plan Event). IsEarly l b) s.2 k.other))
+    (λ x. ⊎_elim
+    (λ y. inr (inr (behind_late p b s.0 s.1 y x.0, x.1)))
+    (λ y. inl (inr (meet_back q a b (inl (x.1, y.1)))))
+    (subst (λ (l : Plan Event). IsEarly l b) s.2 k.other))
+    (subst (λ (l : Plan Event). IsEarly l a) s.2 k.one))
+    (λ s. inl (inr (meet_back q a b (inr (record { rest = k.rest; behind = s; one = k.one; other = k.other })))))
+    k.behind)
     h
 meet_back (branch p q) a b h =
     ⊎_elim
     (λ k. ⊎_elim
-        (λ x. ⊎_elim
-            (λ y. inl (inl (meet_back p a b (inl (x, y)))))
-            (λ y. inr (inl (x, y)))
-            k.1)
-        (λ x. ⊎_elim
-            (λ y. inr (inr (y, x)))
-            (λ y. inl (inr (meet_back q a b (inl (x, y)))))
-            k.1)
-        k.0)
+    (λ x. ⊎_elim
+    (λ y. inl (inl (meet_back p a b (inl (x, y)))))
+    (λ y. inr (inl (x, y)))
+    k.1)
+    (λ x. ⊎_elim
+    (λ y. inr (inr (y, x)))
+    (λ y. inl (inr (meet_back q a b (inl (x, y)))))
+    k.1)
+    k.0)
     (λ k. ⊎_elim
-        (λ s. inl (inl (meet_back p a b (inr (record { rest = k.rest; behind = s; one = k.one; other = k.other })))))
-        (λ s. inl (inr (meet_back q a b (inr (record { rest = k.rest; behind = s; one = k.one; other = k.other })))))
-        k.behind)
+    (λ s. inl (inl (meet_back p a b (inr (record { rest = k.rest; behind = s; one = k.one; other = k.other })))))
+    (λ s. inl (inr (meet_back q a b (inr (record { rest = k.rest; behind = s; one = k.one; other = k.other })))))
+    k.behind)
     h
 meet_back (loop p) a b h =
     ⊎_elim
     (λ k. inl (meet_back p a b (inl k)))
     (λ k.
-        let s = k.behind in
-        ⊎_elim
-        (λ x. ⊎_elim
-            (λ y. inl (meet_back p a b (inr (record { rest = s.0; behind = s.1; one = x; other = y }))))
-            (λ y. inr (inl (behind_late p a s.0 s.1 x y.0, y.1)))
-            (subst (λ (l : Plan Event). IsEarly l b) s.2 k.other))
-        (λ x. ⊎_elim
-            (λ y. inr (inr (behind_late p b s.0 s.1 y x.0, x.1)))
-            (λ y. inl (meet_back p a b (inl (x.1, y.1))))
-            (subst (λ (l : Plan Event). IsEarly l b) s.2 k.other))
-        (subst (λ (l : Plan Event). IsEarly l a) s.2 k.one))
+    let s = k.behind in
+    ⊎_elim
+    (λ x. ⊎_elim
+    (λ y. inl (meet_back p a b (inr (record { rest = s.0; behind = s.1; one = x; other = y }))))
+    (λ y. inr (inl (behind_late p a s.0 s.1 x y.0, y.1)))
+    (subst (λ (l : Plan Event). IsEarly l b) s.2 k.other))
+    (λ x. ⊎_elim
+    (λ y. inr (inr (behind_late p b s.0 s.1 y x.0, x.1)))
+    (λ y. inl (meet_back p a b (inl (x.1, y.1))))
+    (subst (λ (l : Plan Event). IsEarly l b) s.2 k.other))
+    (subst (λ (l : Plan Event). IsEarly l a) s.2 k.one))
     h
 
 -- ---- and on the paths

@@ -17,7 +17,7 @@ over number at_mark = first_of (at_mark mark.Whole) (at_mark (asked_mark number)
 abbrev pub asked_spot : Table → ℕ → Spot → Option Refusal
 asked_spot table array s =
     over s.subscripts.first (λ a. over s.subscripts.second (λ b. over s.subscripts.third (λ c.
-        found table (record { array = array; on = s.on; first = a; second = b; third = c }) s.by)))
+    found table (record { array = array; on = s.on; first = a; second = b; third = c }) s.by)))
 
 -- at those of all spots
 abbrev pub asked_spots : Table → ℕ → List Spot → Option Refusal

@@ -1,5 +1,5 @@
 -- What an access touches: on which images, and which cells there. Source: this project, after XcalableMP 1.4, coarrays.
-use Rattle.std.specs.Prelude.{ℕ, suc, ◌==◌, ◌≤◌, nat_lt, nat_le, Bool, true, false, not, ◌&&◌, ◌||◌, if◌then◌else◌, List, [], ◌∷◌, ◌++◌, map, filter, fold, ℤ, pos, ◌-ℤ◌, ◌+ℤ◌, int_lt, int_le, int_rem, Option, Some, None, unwrap_or, slice_get}
+use Rattle.std.specs.Prelude.{ℕ, zero, suc, ◌==◌, Bool, true, false, not, ◌&&◌, ◌||◌, if◌then◌else◌, List, [], ◌∷◌, ◌++◌, map, filter, fold, ℤ, pos, ◌-ℤ◌, ◌+ℤ◌, int_lt, int_le, int_rem, Option, Some, None, unwrap_or, slice_get}
 use Rattle.std.specs.List.{flat_map, list_any, range_with_len}
 use Rattle.std.specs.Ordering.{int_eq}
 use Rattle.std.specs.Option.{option_map}
@@ -51,7 +51,7 @@ where_holds around test = record around { counts = those_of around.counts test t
 abbrev pub where_fails : Around → Option (List ℤ) → Around
 where_fails around test = record around { counts = those_of around.counts test false }
 
--- the loops round the body of a counted loop. One that isn't a loop of image expressions hides those of its index.
+-- the loops round the body of a counted loop
 abbrev pub loops_in : List LoopImages → LoopHead → Option (List ℤ) → Option (List ℤ) → List LoopImages
 loops_in loops head (Some from) (Some to) =
     record {
@@ -61,8 +61,8 @@ loops_in loops head (Some from) (Some to) =
       inclusive = head.inclusive;
       step = head.step;
     } ∷ loops
-loops_in loops head (Some from) None = filter (λ l. not (l.index == head.index.number)) loops
-loops_in loops head None to = filter (λ l. not (l.index == head.index.number)) loops
+loops_in loops head (Some from) None = loops
+loops_in loops head None to = loops
 
 -- ---- the images of an access
 
@@ -114,8 +114,8 @@ meant count Unknown image = []
 -- the subscript of a dimension on an image, where it is a number
 abbrev pub subscript_on : List (Option (List ℤ)) → (dimension image : ℕ) → Option ℤ
 subscript_on [] dimension image = None
-subscript_on (None ∷ rest) 0 image = None
-subscript_on (Some vs ∷ rest) 0 image = slice_get vs image
+subscript_on (None ∷ rest) zero image = None
+subscript_on (Some vs ∷ rest) zero image = slice_get vs image
 subscript_on (s ∷ rest) (suc n) image = subscript_on rest n image
 
 abbrev pub subscripts_on : List (Option (List ℤ)) → (image : ℕ) → Subscripts
@@ -136,19 +136,30 @@ same_number None (Some y) = false
 same_number (Some x) None = false
 same_number (Some x) (Some y) = int_eq x y
 
+-- whether two spots are of the same cells
 abbrev pub same_cells : Spot → Spot → Bool
 same_cells s t =
     int_eq s.on t.on
     && (same_number s.subscripts.first t.subscripts.first
     && (same_number s.subscripts.second t.subscripts.second && same_number s.subscripts.third t.subscripts.third))
 
--- one spot more: where there is one of the same cells, several images touch that
+-- the images of both
+abbrev pub both_by : By → By → By
+both_by (One a) (One b) = if a == b then One a else Several
+both_by (One a) Several = Several
+both_by Several b = Several
+
+-- one spot more: where there is one of the same cells, the images of both touch that
 abbrev pub with_spot : List Spot → Spot → List Spot
 with_spot [] s = s ∷ []
-with_spot (t ∷ spots) s = if same_cells t s then record t { by = Several } ∷ spots else t ∷ with_spot spots s
+with_spot (t ∷ spots) s =
+    if same_cells t s then record t { by = both_by t.by s.by } ∷ spots else t ∷ with_spot spots s
+
+-- the spots, those of the same cells as one
+abbrev pub gathered : List Spot → List Spot
+gathered spots = fold with_spot [] spots
 
 -- the spots of an access, each once, of the images that come to it
 abbrev pub spots : (count : ℕ) → Around → Whose → List (Option (List ℤ)) → List Spot
 spots count around w subscripts =
-    fold with_spot []
-    (flat_map (spots_on count w subscripts) (filter (comes around.counts) (range_with_len 0 count)))
+    gathered (flat_map (spots_on count w subscripts) (filter (comes around.counts) (range_with_len 0 count)))

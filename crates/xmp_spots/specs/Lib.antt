@@ -10,3 +10,5 @@ pub mod Asking
 pub mod Races
 pub mod Sets
 pub mod Images
+pub mod Variables
+pub mod Footprints

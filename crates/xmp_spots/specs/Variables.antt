@@ -1,6 +1,6 @@
 -- The image variables of a program, in the order of the declarations (this project, after XcalableMP 1.4, coarrays).
 use Rattle.std.specs.Prelude.{ℕ, ◌==◌, Bool, ◌&&◌, if◌then◌else◌, List, [], ◌∷◌, ◌++◌, map, length, filter, fold, ℤ, Option, Some, None, unwrap_or, slice_get, slice_set}
-use Rattle.std.specs.List.{concat, repeat}
+use Rattle.std.specs.List.{flat_map}
 use Rattle.xmp_num.specs.declared.types.Ty.TheVariants.{Int}
 use Rattle.xmp_num.specs.Arithmetic.{wrap}
 use Rattle.xmp_prog.specs.declared.expressions.Expr.{Expr}
@@ -29,12 +29,12 @@ declared_by_plain _ = []
 -- those of a statement, by those of the statements in it
 abbrev pub declared_step : Stmt-F (List Declaration) (List Declaration) → List Declaration
 declared_step (Stmt-F.Plain s) = declared_by_plain s
-declared_step (Stmt-F.Block all) = concat all
+declared_step (Stmt-F.Block all) = flat_map (λ ds. ds) all
 declared_step (Stmt-F.If test a b) = a ++ b
 declared_step (Stmt-F.While test body at) = body
 declared_step (Stmt-F.Counted head body) = body
 declared_step (Stmt-F.Loop directive body) = body
-declared_step (Stmt-F.Tasks all at) = concat all
+declared_step (Stmt-F.Tasks all at) = flat_map (λ ds. ds) all
 
 abbrev pub declared_in_task : Task-F (List Declaration) (List Declaration) → List Declaration
 declared_in_task t = t.body
@@ -65,4 +65,4 @@ with_declaration p values d = with_row p values d.slot (image_values (node_count
 
 -- the values of all image variables, by slot
 abbrev pub image_variables : ProgParts → Values
-image_variables p = fold (with_declaration p) (repeat [] (length p.scalars)) (declarations p)
+image_variables p = fold (with_declaration p) (map (λ ty. []) p.scalars) (declarations p)

@@ -89,7 +89,10 @@ impl Accesses {
         ensures ok { OnOk result (self.new ≡ self.old ++ touch ∷ []) }
         ensures err { OnErr result (self.new ≡ []) }
     {
-        let (Ok(()), Ok(())) = (note(&mut self.all, &touch), note_writer(&mut self.writers, &touch)) else {
+        let (Ok(()), Ok(())) = (
+            note(&mut self.all, &touch),
+            note_writer(&mut self.writers, &touch),
+        ) else {
             std::mem::drop(touch);
             *self = Accesses::new(alloc);
             return Err(NoMemory);

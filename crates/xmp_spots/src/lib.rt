@@ -19,5 +19,8 @@ mod touches;
 
 pub use accesses::Accesses;
 pub use expressions::image_values;
-pub use laws::meetings;
+pub use laws::{meetings, spots_as_one};
 pub use touches::{By, Spot, Subscripts, Touch};
+
+#[cfg(test)]
+mod tests;
