@@ -1,0 +1,9 @@
+mod EarlyLaws
+mod MeetingLaws
+mod KeyLaws
+mod NearestLaws
+mod EnteringLaws
+mod AskingLaws
+mod BetweenLaws
+mod ImageLaws
+mod GatheredLaws

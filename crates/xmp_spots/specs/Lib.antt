@@ -1,0 +1,14 @@
+pub mod Clashes
+pub mod Meetings
+pub mod Joins
+pub mod Nearest
+pub mod Seen
+pub mod Marks
+pub mod Tables
+pub mod Entering
+pub mod Asking
+pub mod Races
+pub mod Sets
+pub mod Images
+pub mod Variables
+pub mod Footprints

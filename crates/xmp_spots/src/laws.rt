@@ -1,0 +1,22 @@
+// Laws of meetings.
+ghost use Rattle.std.specs.Prelude.{◌↔◌, ◌≡◌, List};
+ghost use Rattle.std.specs.List.{list_any};
+ghost use Rattle.xmp_paths.specs.Plans.{Plan};
+ghost use Rattle.xmp_spots.specs.declared.touches.Touch.{Touch};
+ghost use Rattle.xmp_spots.specs.declared.touches.Spot.{Spot};
+ghost use Rattle.xmp_spots.specs.Clashes.{spots_clash};
+ghost use Rattle.xmp_spots.specs.Footprints.{gathered};
+ghost use Rattle.xmp_spots.specs.Meetings.{Event, Reached, MayMeet};
+ghost use Rattle.xmp_spots.specs.Joins.{IsEarly, Meet};
+
+/// Which accesses are reached before any sync, and which may fall in one phase, is what the recursion on the plan says.
+pub fn meetings()
+    ensures early { (plan : Plan Event) (t : Touch) → IsEarly plan t ↔ Reached plan t }
+    ensures meet { (plan : Plan Event) (a b : Touch) → Meet plan a b ↔ MayMeet plan a b }
+{}
+
+/// Two lists of spots clash exactly where they do once spots of the same cells are one, touched by the images of all.
+pub fn spots_as_one()
+    ensures { (xs ys : List Spot) → list_any (λ s. list_any (spots_clash s) (gathered ys)) (gathered xs)
+        ≡ list_any (λ s. list_any (spots_clash s) ys) xs }
+{}

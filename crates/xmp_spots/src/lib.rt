@@ -1,0 +1,26 @@
+//! Accesses of coarrays: what each image touches by them, and which may fall in one phase.
+//!
+//! Contracts see an access as the spots that it touches, a set of accesses as a list, and what may meet by the paths
+//! through a plan. The code looks at no pair: it keeps a set by what its accesses touch, and joins sets where the plan
+//! joins paths.
+#![tactic(auto)]
+
+mod accesses;
+mod asking;
+mod entering;
+mod expressions;
+mod images;
+mod keys;
+mod laws;
+mod nearest;
+mod order;
+mod table;
+mod touches;
+
+pub use accesses::Accesses;
+pub use expressions::image_values;
+pub use laws::{meetings, spots_as_one};
+pub use touches::{By, Spot, Subscripts, Touch};
+
+#[cfg(test)]
+mod tests;
