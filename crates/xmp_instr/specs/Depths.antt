@@ -16,29 +16,33 @@ abbrev pub meeting_needs : Option Meeting → ℕ
 meeting_needs None = 0
 meeting_needs (Some x) = numbers_for x
 
--- how many values an instruction finds, and looks at or takes
+-- how many values an instruction finds, prints and exchanges apart
+abbrev pub finds : Instr → ℕ
+finds i.Drop = 1
+finds i.Dup = 1
+finds (i.Save slot) = 1
+finds (i.LoadAt b n) = 1
+finds (i.SaveAt b n) = 2
+finds (i.Bound n at) = 1
+finds (i.Fold n) = 2
+finds (i.Local m d) = 1
+finds (i.Bin op ty at) = 2
+finds (i.Conv ty) = 1
+finds (i.JumpZero k) = 1
+finds i.Return = 1
+finds (i.Mine t n) = n
+finds (i.NextMine t d) = 2
+finds (i.Scan ty) = 1
+finds i.Get = 1
+finds i.Put = 2
+finds (i.Lift at) = 1
+finds _ = 0
+
+-- how many values it looks at or takes
 abbrev pub needs : CodeParts → Instr → ℕ
-needs c i.Drop = 1
-needs c i.Dup = 1
-needs c (i.Save slot) = 1
-needs c (i.LoadAt b n) = 1
-needs c (i.SaveAt b n) = 2
-needs c (i.Bound n at) = 1
-needs c (i.Fold n) = 2
-needs c (i.Local m d) = 1
-needs c (i.Bin op ty at) = 2
-needs c (i.Conv ty) = 1
-needs c (i.JumpZero k) = 1
-needs c i.Return = 1
-needs c (i.Mine t n) = n
-needs c (i.NextMine t d) = 2
 needs c (i.Print f) = format_needs (slice_get c.formats f)
-needs c (i.Scan ty) = 1
 needs c (i.Exchange e) = meeting_needs (slice_get c.meetings e)
-needs c i.Get = 1
-needs c i.Put = 2
-needs c (i.Lift at) = 1
-needs c _ = 0
+needs c instr = finds instr
 
 -- how many it leaves in their place; of a call, once it has returned
 abbrev pub leaves : Instr → ℕ
@@ -82,5 +86,5 @@ Agrees c p d instr = IsDepth c (p + 1) (depth_after c instr d)
 
 -- An instruction that stands at p with the depth d finds its values, and the depths agree along its steps.
 pub record IsFine (c : CodeParts) (p d : ℕ) (instr : Instr) : Type 0 where
-  pub finds : needs c instr ≤ d
+  pub enough : needs c instr ≤ d
   pub agrees : Agrees c p d instr

@@ -7,4 +7,5 @@ pub mod Resumed
 pub mod Serving
 pub mod Depths
 pub mod Valid
+pub mod Sides
 pub mod Listing

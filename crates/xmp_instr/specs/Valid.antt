@@ -1,5 +1,5 @@
 -- Which parts make a code (this project).
-use Rattle.std.specs.Prelude.{◌≡◌, ◌<◌, ◌≤◌, ◌+◌, ◌&&◌, nat_lt, ℕ, Bool, true, false, IsTrue, List, [], ◌∷◌, length, Option, Some, None, slice_get}
+use Rattle.std.specs.Prelude.{◌≡◌, ◌<◌, ◌≤◌, ◌+◌, ◌&&◌, nat_lt, nat_le, ℕ, Bool, true, false, IsTrue, List, [], ◌∷◌, length, Option, Some, None, slice_get}
 use Rattle.std.specs.List.{AllByRecursion, list_all, last_or}
 use Rattle.xmp_base.specs.Limits.{node_limit}
 use Rattle.xmp_num.specs.declared.types.Ty.{Ty}
@@ -40,24 +40,20 @@ HomeOver nodes home.Image = Unit {0}
 abbrev pub IsBuilt : (format : List ℕ) → Type 0
 IsBuilt format = (types : List Ty) × IsFormat format types
 
--- numbers that rise
-abbrev pub rises : List ℕ → Bool
-rises [] = true
-rises (a ∷ []) = true
-rises (a ∷ b ∷ rest) = nat_lt a b && rises (b ∷ rest)
+-- numbers that rise, from `least` on and below the number of nodes
+abbrev pub rises : (nodes least : ℕ) → List ℕ → Bool
+rises nodes least [] = true
+rises nodes least (k ∷ ks) = nat_le least k && (nat_lt k nodes && rises nodes (k + 1) ks)
 
--- a set of nodes has at least one, and all are below the number of nodes, in rising order
-abbrev pub has_some : List ℕ → Bool
-has_some [] = false
-has_some (k ∷ ks) = true
-
+-- a set of nodes has at least one, and rises
 abbrev pub is_set : (nodes : ℕ) → List ℕ → Bool
-is_set nodes set = has_some set && (list_all (λ k. nat_lt k nodes) set && rises set)
+is_set nodes [] = false
+is_set nodes (k ∷ ks) = rises nodes 0 (k ∷ ks)
 
 -- the sets of a meeting are sets, and no two share a node
 pub record AreSets (nodes : ℕ) (sets : List (List ℕ)) : Type 0 where
-  pub each : IsTrue (list_all (is_set nodes) sets)
-  pub apart : IsTrue (pairwise apart sets)
+  pub each : AllByRecursion (λ set. IsTrue (is_set nodes set)) sets
+  pub disjoint : IsTrue (pairwise apart sets)
 
 -- a transfer is laid out for the node, over grids of all nodes, with its words in the store
 pub record MoveFits (c : CodeParts) (kind : MoveKind) : Type 0 where
@@ -65,23 +61,27 @@ pub record MoveFits (c : CodeParts) (kind : MoveKind) : Type 0 where
   pub laid_out : IsLaidOut kind c.node
   pub words : AllByRecursion (λ s. s.base + words_in s c.node ≤ c.words) (sides_of kind)
 
+-- a slot is below the number of words
+abbrev pub SlotFits : CodeParts → ℕ → Type 0
+SlotFits c slot = slot < c.words
+
 abbrev pub MeetingFits : CodeParts → Meeting → Type 0
 MeetingFits c meeting.Barrier = Unit {0}
-MeetingFits c (meeting.Cast slots from) = (from < c.nodes) × IsTrue (list_all (λ s. nat_lt s c.words) slots)
+MeetingFits c (meeting.Cast slots from) = (from < c.nodes) × AllByRecursion (SlotFits c) slots
 MeetingFits c (meeting.Move kind target_at source_at) = MoveFits c kind
-MeetingFits c (meeting.LoopEnd rs) = IsTrue (list_all (λ r. nat_lt r.slot c.words) rs)
+MeetingFits c (meeting.LoopEnd rs) = AllByRecursion (λ r. SlotFits c r.slot) rs
 MeetingFits c (meeting.TaskEnd sets) = AreSets c.nodes sets
 
--- a slot that may be missing is below the number of words
-abbrev pub index_below : ℕ → Option ℕ → Bool
-index_below words None = true
-index_below words (Some slot) = nat_lt slot words
+-- the slot of an index that may be missing
+abbrev pub IndexFits : CodeParts → Option ℕ → Type 0
+IndexFits c None = Unit {0}
+IndexFits c (Some slot) = SlotFits c slot
 
 -- a guard's target is an instruction with the depth 0, and its indices have slots
 pub record GuardFits (c : CodeParts) (g : Guard) : Type 0 where
   pub target : g.target < length c.instrs
   pub depth : IsDepth c g.target 0
-  pub indices : IsTrue (list_all (index_below c.words) g.indices)
+  pub indices : AllByRecursion (IndexFits c) g.indices
 
 -- ---- instructions
 
@@ -99,8 +99,8 @@ HasDimensions (Some t) n = n ≡ t.dims
 
 -- The slots, rows of tables, dimensions and instructions that an instruction names are there.
 abbrev pub InRange : CodeParts → Instr → Type 0
-InRange c (i.Load slot) = slot < c.words
-InRange c (i.Save slot) = slot < c.words
+InRange c (i.Load slot) = SlotFits c slot
+InRange c (i.Save slot) = SlotFits c slot
 InRange c (i.LoadAt b n) = b + n ≤ c.words
 InRange c (i.SaveAt b n) = b + n ≤ c.words
 InRange c (i.Local m d) = HasDimension (slice_get c.maps m) d
@@ -121,15 +121,22 @@ Closes (Some i.Return) = Unit {0}
 Closes (Some (i.Jump k)) = Unit {0}
 Closes _ = ⊥
 
+-- with its depth an instruction finds its values, and the depths agree along its steps
+abbrev pub FineAt : CodeParts → (p : ℕ) → Instr → Type 0
+FineAt c p instr = (d : ℕ) → IsDepth c p d → IsFine c p d instr
+
+abbrev pub AreFine : CodeParts → Type 0
+AreFine c = (p : ℕ) (instr : Instr) → slice_get c.instrs p ≡ Some instr → FineAt c p instr
+
 -- ---- the parts
 
--- The parts make a code.
-pub record IsValid (c : CodeParts) : Type 0 where
-  -- there are 1 to 16 nodes
-  pub some_node : 1 ≤ c.nodes
-  pub most_nodes : c.nodes ≤ node_limit
-  -- the code is that of one of them
+-- the code is that of one of 1 to 16 nodes
+pub record HasNodes (c : CodeParts) : Type 0 where
+  pub some : 1 ≤ c.nodes
+  pub most : c.nodes ≤ node_limit
   pub node : c.node < c.nodes
+
+pub record HasTables (c : CodeParts) : Type 0 where
   -- the grids of maps and templates have all nodes
   pub maps : AllByRecursion (MapOver c.nodes) c.maps
   pub templates : AllByRecursion (TemplateOver c.nodes) c.templates
@@ -139,6 +146,8 @@ pub record IsValid (c : CodeParts) : Type 0 where
   pub meetings : AllByRecursion (MeetingFits c) c.meetings
   -- guards lead to an instruction with the depth 0
   pub guards : AllByRecursion (GuardFits c) c.guards
+
+pub record HasSteps (c : CodeParts) : Type 0 where
   -- what instructions name is in range
   pub ranges : AllByRecursion (InRange c) c.instrs
   -- each instruction has a depth, of at most the greatest
@@ -147,6 +156,12 @@ pub record IsValid (c : CodeParts) : Type 0 where
   -- the first has the depth 0
   pub first : IsDepth c 0 0
   -- each finds its values, and the depths agree along its steps
-  pub steps : (p d : ℕ) (instr : Instr) → slice_get c.instrs p ≡ Some instr → IsDepth c p d → IsFine c p d instr
+  pub fine : AreFine c
   -- the last ends the code, returns or jumps
   pub last : Closes (last_or None c.instrs)
+
+-- The parts make a code.
+pub record IsValid (c : CodeParts) : Type 0 where
+  pub nodes : HasNodes c
+  pub tables : HasTables c
+  pub steps : HasSteps c
