@@ -7,5 +7,8 @@ pub mod Resumed
 pub mod Serving
 pub mod Depths
 pub mod Valid
+pub mod Fits
 pub mod Sides
+pub mod FormatTests
 pub mod Listing
+pub mod Laws

@@ -7,6 +7,8 @@ use Rattle.xmp_num.specs.declared.types.BinOp.{BinOp}
 use Rattle.xmp_num.specs.declared.types.BinOp.TheVariants as op
 use Rattle.xmp_instr.specs.declared.instr.Instr.{Instr}
 use Rattle.xmp_instr.specs.declared.instr.Instr.TheVariants as i
+use Rattle.xmp_instr.specs.declared.listing.Operands.{Operands}
+use Rattle.xmp_instr.specs.declared.listing.Operands.TheVariants as o
 
 -- operators and types have the names of their variants in lower case
 abbrev pub type_name : Ty → List ℕ
@@ -31,53 +33,75 @@ operator_name op.GreaterEq = codes "greatereq"
 operator_name op.Equal = codes "equal"
 operator_name op.Differ = codes "differ"
 
--- a word and one or two numbers
-abbrev pub with_number : List ℕ → ℕ → List ℕ
-with_number word n = word ++ 32 ∷ decimal n
+-- the name of an instruction
+abbrev pub name : Instr → List ℕ
+name (i.Push v) = codes "push"
+name i.Drop = codes "drop"
+name i.Dup = codes "dup"
+name (i.Load slot) = codes "load"
+name (i.Save slot) = codes "save"
+name (i.LoadAt b n) = codes "loadat"
+name (i.SaveAt b n) = codes "saveat"
+name (i.Bound n at) = codes "bound"
+name (i.Fold n) = codes "fold"
+name (i.Local m d) = codes "local"
+name (i.Bin op ty at) = codes "bin"
+name (i.Conv ty) = codes "conv"
+name (i.Jump k) = codes "jump"
+name (i.JumpZero k) = codes "jumpzero"
+name (i.Call k) = codes "call"
+name i.Return = codes "return"
+name i.Turn = codes "turn"
+name (i.Mine t n) = codes "mine"
+name (i.NextMine t d) = codes "nextmine"
+name i.Count = codes "count"
+name (i.Guard g) = codes "guard"
+name i.Unguard = codes "unguard"
+name i.Noted = codes "noted"
+name (i.Print f) = codes "print"
+name (i.Scan ty) = codes "scan"
+name (i.Exchange e) = codes "exchange"
+name i.Get = codes "get"
+name i.Put = codes "put"
+name i.Sync = codes "sync"
+name (i.Lift at) = codes "lift"
+name i.End = codes "end"
 
-abbrev pub with_numbers : List ℕ → (n m : ℕ) → List ℕ
-with_numbers word n m = with_number word n ++ 32 ∷ decimal m
+-- what is listed behind it; places aren't
+abbrev pub listed : Instr → Operands
+listed (i.Push v) = o.Value v
+listed (i.Load slot) = o.One slot
+listed (i.Save slot) = o.One slot
+listed (i.LoadAt b n) = o.Two b n
+listed (i.SaveAt b n) = o.Two b n
+listed (i.Bound n at) = o.One n
+listed (i.Fold n) = o.One n
+listed (i.Local m d) = o.Two m d
+listed (i.Bin op ty at) = o.Operator op ty
+listed (i.Conv ty) = o.Type ty
+listed (i.Jump k) = o.One k
+listed (i.JumpZero k) = o.One k
+listed (i.Call k) = o.One k
+listed (i.Mine t n) = o.Two t n
+listed (i.NextMine t d) = o.Two t d
+listed (i.Guard g) = o.One g
+listed (i.Print f) = o.One f
+listed (i.Scan ty) = o.Type ty
+listed (i.Exchange e) = o.One e
+listed _ = o.Nothing
 
-abbrev pub with_type : List ℕ → Ty → List ℕ
-with_type word ty = word ++ 32 ∷ type_name ty
+-- each behind a space
+abbrev pub operand_text : Operands → List ℕ
+operand_text o.Nothing = []
+operand_text (o.Value v) = 32 ∷ signed_decimal v
+operand_text (o.One n) = 32 ∷ decimal n
+operand_text (o.Two n m) = 32 ∷ decimal n ++ 32 ∷ decimal m
+operand_text (o.Type ty) = 32 ∷ type_name ty
+operand_text (o.Operator op ty) = 32 ∷ operator_name op ++ 32 ∷ type_name ty
 
--- how an instruction is listed; places aren't
-abbrev pub text_of : Instr → List ℕ
-text_of (i.Push v) = codes "push" ++ 32 ∷ signed_decimal v
-text_of i.Drop = codes "drop"
-text_of i.Dup = codes "dup"
-text_of (i.Load slot) = with_number (codes "load") slot
-text_of (i.Save slot) = with_number (codes "save") slot
-text_of (i.LoadAt b n) = with_numbers (codes "loadat") b n
-text_of (i.SaveAt b n) = with_numbers (codes "saveat") b n
-text_of (i.Bound n at) = with_number (codes "bound") n
-text_of (i.Fold n) = with_number (codes "fold") n
-text_of (i.Local m d) = with_numbers (codes "local") m d
-text_of (i.Bin op ty at) = with_type (codes "bin" ++ 32 ∷ operator_name op) ty
-text_of (i.Conv ty) = with_type (codes "conv") ty
-text_of (i.Jump k) = with_number (codes "jump") k
-text_of (i.JumpZero k) = with_number (codes "jumpzero") k
-text_of (i.Call k) = with_number (codes "call") k
-text_of i.Return = codes "return"
-text_of i.Turn = codes "turn"
-text_of (i.Mine t n) = with_numbers (codes "mine") t n
-text_of (i.NextMine t d) = with_numbers (codes "nextmine") t d
-text_of i.Count = codes "count"
-text_of (i.Guard g) = with_number (codes "guard") g
-text_of i.Unguard = codes "unguard"
-text_of i.Noted = codes "noted"
-text_of (i.Print f) = with_number (codes "print") f
-text_of (i.Scan ty) = with_type (codes "scan") ty
-text_of (i.Exchange e) = with_number (codes "exchange") e
-text_of i.Get = codes "get"
-text_of i.Put = codes "put"
-text_of i.Sync = codes "sync"
-text_of (i.Lift at) = codes "lift"
-text_of i.End = codes "end"
-
--- a line: the number, the instruction, a line feed
+-- a line: the number, the name, the operands, a line feed
 abbrev pub line : (number : ℕ) → Instr → List ℕ
-line n instr = decimal n ++ 32 ∷ (text_of instr ++ 10 ∷ [])
+line n instr = decimal n ++ 32 ∷ (name instr ++ (operand_text (listed instr) ++ 10 ∷ []))
 
 -- the lines of instructions, the first of which has this number
 abbrev pub lines : (number : ℕ) → List Instr → List ℕ

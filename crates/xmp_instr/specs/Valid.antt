@@ -125,8 +125,8 @@ Closes _ = ⊥
 abbrev pub FineAt : CodeParts → (p : ℕ) → Instr → Type 0
 FineAt c p instr = (d : ℕ) → IsDepth c p d → IsFine c p d instr
 
-abbrev pub AreFine : CodeParts → Type 0
-AreFine c = (p : ℕ) (instr : Instr) → slice_get c.instrs p ≡ Some instr → FineAt c p instr
+pub record AreFine (c : CodeParts) : Type 0 where
+  pub each : (p : ℕ) (instr : Instr) → slice_get c.instrs p ≡ Some instr → FineAt c p instr
 
 -- ---- the parts
 
@@ -147,14 +147,16 @@ pub record HasTables (c : CodeParts) : Type 0 where
   -- guards lead to an instruction with the depth 0
   pub guards : AllByRecursion (GuardFits c) c.guards
 
+-- each instruction has a depth, of at most the greatest; that of the first is 0
+pub record HasDepths (c : CodeParts) : Type 0 where
+  pub long : length c.depths ≡ length c.instrs
+  pub most : AllByRecursion (λ d. d ≤ c.depth) c.depths
+  pub first : IsDepth c 0 0
+
 pub record HasSteps (c : CodeParts) : Type 0 where
   -- what instructions name is in range
   pub ranges : AllByRecursion (InRange c) c.instrs
-  -- each instruction has a depth, of at most the greatest
-  pub depths : length c.depths ≡ length c.instrs
-  pub most : AllByRecursion (λ d. d ≤ c.depth) c.depths
-  -- the first has the depth 0
-  pub first : IsDepth c 0 0
+  pub depths : HasDepths c
   -- each finds its values, and the depths agree along its steps
   pub fine : AreFine c
   -- the last ends the code, returns or jumps
