@@ -1,6 +1,6 @@
 -- A format that is read to its end is built of pieces, and one that is built of pieces is read to its end.
-use Rattle.std.proofs.Common.{◌≡◌, ◌↔◌, ◌∙◌, sym, ap, refl, subst, ◌++◌, ◌∷◌, [], ◌+◌, ◌-◌, ◌*◌, ◌/◌, ◌%◌, ◌^◌, ◌<◌, ◌≤◌, ◌&&◌, not, ℕ, Bool, true, false, List, arith, append_assoc, eqb-true}
-use Rattle.std.specs.Prelude.{◌==◌, nat_le, nat_lt, if◌then◌else◌}
+use Rattle.std.proofs.Common.{◌≡◌, ◌↔◌, ◌∙◌, sym, ap, refl, subst, ◌++◌, ◌∷◌, [], ◌+◌, ◌-◌, ◌*◌, ◌/◌, ◌%◌, ◌<◌, ◌≤◌, ◌&&◌, not, ℕ, Bool, true, false, List, arith, append_assoc, eqb-true}
+use Rattle.std.specs.Prelude.{◌==◌, nat_lt, if◌then◌else◌}
 use Rattle.std.specs.List.{list_all, flat_map}
 use Rattle.std.specs.Fmt.{decimal}
 use Rattle.std.proofs.lemmas.Bool.{ltb-true, ltb-false, le-leb, leb-true, false≢true}
@@ -9,10 +9,10 @@ use Rattle.std.proofs.lemmas.Fmt.{decimal_step, decimal_digit, decimal_by_steps}
 use Rattle.std.proofs.lemmas.List.{append-nil}
 use Rattle.xmp_num.specs.declared.types.Ty.{Ty}
 use Rattle.xmp_num.specs.declared.types.Ty.TheVariants.{Int, Long}
-use Rattle.xmp_prog.specs.Formats.{Piece, Byte, Percent, Number, width_spelling, letters, spelling, is_piece, type_asked, IsFormat}
+use Rattle.xmp_prog.specs.Formats.{Piece, Byte, Percent, Number, width_spelling, letters, spelling, is_piece, type_asked}
 use Rattle.xmp_instr.specs.declared.formats.Mode.{Mode}
 use Rattle.xmp_instr.specs.declared.formats.Mode.TheVariants as m
-use Rattle.xmp_instr.specs.FormatTests.{is_digit, letter, wider, after_byte, is_outside, read_on}
+use Rattle.xmp_instr.specs.FormatTests.{is_digit, letter, wider, after_byte, read_on}
 use Rattle.xmp_instr.specs.Valid.{IsBuilt}
 use Rattle.xmp_instr.proofs.Sizes.{left_true, right_true}
 

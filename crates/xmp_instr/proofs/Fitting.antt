@@ -1,9 +1,9 @@
 -- A node of a valid code fits the code at every step.
-use Rattle.std.proofs.Common.{◌≡◌, ◌<◌, ◌≤◌, ◌+◌, ◌-◌, ℕ, zero, suc, Bool, true, false, List, [], ◌∷◌, length, take, drop, reverse, replicate, ℤ, pos, refl, sym, ap, subst, ◌∙◌, arith, Option, Some, None, slice_get, slice_set, slice_index, if◌then◌else◌, get_or}
+use Rattle.std.proofs.Common.{◌≡◌, ◌<◌, ◌≤◌, ◌+◌, ◌-◌, ℕ, zero, suc, Bool, true, false, List, [], ◌∷◌, length, take, drop, reverse, replicate, ℤ, pos, refl, sym, ap, subst, ◌∙◌, arith, Option, Some, None, slice_get, if◌then◌else◌}
 use Rattle.std.specs.Prelude.{nat_lt, ◌^◌, int_le, Result, Ok, Err}
 use Rattle.std.specs.List.{AllByRecursion}
 use Rattle.std.proofs.lemmas.Bool.{ltb-true, ltb-false}
-use Rattle.std.proofs.lemmas.Option.{same_Some, none-some, slice_get-get_or, get_or_from_slice_get, slice_get_within}
+use Rattle.std.proofs.lemmas.Option.{none-some, slice_get-get_or, get_or_from_slice_get, slice_get_within}
 use Rattle.std.proofs.lemmas.List.{length-drop, length-take-le, length-reverse, length-set, length-replicate, get_or-replicate}
 use Rattle.xmp_base.specs.declared.place.Place.{Place}
 use Rattle.xmp_num.specs.declared.types.TrapKind.{TrapKind}
@@ -26,7 +26,7 @@ use Rattle.xmp_instr.specs.declared.meeting.Meeting.{Meeting}
 use Rattle.xmp_instr.specs.declared.parts.Guard.{Guard}
 use Rattle.xmp_instr.specs.declared.parts.CodeParts.{CodeParts}
 use Rattle.xmp_instr.specs.Data.{Data, read_into, step_taken, turn_counted, with_indexed, with_note, with_read, with_text, with_word}
-use Rattle.xmp_instr.specs.Node.{Frame, Standing, Stage, Going, Meets, Over, Node, beginning}
+use Rattle.xmp_instr.specs.Node.{Stage, Going, Meets, Over, Node}
 use Rattle.xmp_instr.specs.Effects as e
 use Rattle.xmp_instr.specs.Effects.{numbers_for, meeting_fault}
 use Rattle.xmp_instr.specs.Depths.{IsDepth, IsFine, format_needs}
@@ -34,7 +34,7 @@ use Rattle.xmp_instr.specs.Tables.{asked, owns}
 use Rattle.xmp_instr.specs.Serving.{muted}
 use Rattle.xmp_instr.specs.Valid.{IsValid, GuardFits, InRange}
 use Rattle.xmp_instr.specs.Laws.{BeginningFits, MutedFit, StepsFit}
-use Rattle.xmp_instr.specs.Fits.{Fits, StageFits, StandsAt, GuardIsThere, IsCall, below_calls, depth_at, numbers_taken}
+use Rattle.xmp_instr.specs.Fits.{Fits, StageFits, IsCall, below_calls, depth_at, numbers_taken}
 use Rattle.xmp_instr.proofs.Lists.{all_at}
 
 -- a result that fits, where it goes on

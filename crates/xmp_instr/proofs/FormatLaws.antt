@@ -1,5 +1,5 @@
 -- How many values a format asks for.
-use Rattle.std.proofs.Common.{◌≡◌, ◌+◌, ℕ, suc, Bool, true, false, List, [], ◌∷◌, length, refl, sym, ap, ◌∙◌, arith}
+use Rattle.std.proofs.Common.{◌≡◌, ◌+◌, ℕ, suc, Bool, true, false, List, [], ◌∷◌, length, refl, ap, ◌∙◌, arith}
 use Rattle.std.specs.Prelude.{◌==◌, ◌*◌, if◌then◌else◌}
 use Rattle.std.specs.List.{flat_map}
 use Rattle.std.specs.Char.{is_ascii_digit, digit_value}
@@ -7,7 +7,7 @@ use Rattle.xmp_num.specs.declared.types.Ty.{Ty}
 use Rattle.xmp_num.specs.declared.types.Ty.TheVariants.{Int, Long}
 use Rattle.xmp_prog.specs.Formats.{Piece, Byte, Percent, Number, type_asked}
 use Rattle.xmp_meaning.specs.Formats.{pieces_of, behind_percent}
-use Rattle.xmp_instr.specs.FormatTests.{asked_from, ends_one, goes_inside}
+use Rattle.xmp_instr.specs.FormatTests.{asked_from}
 use Rattle.xmp_instr.specs.Tables.{asked}
 
 abbrev counted : List Piece → ℕ

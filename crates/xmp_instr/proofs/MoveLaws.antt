@@ -1,11 +1,10 @@
 -- A transfer fits where its sides fit, one by one and together.
-use Rattle.std.proofs.Common.{◌≡◌, ◌↔◌, ◌≤◌, ◌+◌, ◌^◌, ◌∙◌, ℕ, Bool, true, false, IsTrue, Option, Some, None, sym, arith}
+use Rattle.std.proofs.Common.{◌≡◌, ◌↔◌, ◌≤◌, ◌^◌, ◌∙◌, ℕ, Bool, true, IsTrue, Option, Some, None, sym, arith}
 use Rattle.std.specs.Prelude.{MatchOption, is_some}
 use Rattle.std.proofs.lemmas.Bool.{false≢true}
 use Rattle.xmp_num.specs.declared.types.Ty.{Ty}
 use Rattle.xmp_prog.specs.Tests.{is_spread}
 use Rattle.xmp_move.specs.declared.kind.Side.{Side}
-use Rattle.xmp_move.specs.declared.kind.MoveKind.{MoveKind}
 use Rattle.xmp_move.specs.declared.kind.MoveKind.TheVariants.{Reflect, Gmove}
 use Rattle.xmp_instr.specs.declared.parts.CodeParts.{CodeParts}
 use Rattle.xmp_instr.specs.Valid.{MoveFits}

@@ -1,6 +1,6 @@
 -- Nodes that differ in text alone take the same steps to the same stops.
-use Rattle.std.proofs.Common.{◌≡◌, ◌+◌, ℕ, zero, suc, Bool, true, false, List, [], ◌∷◌, length, take, drop, reverse, ℤ, refl, sym, ap, subst, ◌∙◌, Option, Some, None, slice_get, if◌then◌else◌}
-use Rattle.std.specs.Prelude.{nat_lt, int_le, ◌^◌, Result, Ok, Err}
+use Rattle.std.proofs.Common.{◌≡◌, ◌+◌, ℕ, zero, suc, Bool, true, false, List, [], ◌∷◌, length, take, drop, reverse, ℤ, refl, sym, ap, ◌∙◌, Option, Some, None, slice_get, if◌then◌else◌}
+use Rattle.std.specs.Prelude.{nat_lt, int_le, Result, Ok, Err}
 use Rattle.xmp_base.specs.declared.place.Place.{Place}
 use Rattle.xmp_num.specs.declared.types.Ty.{Ty}
 use Rattle.xmp_num.specs.declared.types.TrapKind.{TrapKind}
@@ -16,11 +16,10 @@ use Rattle.xmp_steps.specs.Machine as machine
 use Rattle.xmp_instr.specs.declared.instr.Instr.{Instr}
 use Rattle.xmp_instr.specs.declared.instr.Instr.TheVariants as i
 use Rattle.xmp_instr.specs.declared.stop.Stop.{Stop}
-use Rattle.xmp_instr.specs.declared.stop.Stop.TheVariants as stop
 use Rattle.xmp_instr.specs.declared.meeting.Meeting.{Meeting}
 use Rattle.xmp_instr.specs.declared.parts.Guard.{Guard}
 use Rattle.xmp_instr.specs.declared.parts.CodeParts.{CodeParts}
-use Rattle.xmp_instr.specs.Data.{Data, indexed, step_taken, with_indexed, with_read, with_text}
+use Rattle.xmp_instr.specs.Data.{indexed, step_taken, with_indexed, with_read, with_text}
 use Rattle.xmp_instr.specs.Node.{Stage, Going, Meets, Over, Node}
 use Rattle.xmp_instr.specs.Tables.{asked, extent_of, owns}
 use Rattle.xmp_instr.specs.Effects as e

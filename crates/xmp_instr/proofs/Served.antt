@@ -1,15 +1,11 @@
 -- A node of a valid code fits the code when it is served, and when it goes on from a meeting.
-use Rattle.std.proofs.Common.{◌≡◌, ◌<◌, ◌≤◌, ◌+◌, ◌-◌, ◌≢◌, ◌⊎◌, inl, inr, ℕ, zero, suc, Bool, true, false, List, [], ◌∷◌, length, map, take, ℤ, pos, refl, sym, ap, subst, ◌∙◌, arith, Option, Some, None, slice_get, slice_set, if◌then◌else◌}
-use Rattle.std.proofs.lemmas.Bool.{false≢true}
+use Rattle.std.proofs.Common.{◌≡◌, ◌≤◌, ◌+◌, ◌-◌, inl, inr, ℕ, zero, suc, true, List, [], ◌∷◌, length, map, take, ℤ, refl, sym, ap, subst, ◌∙◌, arith, Option, Some, None, slice_get, slice_set}
 use Rattle.std.proofs.lemmas.List.{length-set}
 use Rattle.std.proofs.lemmas.Option.{none-some, same_Some}
-use Rattle.xmp_num.specs.declared.types.TrapKind.{TrapKind}
-use Rattle.xmp_base.specs.declared.place.Place.{Place}
 use Rattle.xmp_meaning.specs.TrapWords.{SaidTrap}
 use Rattle.xmp_message.specs.declared.Message.{Message}
 use Rattle.xmp_move.specs.declared.kind.MoveKind.{MoveKind}
 use Rattle.xmp_move.specs.Stores.{write_all}
-use Rattle.xmp_instr.specs.declared.instr.Instr.{Instr}
 use Rattle.xmp_instr.specs.declared.instr.Instr.TheVariants as i
 use Rattle.xmp_instr.specs.declared.meeting.Reduced.{Reduced}
 use Rattle.xmp_instr.specs.declared.meeting.Meeting.{Meeting}
@@ -19,14 +15,14 @@ use Rattle.xmp_instr.specs.Data.{Data}
 use Rattle.xmp_instr.specs.Node.{Standing, Stage, Going, Meets, Over, Node}
 use Rattle.xmp_instr.specs.Meetings.{words_due, all_nodes, filled_slots, said_by}
 use Rattle.xmp_instr.specs.Effects.{numbers_for}
-use Rattle.xmp_instr.specs.Depths.{IsDepth, IsFine, meeting_needs}
+use Rattle.xmp_instr.specs.Depths.{meeting_needs}
 use Rattle.xmp_instr.specs.Resumed.{TaskSaid, combined, ended, gone_on, loop_ended, loop_ended_by, reduced_from, resumed_at, resumed_from, tasks_ended, unpacked, values_said, with_combined, with_task_texts, with_words}
 use Rattle.xmp_instr.specs.Resumed as r
-use Rattle.xmp_instr.specs.Serving.{AtMeeting, with_answer, without_put, answered, heard, heard_at, passed, passed_at, put_done, sync_done, told, told_at}
+use Rattle.xmp_instr.specs.Serving.{AtMeeting, with_answer, without_put, heard, heard_at, passed, passed_at, put_done, sync_done, told, told_at}
 use Rattle.xmp_instr.specs.Valid.{IsValid}
-use Rattle.xmp_instr.specs.Fits.{Fits, StageFits, StandsAt, below_calls, depth_at, numbers_taken}
+use Rattle.xmp_instr.specs.Fits.{Fits, StageFits, StandsAt, depth_at, numbers_taken}
 use Rattle.xmp_instr.specs.Laws.{AnsweredFit, HeardFit, PassedFit, ResumedFit, ToldFit}
-use Rattle.xmp_instr.proofs.Fitting.{At, at_instr, fine_at, to_keeps, depth_is, place_there}
+use Rattle.xmp_instr.proofs.Fitting.{at_instr, fine_at, to_keeps, depth_is, place_there}
 
 -- ---- messages
 

@@ -1,5 +1,5 @@
 -- Where a node that fits a valid code has no next state.
-use Rattle.std.proofs.Common.{◌≡◌, ◌↔◌, ◌<◌, ◌≤◌, ◌+◌, ◌-◌, ℕ, zero, suc, Bool, true, false, List, [], ◌∷◌, length, take, drop, reverse, ℤ, refl, sym, ap, subst, ◌∙◌, arith, Option, Some, None, slice_get, if◌then◌else◌}
+use Rattle.std.proofs.Common.{◌≡◌, ◌↔◌, ◌<◌, ◌≤◌, ℕ, zero, suc, Bool, true, false, List, [], ◌∷◌, length, take, drop, reverse, ℤ, refl, sym, ap, subst, arith, Option, Some, None, slice_get, if◌then◌else◌}
 use Rattle.std.specs.Prelude.{nat_lt, ◌^◌, int_le, Result, Ok, Err}
 use Rattle.std.proofs.lemmas.Bool.{ltb-true, ltb-false, false≢true}
 use Rattle.std.proofs.lemmas.Option.{none-some}
@@ -11,7 +11,7 @@ use Rattle.xmp_num.specs.Arithmetic.{binary_of, truth}
 use Rattle.xmp_meaning.specs.Formats.{printed}
 use Rattle.xmp_map.specs.declared.array_map.ArrayMap.{ArrayMap}
 use Rattle.xmp_map.specs.declared.template.Template.{Template}
-use Rattle.xmp_meaning.specs.Expressions.{is_zero, within}
+use Rattle.xmp_meaning.specs.Expressions.{within}
 use Rattle.xmp_steps.specs.Machine.{Next, Goes, Stops, Stuck}
 use Rattle.xmp_instr.specs.declared.instr.Instr.{Instr}
 use Rattle.xmp_instr.specs.declared.instr.Instr.TheVariants as i
@@ -21,13 +21,13 @@ use Rattle.xmp_instr.specs.declared.meeting.Meeting.{Meeting}
 use Rattle.xmp_instr.specs.declared.parts.Guard.{Guard}
 use Rattle.xmp_instr.specs.declared.parts.CodeParts.{CodeParts}
 use Rattle.xmp_instr.specs.Data.{step_taken, with_text}
-use Rattle.xmp_instr.specs.Node.{Stage, Going, Meets, Over, Node}
+use Rattle.xmp_instr.specs.Node.{Going, Node}
 use Rattle.xmp_instr.specs.Tables.{asked, extent_of, owns}
 use Rattle.xmp_instr.specs.Effects as e
 use Rattle.xmp_instr.specs.Effects.{numbers_for, meeting_fault}
 use Rattle.xmp_instr.specs.Depths.{format_needs, meeting_needs}
 use Rattle.xmp_instr.specs.Valid.{IsValid, InRange, HasAxis, HasDimension, HasDimensions}
-use Rattle.xmp_instr.specs.Fits.{Fits, GuardIsThere, below_calls, depth_at}
+use Rattle.xmp_instr.specs.Fits.{Fits, GuardIsThere, depth_at}
 use Rattle.xmp_instr.specs.Laws.{HasNoNext, HasNoNextAt, OutsideMap, StuckOnly, TopIs, SecondIs, EndsBefore}
 use Rattle.xmp_instr.proofs.Lists.{all_at}
 use Rattle.xmp_instr.proofs.Fitting.{At, at_instr}

@@ -10,7 +10,7 @@ use Rattle.xmp_instr.specs.declared.instr.Instr.{Instr}
 use Rattle.xmp_instr.specs.declared.instr.Instr.TheVariants as i
 use Rattle.xmp_instr.specs.declared.stop.Stop.{Stop}
 use Rattle.xmp_instr.specs.declared.parts.CodeParts.{CodeParts}
-use Rattle.xmp_instr.specs.Node.{Standing, Stage, Going, Meets, Over, Node, beginning}
+use Rattle.xmp_instr.specs.Node.{Stage, Going, Meets, Over, Node, beginning}
 use Rattle.xmp_instr.specs.Meetings.{words_due}
 use Rattle.xmp_instr.specs.Tables.{extent_of}
 use Rattle.xmp_instr.specs.Effects.{next}

@@ -1,5 +1,5 @@
 -- What is asked of the sides of a transfer, one by one and together (this project).
-use Rattle.std.specs.Prelude.{◌≡◌, ◌≤◌, ◌⊎◌, ◌+◌, ℕ, false, IsTrue, length}
+use Rattle.std.specs.Prelude.{◌≡◌, ◌≤◌, ◌⊎◌, ◌+◌, false, IsTrue, length}
 use Rattle.std.specs.List.{list_all}
 use Rattle.xmp_base.specs.Limits.{cell_limit}
 use Rattle.xmp_dist.specs.Valid.{is_extent}

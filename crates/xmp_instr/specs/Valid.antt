@@ -1,6 +1,6 @@
 -- Which parts make a code (this project).
 use Rattle.std.specs.Prelude.{◌≡◌, ◌<◌, ◌≤◌, ◌+◌, ◌&&◌, nat_lt, nat_le, ℕ, Bool, true, false, IsTrue, List, [], ◌∷◌, length, Option, Some, None, slice_get}
-use Rattle.std.specs.List.{AllByRecursion, list_all, last_or}
+use Rattle.std.specs.List.{AllByRecursion, last_or}
 use Rattle.xmp_base.specs.Limits.{node_limit}
 use Rattle.xmp_num.specs.declared.types.Ty.{Ty}
 use Rattle.xmp_map.specs.declared.template.Template.{Template}

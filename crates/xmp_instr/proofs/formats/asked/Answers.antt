@@ -1,4 +1,4 @@
-use Rattle.std.proofs.Common.{◌≡◌, ◌+◌, ◌∙◌, sym, ap, arith, drop, []}
+use Rattle.std.proofs.Common.{◌≡◌, ap, arith, drop}
 use Rattle.std.proofs.lemmas.List.{drop_all}
 use Rattle.xmp_instr.specs.FormatTests.{asked_from}
 use Rattle.xmp_instr.proofs.FormatLaws.{asked_is}

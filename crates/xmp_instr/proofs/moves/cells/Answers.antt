@@ -1,4 +1,4 @@
-use Rattle.std.proofs.Common.{◌≡◌, ◌<◌, ◌≤◌, ◌*◌, ◌+◌, ◌∙◌, ℕ, sym, ap, subst, arith, drop, get_or}
+use Rattle.std.proofs.Common.{◌≡◌, ◌*◌, ◌+◌, ◌∙◌, ℕ, sym, ap, arith, drop, get_or}
 use Rattle.xmp_map.specs.RowMajor.{product}
 use Rattle.xmp_instr.proofs.Sizes.{extents_on, grown, product_end, product_on, too_many}
 use Rattle.xmp_instr.proofs.moves.cells.Goals as goal

@@ -1,4 +1,4 @@
-use Rattle.std.proofs.Common.{◌≡◌, ◌↔◌, ◌≤◌, ◌^◌, ◌∙◌, rules, sym, subst}
+use Rattle.std.proofs.Common.{◌≤◌, ◌^◌, rules, sym, subst}
 use Rattle.xmp_instr.specs.Valid.{MoveFits}
 use Rattle.xmp_instr.proofs.MoveLaws.{gmove_is, match_is, reflect_is}
 use Rattle.xmp_instr.proofs.moves.move_fits.Goals as goal
