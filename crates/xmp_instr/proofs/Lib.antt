@@ -1,0 +1,9 @@
+pub mod Lists
+pub mod FormatLaws
+pub mod BuiltFormats
+pub mod Sizes
+pub mod Fitting
+pub mod Stuck
+pub mod Served
+pub mod MoveLaws
+pub mod Quiet

@@ -1,0 +1,14 @@
+pub mod Data
+pub mod Node
+pub mod Tables
+pub mod Meetings
+pub mod Effects
+pub mod Resumed
+pub mod Serving
+pub mod Depths
+pub mod Valid
+pub mod Fits
+pub mod Sides
+pub mod FormatTests
+pub mod Listing
+pub mod Laws
