@@ -67,8 +67,8 @@ module _ {A : Type 0} (f : A → Text) (r : Rule) (P : A → Type 0) (item : Ite
 
   -- all between one pair of parentheses
   pub parens_read : (x : Inside (CommaList A)) → FitsList P x.item → (K : List Rule) (us : List Token) → Next K us → Next (g.parens (g.list r) ∷ K) (in_parens (list f) x us)
-  parens_read x F K us n = fast 3 (λ E. go (list_reads f r P (EndsExpr false) item (λ q vs. ((refl, refl, refl, refl), refl)) x.item F
-      (tok closing (is_mark m.CloseParen) ∷ K) (t.Mark m.CloseParen at x.close ∷ us) ((refl, refl, refl, refl), refl) refl (fast 1 (λ E. go n))))
+  parens_read x F K us n = fast 2 (λ E. go (silent 1 (λ E x xs. refl) (list_reads f r P (EndsExpr false) item (λ q vs. ((refl, refl, refl, refl), refl)) x.item F
+      (tok closing (is_mark m.CloseParen) ∷ K) (t.Mark m.CloseParen at x.close ∷ us) ((refl, refl, refl, refl), refl) refl (fast 1 (λ E. go n)))))
 
 -- Items in brackets, or between parentheses.
 module _ {A B : Type 0} (f : A → Text) (q : Rule) (P : A → Type 0) (one : ItemReads f q P) (h : B → Text) (r : Rule) (Q : B → Type 0) (other : ItemReads h r Q) where

@@ -202,14 +202,14 @@ same_point (pt.Index u x) (pt.Index u' y) F G r s w v e = let a = same_offset x 
 same_point _ _ F G r s w v e = cc
 
 -- what is there stands in one form or the other
-pub some_fit : {A B : Type 0} {P : A → Type 0} {Q : B → Type 0} (x : Several A B) → FitsSeveral P Q x → FitsAnySeveral P Q x
-some_fit (sev.Brackets xs) F = F.1
-some_fit (sev.Parens x) F = F
+pub some_fit : {A B : Type 0} (P : A → Type 0) (Q : B → Type 0) (x : Several A B) → FitsSeveral P Q x → FitsAnySeveral P Q x
+some_fit P Q (sev.Brackets xs) F = F.1
+some_fit P Q (sev.Parens x) F = F
 
 pub same_points : (x y : Several Point Point) → FitsSeveral FitsPoint FitsPoint x → FitsSeveral FitsPoint FitsPoint y → (r s : List Token)
     → Not (is_mark m.OpenParen) r → Not (is_mark m.OpenBracket) r → Not (is_mark m.OpenParen) s → Not (is_mark m.OpenBracket) s
     → kinds (several point point x r) ≡ kinds (several point point y s) → Alike (several point point) (sh.several sh.point sh.point) x y r s
-same_points x y F G = same_several point sh.point FitsPoint same_point point sh.point FitsPoint same_point x y (some_fit x F) (some_fit y G)
+same_points x y F G = same_several point sh.point FitsPoint same_point point sh.point FitsPoint same_point x y (some_fit _ _ x F) (some_fit _ _ y G)
 
 all_dims : (xs : List (Inside AlignDimension)) → FitsDims (λ y. ⊤) xs
 all_dims [] = tt
@@ -255,7 +255,7 @@ no_star_first e F r ks h = let k : starts (t.Mark m.Star) ≡ true = first_kind 
 same_sizes : (x y : Several made.Expr made.Expr) → FitsSeveral FitsExpr FitsExpr x → FitsSeveral FitsExpr FitsExpr y → (r s : List Token)
     → Not (is_mark m.OpenParen) r → Not (is_mark m.OpenBracket) r → Not (is_mark m.OpenParen) s → Not (is_mark m.OpenBracket) s
     → kinds (several expr expr x r) ≡ kinds (several expr expr y s) → Alike (several expr expr) (sh.several sh.expr sh.expr) x y r s
-same_sizes x y F G = same_several expr sh.expr FitsExpr same_expr expr sh.expr FitsExpr same_expr x y (some_fit x F) (some_fit y G)
+same_sizes x y F G = same_several expr sh.expr FitsExpr same_expr expr sh.expr FitsExpr same_expr x y (some_fit _ _ x F) (some_fit _ _ y G)
 
 -- sizes to the end of a line are no size with a set behind it
 not_part : (x : Several made.Expr made.Expr) (z : Single made.Expr) → FitsSeveral FitsExpr FitsExpr x → FitsSingle FitsExpr z → (c a : Place) (r s : List Token)
@@ -340,11 +340,11 @@ same_mapping (mp.NodesPart l v x a z) (mp.NodesStar l' v' y) F G r s e = absurd 
 same_mapping (mp.Template l v x) (mp.Template l' v' y) F G r s e =
     let k = behind_word (codes "template") l l' v v' (several expr range x (t.Close at l.end ∷ r)) (several expr range y (t.Close at l'.end ∷ s)) e in
     same_line (codes "template") mp.Template (several expr range) (sh.several sh.expr sh.range) l l' v v' x y r s k.0
-    (same_several expr sh.expr FitsExpr same_expr range sh.range FitsRange same_range x y (some_fit x F) (some_fit y G) (t.Close at l.end ∷ r) (t.Close at l'.end ∷ s) refl refl refl refl k.1)
+    (same_several expr sh.expr FitsExpr same_expr range sh.range FitsRange same_range x y (some_fit _ _ x F) (some_fit _ _ y G) (t.Close at l.end ∷ r) (t.Close at l'.end ∷ s) refl refl refl refl k.1)
 same_mapping (mp.Distribute l v x a o) (mp.Distribute l' v' y b o') F G r s e =
     let u : List Token = t.Name (codes "onto") at a ∷ name o (t.Close at l.end ∷ r) in
     let w : List Token = t.Name (codes "onto") at b ∷ name o' (t.Close at l'.end ∷ s) in
-    let d = same_several dist_form sh.dist_form FitsForm same_form dist_form sh.dist_form FitsForm same_form x y (some_fit x F) (some_fit y G) u w refl refl refl refl (cc) in
+    let d = same_several dist_form sh.dist_form FitsForm same_form dist_form sh.dist_form FitsForm same_form x y (some_fit _ _ x F) (some_fit _ _ y G) u w refl refl refl refl (cc) in
     let k = same_target (codes "onto") a b o o' (t.Close at l.end ∷ r) (t.Close at l'.end ∷ s) d.1 in (
       λ q. ap (starting (codes "distribute")) (behind_name (sh.several sh.dist_form sh.dist_form) v v' x y (cc) d.0 (sh.spelled (codes "onto") (sh.name o (ending q))) ∙ ap (λ z. sh.name v' (sh.several sh.dist_form sh.dist_form y z)) (k.0 (ending q))),
       (let j = k.1 in cc),
