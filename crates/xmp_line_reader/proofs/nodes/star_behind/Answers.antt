@@ -2,7 +2,7 @@ use Rattle.std.proofs.Common.{rules, ◌≡◌, ℕ, true, false, sym, refl, ap,
 use Rattle.std.proofs.lemmas.Result.{err_from_is_err_and}
 use Rattle.xmp_reader.proofs.Opening.{seq, into, skip, first, second, again, no_more}
 use Rattle.xmp_reader.proofs.Listing.{split, whole, once_more, if_so, if_not, none_so_far, one_more}
-use Rattle.xmp_line_reader.proofs.mappings.star_behind.Goals as goal
+use Rattle.xmp_line_reader.proofs.nodes.star_behind.Goals as goal
 
 pub returns-in_err-item-clause-goes : goal.returns-in_err-item-clause-goes
 returns-in_err-item-clause-goes c = λ s L N K w.
