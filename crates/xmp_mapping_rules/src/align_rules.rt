@@ -1,5 +1,5 @@
 // The rules of aligns.
-ghost use Rattle.std.specs.Prelude.{◌≡◌, ◌++◌, ◌&&◌, IfOk, OnOk, option_copied, slice_get};
+ghost use Rattle.std.specs.Prelude.{◌≡◌, ◌++◌, ◌&&◌, ◌-ℤ◌, IfOk, OnOk, option_copied, slice_get};
 ghost use Rattle.xmp_names.specs.Sizes.{extents_in, is_small, lower_at};
 ghost use Rattle.xmp_mapping_rules.specs.MappingRules.{align_of, align_right, align_rule, align_rules, aligned, all_different, dimension_in, dimensions_in, distributed, distributes, dummies_right, point_fits, point_right, points_right, reaches};
 
@@ -65,14 +65,33 @@ fn reaches(size: i64, position: i128, extent: Option<u32>) -> bool
     }
 }
 
+// Where a constant puts subscript 0 of an array: at the coordinate less the lower bound.
+fn position_of(lower: i64, c: i64) -> i128
+    ensures { result ≡ c -ℤ lower }
+{
+    i128::from(c) - i128::from(lower)
+}
+
+fn extent_at(extents: &[u32], dimension: usize) -> Option<u32>
+    ensures { result ≡ slice_get extents.now dimension }
+{
+    extents.get(dimension).copied()
+}
+
+fn size_at(sizes: &[i64], dimension: usize) -> Option<i64>
+    ensures { result ≡ slice_get sizes.now dimension }
+{
+    sizes.get(dimension).copied()
+}
+
 fn point_right(extents: &[u32], spread: bool, lower: i64, size: i64, point: AlignPoint) -> bool
     ensures { result ≡ point_right extents.now spread lower size point }
 {
     match point {
         AlignPoint::Star => !spread,
         AlignPoint::Dummy { dimension, offset } => {
-            let position = i128::from(offset) - i128::from(lower);
-            is_small(offset) && reaches(size, position, extents.get(dimension).copied())
+            let extent = extent_at(extents, dimension);
+            is_small(offset) && reaches(size, position_of(lower, offset), extent)
         }
     }
 }
@@ -104,7 +123,9 @@ fn point_at(
     ensures { result ≡ point_fits extents.now (distributes (slice_get forms.now i)) (lower_at lowers.now i) (slice_get sizes.now i) point }
 {
     let spread = distributes(forms, i);
-    point_fits(extents, spread, lower_at(lowers, i), sizes.get(i).copied(), point)
+    let lower = lower_at(lowers, i);
+    let size = size_at(sizes, i);
+    point_fits(extents, spread, lower, size, point)
 }
 
 fn points_right(
