@@ -58,9 +58,7 @@ fn reaches(size: i64, position: i128, extent: Option<u32>) -> bool
     ensures { result ≡ reaches size position extent }
 {
     match extent {
-        Some(extent) => {
-            0 <= position && position <= i128::from(size) - i128::from(extent)
-        }
+        Some(extent) => { 0 <= position && position <= i128::from(size) - i128::from(extent) }
         None => false,
     }
 }

@@ -8,9 +8,7 @@ use crate::numbers::{Numbers, is_at};
 use sqlite_items::Items;
 use std::alloc::{AllocError, Global};
 use std::marker::Model;
-use xmp_names::{
-    Align, Distribution, Form, NodesLine, Shadow, World, given_or_one, line_sizes,
-};
+use xmp_names::{Align, Distribution, Form, NodesLine, Shadow, World, given_or_one, line_sizes};
 
 /// A world with the sizes of its nodes array, and with the first line on each of its templates and arrays, which is found
 /// at once. A clause sees the world.
