@@ -48,7 +48,7 @@ def texts(name, page):
         if words in ("output", "input"):
             if not found or not found[-1]["serial"]:
                 sys.exit(f"{name}:{line}: no text to be run stands before this {words}")
-            found[-1][words] = text
+            found[-1][words] = eval(text, dict(named)) if language == "python" else text
         elif words and words.startswith("text "):
             named[words.split(" ")[1]] = eval(text, dict(named)) if language == "python" else text
         elif words:
