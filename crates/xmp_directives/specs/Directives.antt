@@ -1,5 +1,5 @@
 -- Directives among statements: what each becomes, and what it breaks (XcalableMP 1.4, sections 4.4 and 4.5).
-use Rattle.std.specs.Prelude.{⊤, ◌++◌, ◌∷◌, [], ℕ, zero, suc, ◌+◌, ◌==◌, List, ℤ, pos, negsuc, neg_ℤ, ◌+ℤ◌, int_le, nat_le, nat_lt, Bool, true, false, not, ◌&&◌, ◌||◌, if◌then◌else◌, Option, Some, None, length, map, drop, slice_get}
+use Rattle.std.specs.Prelude.{⊤, ◌++◌, ◌∷◌, [], ℕ, zero, suc, ◌+◌, ◌==◌, List, ℤ, pos, neg_ℤ, ◌+ℤ◌, ◌-ℤ◌, int_le, nat_le, nat_lt, Bool, true, false, not, ◌&&◌, ◌||◌, if◌then◌else◌, Option, Some, None, length, map, drop, slice_get}
 use Rattle.std.specs.Option.{unwrap_or}
 use Rattle.std.specs.List.{list_all, count_by, flat_map}
 use Rattle.xmp_base.specs.declared.place.Place.{Place}
@@ -38,6 +38,9 @@ use Rattle.xmp_syntax.specs.declared.expression.Expr.{Expr}
 use Rattle.xmp_syntax.specs.declared.directive.DirectiveLine.{DirectiveLine}
 use Rattle.xmp_syntax.specs.declared.directive.Point.{Point}
 use Rattle.xmp_syntax.specs.declared.directive.Point.TheVariants as point
+use Rattle.xmp_syntax.specs.declared.directive.Piece.{Piece}
+use Rattle.xmp_syntax.specs.declared.directive.Piece.TheVariants as piece
+use Rattle.xmp_syntax.specs.declared.directive.NodesSet.{NodesSet}
 use Rattle.xmp_syntax.specs.declared.directive.Section.{Section}
 use Rattle.xmp_syntax.specs.declared.directive.Section.TheVariants as section
 use Rattle.xmp_syntax.specs.declared.directive.Sections.{Sections}
@@ -48,6 +51,8 @@ use Rattle.xmp_syntax.specs.declared.directive.LoopLine.{LoopLine}
 use Rattle.xmp_syntax.specs.declared.directive.TaskLine.{TaskLine}
 use Rattle.xmp_names.specs.declared.names.Meaning.{Meaning}
 use Rattle.xmp_names.specs.declared.names.Meaning.TheVariants.{Scalar, Array}
+use Rattle.xmp_names.specs.declared.mappings.Notation.{Notation}
+use Rattle.xmp_names.specs.declared.mappings.Notation.TheVariants.{Brackets, Parens}
 use Rattle.xmp_names.specs.declared.mappings.NodesLine.{NodesLine}
 use Rattle.xmp_names.specs.declared.mappings.TemplateLine.{TemplateLine}
 use Rattle.xmp_directives.specs.declared.loop_lines.LoopParts.{LoopParts}
@@ -55,8 +60,8 @@ use Rattle.xmp_names.specs.declared.rules.Rule.TheVariants.{N1, N3, M7, M8, M9}
 use Rattle.xmp_names.specs.declared.world.World.{World}
 use Rattle.xmp_names.specs.Expressions.{is_nothing}
 use Rattle.xmp_names.specs.Walk.{Gave, Run, ◌>>=◌, pure, each, if_there, judge, typed, constant, first_place, meaning_of, name_of, a_scalar, an_int_scalar, an_array, a_nodes, a_template, directive_at}
-use Rattle.xmp_names.specs.Lists.{listed, inner}
-use Rattle.xmp_names.specs.Sizes.{is_small, limited, natural, given_or_one, line_sizes, extents_in}
+use Rattle.xmp_names.specs.Lists.{listed, inner, parts, notation, is_same}
+use Rattle.xmp_names.specs.Sizes.{is_small, limited, held, lower_at, natural, given_or_one, line_sizes, extents_in}
 
 -- ---- names and constants
 
@@ -80,7 +85,7 @@ array_name n = do
   number ← name_of an_array n
   pure (record { number = unwrap_or number 0; at = n.at })
 
--- The constant behind a name in a point: nothing, `+ c` or `- c`.
+-- The constant behind a name in a point, as written: nothing, `+ c` or `- c`.
 abbrev pub signed : Mark → ℤ → ℤ
 signed m.Minus c = neg_ℤ c
 signed _ c = c
@@ -101,9 +106,14 @@ point_of (point.Index n offset) = do
   c ← offset_of offset
   pure (Some (slot, c))
 
-abbrev pub made_of_point : Option (ℕ × ℤ) → made_point.Point
-made_of_point None = mp.Any
-made_of_point (Some x) = mp.Index x.0 (limited x.1)
+-- The points in the typed program: a constant is held less the lower bound of its dimension.
+abbrev pub made_of_point : ℤ → Option (ℕ × ℤ) → made_point.Point
+made_of_point lower None = mp.Any
+made_of_point lower (Some x) = mp.Index x.0 (held lower x.1)
+
+abbrev pub made_points : List ℤ → ℕ → List (Option (ℕ × ℤ)) → List made_point.Point
+made_points lowers k [] = []
+made_points lowers k (x ∷ xs) = made_of_point (lower_at lowers k) x ∷ made_points lowers (k + 1) xs
 
 abbrev pub slot_of_point : Option (ℕ × ℤ) → List ℕ
 slot_of_point None = []
@@ -148,14 +158,23 @@ reductions_of done (r ∷ rs) = do
   more ← each (reduction_name (operation_of r.list.item.0)) (listed r.list.item.2)
   reductions_of (done ++ more) rs
 
--- A template has as many points as dimensions; none is known of one that isn't declared.
-abbrev pub dimensions : Option TemplateLine → ℕ
-dimensions None = 0
-dimensions (Some t) = length t.sizes
+-- A template has as many points or forms as dimensions, and is written as in its own directive.
+abbrev pub template_takes : Notation → ℕ → Option TemplateLine → Bool
+template_takes written count None = false
+template_takes written count (Some t) = (count == length t.sizes) && is_same written t.notation
 
-abbrev pub match_template : Option ℕ → ℕ → Place → Run ⊤
-match_template None count at = pure tt
-match_template (Some k) count at = λ w. judge (count == dimensions (slice_get w.mappings.templates k)) N3 at w
+abbrev pub match_template : Option ℕ → Notation → ℕ → Place → Run ⊤
+match_template None written count at = pure tt
+match_template (Some k) written count at = λ w. judge (template_takes written count (slice_get w.mappings.templates k)) N3 at w
+
+-- The lower bounds of a template; none are known of one that isn't declared.
+abbrev pub lowers_in : Option TemplateLine → List ℤ
+lowers_in None = []
+lowers_in (Some t) = t.lowers
+
+abbrev pub lowers_of : Option ℕ → Run (List ℤ)
+lowers_of None = pure []
+lowers_of (Some k) = λ w. Gave (lowers_in (slice_get w.mappings.templates k)) w
 
 -- The nest of a loop: so many counted loops, each the body of the one before, in braces or not; and what is left.
 abbrev pub single : made.Stmt → List made.Stmt → made.Stmt
@@ -219,40 +238,49 @@ use_template (Some k) at indexed = λ w. Gave tt (record w {
   };
 })
 
-abbrev pub made_loop : ℕ → List (Option (ℕ × ℤ)) → Nest → List made_reduction.Reduction → Place → made.Stmt
-made_loop template points nest reductions at =
-    s.Loop (record { template = template; points = map made_of_point points; nest = nest.0; reductions = reductions; at = at }) nest.1
+abbrev pub made_loop : LoopParts → Nest → Place → made.Stmt
+made_loop l nest at =
+    s.Loop (record { template = unwrap_or l.template 0; points = made_points l.lowers 0 l.points; nest = nest.0; reductions = l.reductions; at = at }) nest.1
 
--- What a line of a loop directive says: its template, its points, its names or those of its points, and its reductions.
+-- What a line of a loop directive says: its template with the lower bounds, its points, its names or those of its points
+-- in their order, and its reductions.
 abbrev pub loop_line : LoopLine → Run LoopParts
 loop_line line = do
   _ ← directive_at line.line.word
   names ← if_there name_list line.names
   template ← name_of a_template line.template
-  points ← each point_of (inner line.points)
-  _ ← match_template template (length points) line.template.at
+  points ← each point_of (parts line.points)
+  _ ← match_template template (notation line.points) (length points) line.template.at
+  lowers ← lowers_of template
   reductions ← reductions_of [] line.reductions
-  pure (record { template = template; points = points; names = names_or names (slots_of_points points); reductions = reductions })
+  pure (record { template = template; lowers = lowers; points = points; names = names_or names (slots_of_points points); reductions = reductions })
 
 abbrev pub judged_loop : Place → LoopParts → Nest → Run made.Stmt
-judged_loop word parts nest = do
-  _ ← judge (loop_right parts.names parts.points nest.0) M7 word
-  _ ← use_template parts.template word (map is_indexed parts.points)
-  pure (made_loop (unwrap_or parts.template 0) parts.points nest parts.reductions word)
+judged_loop word l nest = do
+  _ ← judge (loop_right l.names l.points nest.0) M7 word
+  _ ← use_template l.template word (map is_indexed l.points)
+  pure (made_loop l nest word)
 
 -- ---- sets of nodes
 
--- A subscript or a section of a set: nothing for `:`, else the first node and how many there are.
-abbrev pub count_of : Option (Place × Expr) → Run ℤ
-count_of None = pure (pos 1)
-count_of (Some x) = constant x.1
+-- The nodes of a piece, counted from 0: the first and how many there are. In brackets `b:n` are the n nodes from b on; in
+-- parentheses, where nodes are counted from 1, `b:e` are the nodes b to e.
+abbrev pub nodes_from : Notation → ℤ → Option ℤ → ℤ × ℤ
+nodes_from Brackets b None = (b, pos 1)
+nodes_from Brackets b (Some n) = (b, n)
+nodes_from Parens b None = (b -ℤ pos 1, pos 1)
+nodes_from Parens b (Some e) = (b -ℤ pos 1, e -ℤ b +ℤ pos 1)
 
-abbrev pub set_part : Section → Run (Option (ℤ × ℤ))
-set_part (section.All at) = pure None
-set_part (section.Numbers first many step) = do
-  a ← constant first
-  n ← count_of many
-  pure (Some (a, n))
+-- A piece of a set: nothing for `:`.
+abbrev pub second_of : Option (Place × Expr) → Run (Option ℤ)
+second_of x = if_there (λ y. constant y.1) x
+
+abbrev pub piece_of : Notation → Piece → Run (Option (ℤ × ℤ))
+piece_of written (piece.All at) = pure None
+piece_of written (piece.Numbers first second) = do
+  b ← constant first
+  x ← second_of second
+  pure (Some (nodes_from written b x))
 
 -- The sizes of the nodes array of a set.
 abbrev pub sizes_in : ℕ → Option NodesLine → List ℤ
@@ -295,19 +323,36 @@ box_of sizes rs =
     then record { first = filled 0 (map (λ r. node_number r.0) rs); many = filled 1 (map (λ r. node_number r.1) rs) }
     else record { first = 0 ∷ 0 ∷ 0 ∷ []; many = 1 ∷ 1 ∷ 1 ∷ [] }
 
+-- A nodes array has a piece for each dimension, and is written as in its own directive; or it has none.
+abbrev pub dimensions_of : Option (List ℤ) → ℕ
+dimensions_of None = 1
+dimensions_of (Some sizes) = length sizes
+
+abbrev pub nodes_take : Notation → ℕ → Option NodesLine → Bool
+nodes_take written count None = false
+nodes_take written count (Some l) = (count == dimensions_of l.sizes) && is_same written l.notation
+
+abbrev pub match_nodes : Option ℕ → Notation → ℕ → Place → Run ⊤
+match_nodes None written count at = pure tt
+match_nodes (Some k) written count at = λ w. judge ((count == 0) || nodes_take written count (slice_get w.mappings.nodes k)) N3 at w
+
 -- A set breaks a rule at a directive's word where it leaves the nodes array, or where one node is asked for and it has more.
 abbrev pub is_one : List (ℤ × ℤ) → Bool
 is_one rs = list_all (λ r. int_le r.1 (pos 1)) rs
 
-abbrev pub set_of : Bool → Place → Sections → Run NodeSet
-set_of one_node word x = do
-  number ← name_of a_nodes x.name
+abbrev pub judged_set : Bool → Place → Option ℕ → List (Option (ℤ × ℤ)) → Run NodeSet
+judged_set one_node word number pieces = do
   sizes ← nodes_sizes number
-  parts ← each set_part (inner x.sections)
-  let rs : List (ℤ × ℤ) = ranges sizes parts
-  _ ← judge (is_nothing parts || (length parts == length sizes)) N3 x.name.at
+  let rs : List (ℤ × ℤ) = ranges sizes pieces
   _ ← judge (ranges_right sizes rs && (not one_node || is_one rs)) M8 word
   pure (box_of sizes rs)
+
+abbrev pub set_of : Bool → Place → NodesSet → Run NodeSet
+set_of one_node word x = do
+  number ← name_of a_nodes x.name
+  pieces ← each (piece_of (notation x.pieces)) (parts x.pieces)
+  _ ← match_nodes number (notation x.pieces) (length pieces) x.name.at
+  judged_set one_node word number pieces
 
 -- ---- tasks
 
@@ -362,7 +407,7 @@ barrier_of line = do
   _ ← directive_at line.word
   pure (s.Plain (p.Barrier line.word))
 
-abbrev pub bcast_of : DirectiveLine → CommaList named.Name → Sections → Run made.Stmt
+abbrev pub bcast_of : DirectiveLine → CommaList named.Name → NodesSet → Run made.Stmt
 bcast_of line names from = do
   _ ← directive_at line.word
   variables ← each scalar_name (listed names)

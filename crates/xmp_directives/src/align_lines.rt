@@ -2,16 +2,18 @@
 ghost use Rattle.std.specs.Prelude.{◌≡◌, ⊤, [], IfOk, MatchResult, length, map, slice_get};
 ghost use Rattle.xmp_names.specs.Walk.{Does, Gave, each};
 ghost use Rattle.xmp_names.specs.Sizes.{extents_in};
-ghost use Rattle.xmp_names.specs.Lists.{inner};
+ghost use Rattle.xmp_names.specs.Lists.{inner, parts};
 ghost use Rattle.xmp_directives.specs.MappingLines.{align_line, align_point, aligned_points, dummies_from, dummy_in_point, dummy_of, has_dummy, keep_align, keep_shadow, match_array, no_dummy, second_width, shadow_line, widths_of};
 
 use crate::points::{match_template, offset_of};
 use sqlite_items::Items;
 use std::alloc::{AllocError, Global};
 use xmp_base::Place;
-use xmp_names::{Align, AlignPoint, Meaning, Rule, Shadow, World, extents_in};
+use xmp_names::{
+    Align, AlignPoint, Meaning, Rule, Shadow, World, extents_in, notation, part_at,
+};
 use xmp_scopes::Scopes;
-use xmp_syntax::{AlignDimension, Expr, Inside, Name, Point};
+use xmp_syntax::{AlignDimension, Expr, Inside, Name, Point, Several};
 
 fn has_dummy(dimension: &AlignDimension) -> bool
     ensures { result ≡ has_dummy dimension.now }
@@ -119,13 +121,13 @@ fn align_points(
     world: &mut World,
     alloc: Global,
     known: &Scopes<usize>,
-    list: &[Inside<Point>],
+    list: &Several<Point, Point>,
 ) -> Result<Items<AlignPoint>, AllocError>
-    ensures { Does (each (align_point known.now) (inner list.now) world.old) result world.new }
+    ensures { Does (each (align_point known.now) (parts list.now) world.old) result world.new }
 {
     let mut points = Items::new(alloc);
-    'list: for x in list {
-        let point = align_point(world, alloc, known, &x.item)?;
+    'list: while let Some(x) = part_at(list, points.len()) {
+        let point = align_point(world, alloc, known, x)?;
         points.push(point)?;
     }
     Ok(points)
@@ -180,7 +182,7 @@ fn aligned_points(
     alloc: Global,
     dimensions: &[Inside<AlignDimension>],
     template: &Name,
-    list: &[Inside<Point>],
+    list: &Several<Point, Point>,
 ) -> Result<(Option<u32>, Items<AlignPoint>), AllocError>
     ensures { Does (aligned_points dimensions.now template.now list.now world.old) result world.new }
 {
@@ -198,14 +200,14 @@ pub(crate) fn align_line(
     array: &Name,
     dimensions: &[Inside<AlignDimension>],
     template: &Name,
-    list: &[Inside<Point>],
+    list: &Several<Point, Point>,
 ) -> Result<(), AllocError>
     ensures { Does (align_line at array.now dimensions.now template.now list.now world.old) result world.new }
 {
     let number = world.array_of(array)?;
     match_array(world, number, dimensions.len(), array.at)?;
     let (onto, points) = aligned_points(world, alloc, dimensions, template, list)?;
-    match_template(world, onto, points.len(), template.at)?;
+    match_template(world, onto, notation(list), points.len(), template.at)?;
     let dummies = have_dummies(alloc, dimensions)?;
     keep_align(world, at, number, onto, dummies, points)
 }

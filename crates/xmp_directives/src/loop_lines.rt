@@ -5,28 +5,31 @@ ghost use Rattle.xmp_prog.specs.declared.statements.Stmt.{out-Stmt};
 ghost use Rattle.xmp_prog.specs.declared.statements.Stmt.TheVariants as stmt;
 ghost use Rattle.xmp_names.specs.declared.rules.Rule.TheVariants.{M7};
 ghost use Rattle.xmp_names.specs.Walk.{Does, and_then, each, if_there, judge};
-ghost use Rattle.xmp_names.specs.Lists.{inner, listed};
-ghost use Rattle.xmp_directives.specs.Directives.{counted_in, head_of, is_indexed, judged_loop, loop_line, loop_right, made_loop, made_of_point, mark_operation, name_list, names_or, nest_of, operation_of, point_of, reduction_name, reductions_of, slots_of_points, use_template};
+ghost use Rattle.xmp_names.specs.Lists.{listed, parts};
+ghost use Rattle.xmp_directives.specs.Directives.{counted_in, head_of, is_indexed, judged_loop, loop_line, loop_right, made_loop, made_of_point, made_points, mark_operation, name_list, names_or, nest_of, operation_of, point_of, reduction_name, reductions_of, slots_of_points, use_template};
 
-use crate::directives::{index_name, scalar_name, small_or_next};
+use crate::directives::{index_name, scalar_name};
 use crate::indices::{loop_right, slots_of_points};
-use crate::points::{match_template, offset_of};
+use crate::points::{lowers_of, match_template, offset_of};
 use sqlite_items::{Boxed, Items};
 use std::alloc::{AllocError, Global};
 use std::mem::drop;
 use xmp_base::Place;
 use xmp_lex::Mark;
-use xmp_names::{LoopUse, Rule, World};
+use xmp_names::{LoopUse, Rule, World, held, lower_at, notation, part_at};
 use xmp_num::RedOp;
 use xmp_prog as prog;
 use xmp_prog::{LoopHead, Stmt};
-use xmp_syntax::{CommaList, Inside, LoopLine, Name, Point, Reduction, ReductionOperator};
+use xmp_syntax::{
+    CommaList, Inside, LoopLine, Name, Point, Reduction, ReductionOperator, Several,
+};
 
-/// What the line of a loop directive says: the template by its number, its points, each with the slot of the index and the
-/// constant or nothing for `*`, the slots of its names, and its reductions.
+/// What the line of a loop directive says: the template by its number, with its lower bounds, its points, each with the slot
+/// of the index and the constant as written or nothing for `*`, the slots of its names, and its reductions.
 #[derive(Drop)]
 pub struct LoopParts {
     pub template: Option<u32>,
+    pub lowers: Items<i64>,
     pub points: Items<Option<(u32, i64)>>,
     pub names: Items<u32>,
     pub reductions: Items<prog::Reduction>,
@@ -48,13 +51,13 @@ fn point_of(world: &mut World, alloc: Global, x: &Point) -> Result<Option<(u32, 
 fn points_of(
     world: &mut World,
     alloc: Global,
-    list: &[Inside<Point>],
+    list: &Several<Point, Point>,
 ) -> Result<Items<Option<(u32, i64)>>, AllocError>
-    ensures { Does (each point_of (inner list.now) world.old) result world.new }
+    ensures { Does (each point_of (parts list.now) world.old) result world.new }
 {
     let mut done = Items::new(alloc);
-    'list: for x in list {
-        let point = point_of(world, alloc, &x.item)?;
+    'list: while let Some(x) = part_at(list, done.len()) {
+        let point = point_of(world, alloc, x)?;
         done.push(point)?;
     }
     Ok(done)
@@ -141,12 +144,15 @@ pub fn loop_line(world: &mut World, alloc: Global, line: &LoopLine) -> Result<Lo
     world.directive_at(line.line.word)?;
     let names = names_if_there(world, alloc, &line.names)?;
     let template = world.template_of(&line.template)?;
-    let points = points_of(world, alloc, line.points.as_slice())?;
-    match_template(world, template, points.len(), line.template.at)?;
+    let points = points_of(world, alloc, &line.points)?;
+    let written = notation(&line.points);
+    match_template(world, template, written, points.len(), line.template.at)?;
+    let lowers = lowers_of(world, alloc, template)?;
     let reductions = reductions_of(world, alloc, line.reductions.as_slice())?;
     let names = names_or(alloc, names, points.as_slice())?;
     Ok(LoopParts {
         template,
+        lowers,
         points,
         names,
         reductions,
@@ -251,24 +257,25 @@ fn indexed(alloc: Global, points: &[Option<(u32, i64)>]) -> Result<Items<bool>, 
 
 fn made_points(
     alloc: Global,
+    lowers: &[i64],
     points: &[Option<(u32, i64)>],
 ) -> Result<Items<prog::Point>, AllocError>
-    ensures { IfOk result (λ l. l ≡ map made_of_point points.now) }
+    ensures { IfOk result (λ l. l ≡ made_points lowers.now 0 points.now) }
 {
     let mut done = Items::new(alloc);
-    'points: for point in points {
-        done.push(made_of_point(*point))?;
+    'points: for (k, point) in points.iter().enumerate() {
+        done.push(made_of_point(lower_at(lowers, k), *point))?;
     }
     Ok(done)
 }
 
-fn made_of_point(point: Option<(u32, i64)>) -> prog::Point
-    ensures { result ≡ made_of_point point }
+fn made_of_point(lower: i64, point: Option<(u32, i64)>) -> prog::Point
+    ensures { result ≡ made_of_point lower point }
 {
     match point {
-        Some((slot, offset)) => prog::Point::Index {
+        Some((slot, c)) => prog::Point::Index {
             slot,
-            offset: small_or_next(offset),
+            offset: held(lower, c),
         },
         None => prog::Point::Any,
     }
@@ -367,9 +374,9 @@ fn made_loop(
     parts: LoopParts,
     nest: (Items<LoopHead>, Boxed<Stmt>),
 ) -> Result<Stmt, AllocError>
-    ensures { IfOk result (λ s. s ≡ made_loop (unwrap_or parts.template 0) parts.points nest parts.reductions word) }
+    ensures { IfOk result (λ s. s ≡ made_loop parts nest word) }
 {
-    let points = made_points(alloc, parts.points.as_slice())?;
+    let points = made_points(alloc, parts.lowers.as_slice(), parts.points.as_slice())?;
     let LoopParts {
         template,
         reductions,

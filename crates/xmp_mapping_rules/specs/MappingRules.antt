@@ -1,10 +1,11 @@
--- The rules of mappings, over the whole program: a mapping holds wherever it stands (XcalableMP 1.4, section 4.3).
+-- The rules of mappings, and the rule of names on parts of nodes arrays, over the whole program: a mapping holds wherever it
+-- stands (XcalableMP 1.4, section 4.3).
 -- Where a second `nodes`, or a second distribution, align or shadow of one name stands, it breaks a rule itself, and all
 -- other rules go by the first.
-use Rattle.std.specs.Prelude.{◌++◌, ◌∷◌, [], ℕ, ◌+◌, ◌*◌, ◌==◌, List, ℤ, pos, negsuc, ◌+ℤ◌, int_le, nat_lt, nat_le, Bool, true, false, not, ◌&&◌, ◌||◌, if◌then◌else◌, Option, Some, None, is_some, length, map, slice_get}
+use Rattle.std.specs.Prelude.{◌++◌, ◌∷◌, [], ℕ, ◌+◌, ◌*◌, ◌==◌, List, ℤ, pos, negsuc, ◌+ℤ◌, ◌-ℤ◌, int_le, nat_lt, nat_le, Bool, true, false, not, ◌&&◌, ◌||◌, if◌then◌else◌, Option, Some, None, is_some, length, map, slice_get}
 use Rattle.std.specs.Option.{unwrap_or}
 use Rattle.std.specs.Ordering.{int_eq}
-use Rattle.std.specs.List.{list_all, flat_map, count_by, enumerate_from, sum}
+use Rattle.std.specs.List.{list_all, flat_map, count_by, enumerate_from, sum, position}
 use Rattle.xmp_base.specs.declared.place.Place.{Place}
 use Rattle.xmp_map.specs.RowMajor.{product}
 use Rattle.xmp_map.specs.Spread.{sizes_fit}
@@ -19,12 +20,12 @@ use Rattle.xmp_names.specs.declared.mappings.Distribution.{Distribution}
 use Rattle.xmp_names.specs.declared.mappings.Align.{Align}
 use Rattle.xmp_names.specs.declared.mappings.Shadow.{Shadow}
 use Rattle.xmp_names.specs.declared.mappings.LoopUse.{LoopUse}
-use Rattle.xmp_names.specs.declared.rules.Rule.TheVariants.{M1, M2, M3, M4, M5, M6, M7, M10}
+use Rattle.xmp_names.specs.declared.rules.Rule.TheVariants.{N9, M1, M2, M3, M4, M5, M6, M7, M10}
 use Rattle.xmp_names.specs.declared.rules.Broken.{Broken}
 use Rattle.xmp_names.specs.declared.world.World.{World}
 use Rattle.xmp_names.specs.Rules.{unless}
 use Rattle.xmp_mapping_rules.specs.Numbers.{first_place, is_at}
-use Rattle.xmp_names.specs.Sizes.{is_extent, most_cells, is_small, natural, given_or_one, line_sizes, extents_in}
+use Rattle.xmp_names.specs.Sizes.{is_extent, most_cells, is_small, lower_at, natural, given_or_one, line_sizes, extents_in}
 
 -- ---- the first of several
 
@@ -69,6 +70,14 @@ template_sizes_in (Some t) = t.sizes
 abbrev pub template_sizes : World → ℕ → List ℤ
 template_sizes w k = template_sizes_in (slice_get w.mappings.templates k)
 
+-- And its lower bounds.
+abbrev pub template_lowers_in : Option TemplateLine → List ℤ
+template_lowers_in None = []
+template_lowers_in (Some t) = t.lowers
+
+abbrev pub template_lowers : World → ℕ → List ℤ
+template_lowers w k = template_lowers_in (slice_get w.mappings.templates k)
+
 -- Whether a form distributes its dimension, and whether by one interval for each node.
 abbrev pub is_distributed : Form → Bool
 is_distributed form.Whole = false
@@ -93,19 +102,23 @@ spans_intervals (Some f) = has_intervals f
 
 -- ---- nodes
 
--- The sizes of the nodes array; where there is none all nodes stand in a row.
+-- The nodes array of a program is the first that is no part of another.
+abbrev pub first_nodes : World → Option ℕ
+first_nodes w = position (λ l. not l.part) w.mappings.nodes
+
+-- Its sizes; where there is none all nodes stand in a row.
 abbrev pub sizes_or_row : ℕ → Option NodesLine → List ℤ
 sizes_or_row given None = pos given ∷ []
 sizes_or_row given (Some l) = line_sizes given l
 
 abbrev pub nodes_of : World → List ℤ
-nodes_of w = sizes_or_row (given_or_one w) (slice_get w.mappings.nodes 0)
+nodes_of w = sizes_or_row (given_or_one w) (item_at w.mappings.nodes (first_nodes w))
 
 -- How many nodes an array of these sizes has.
 abbrev pub node_product : List ℤ → ℕ
 node_product sizes = product (map natural sizes)
 
--- The number of nodes: the given one, else the product of the sizes, in which `[*]` is 1; 1 without a nodes array.
+-- The number of nodes: the given one, else the product of the sizes, in which `*` is 1; 1 without a nodes array.
 abbrev pub number_of_nodes : World → ℕ
 number_of_nodes w = unwrap_or w.given (node_product (nodes_of w))
 
@@ -122,21 +135,24 @@ nodes_right given sizes =
     one_to_three (length sizes)
     && (list_all (λ n. int_le (pos 1) n) sizes && (nat_le (node_product sizes) 16 && is_given given (node_product sizes)))
 
--- There is one `nodes`, which is right.
+-- There is one `nodes` without `=`, which is right, and none with it.
 abbrev pub nodes_rule : World → ℕ × NodesLine → List Broken
-nodes_rule w x = unless ((x.0 == 0) && nodes_right w.given (line_sizes (given_or_one w) x.1)) M1 x.1.at
+nodes_rule w x =
+    if x.1.part then unless false N9 x.1.at
+    else unless (is_at x.0 (first_nodes w) && nodes_right w.given (line_sizes (given_or_one w) x.1)) M1 x.1.at
 
 -- A program with a directive has it.
-abbrev pub has_nodes : ℕ → Option Place → List Broken
-has_nodes count None = []
-has_nodes count (Some at) = unless (nat_lt 0 count) M1 at
+abbrev pub has_nodes : Option ℕ → Option Place → List Broken
+has_nodes found None = []
+has_nodes found (Some at) = unless (is_some found) M1 at
 
 -- ---- templates and distributions
 
--- A template has one to three dimensions, each of 1 to 4,194,304, and is distributed.
+-- A template has one to three dimensions, each of 1 to 4,194,304 with a lower bound of at most 4,194,304 in size, and is
+-- distributed. (A dimension with a bound beyond 8,388,608 has the size 0.)
 abbrev pub template_rule : World → ℕ × TemplateLine → List Broken
 template_rule w x =
-    unless (one_to_three (length x.1.sizes) && list_all is_extent x.1.sizes) M2 x.1.at
+    unless (one_to_three (length x.1.sizes) && (list_all is_extent x.1.sizes && list_all is_small x.1.lowers)) M2 x.1.at
     ++ unless (is_some (first_place x.0 (distributed w))) M3 x.1.at
 
 -- It has one form for each dimension, and is distributed in as many dimensions as the nodes array has.
@@ -198,23 +214,23 @@ all_different ds = list_all (λ x. is_at x.0 (first_place x.1 ds)) (enumerate_fr
 abbrev pub dummies_right : List Bool → List ℕ → Bool
 dummies_right dummies ds = list_all (λ x. not x.1 || is_some (first_place x.0 ds)) (enumerate_from 0 dummies)
 
--- The point of a dimension of the template: a distributed one is named, the constant is small, and no coordinate of the
--- array leaves the template.
+-- The point of a dimension of the template: a distributed one is named, the written constant is small, and no position of
+-- the array, which is the coordinate less the lower bound, leaves the template.
 abbrev pub reaches : ℤ → ℤ → Option ℕ → Bool
-reaches size offset None = false
-reaches size offset (Some extent) = int_le (pos 0) offset && int_le (offset +ℤ pos extent) size
+reaches size position None = false
+reaches size position (Some extent) = int_le (pos 0) position && int_le (position +ℤ pos extent) size
 
-abbrev pub point_right : List ℕ → Bool → ℤ → AlignPoint → Bool
-point_right extents spread size ap.Star = not spread
-point_right extents spread size (ap.Dummy d offset) = is_small offset && reaches size offset (slice_get extents d)
+abbrev pub point_right : List ℕ → Bool → ℤ → ℤ → AlignPoint → Bool
+point_right extents spread lower size ap.Star = not spread
+point_right extents spread lower size (ap.Dummy d c) = is_small c && reaches size (c -ℤ lower) (slice_get extents d)
 
-abbrev pub point_fits : List ℕ → Bool → Option ℤ → AlignPoint → Bool
-point_fits extents spread None p = false
-point_fits extents spread (Some size) p = point_right extents spread size p
+abbrev pub point_fits : List ℕ → Bool → ℤ → Option ℤ → AlignPoint → Bool
+point_fits extents spread lower None p = false
+point_fits extents spread lower (Some size) p = point_right extents spread lower size p
 
-abbrev pub points_right : List ℕ → List Form → List ℤ → List AlignPoint → Bool
-points_right extents forms sizes points =
-    list_all (λ x. point_fits extents (distributes (slice_get forms x.0)) (slice_get sizes x.0) x.1) (enumerate_from 0 points)
+abbrev pub points_right : List ℕ → List Form → List ℤ → List ℤ → List AlignPoint → Bool
+points_right extents forms lowers sizes points =
+    list_all (λ x. point_fits extents (distributes (slice_get forms x.0)) (lower_at lowers x.0) (slice_get sizes x.0) x.1) (enumerate_from 0 points)
 
 -- An array is aligned once, and not in a program with a coarray.
 abbrev pub is_first_align : World → ℕ × Align → Bool
@@ -225,7 +241,7 @@ abbrev pub align_right : World → Align → Bool
 align_right w a =
     ((length a.dummies == length (extents_in (slice_get w.names.arrays a.array))) && (one_to_three (length a.points) && (length a.points == length (template_sizes w a.template))))
     && ((all_different (dimensions_in a.points) && dummies_right a.dummies (dimensions_in a.points))
-    && points_right (extents_in (slice_get w.names.arrays a.array)) (forms_of w a.template) (template_sizes w a.template) a.points)
+    && points_right (extents_in (slice_get w.names.arrays a.array)) (forms_of w a.template) (template_lowers w a.template) (template_sizes w a.template) a.points)
 
 abbrev pub align_rule : World → ℕ × Align → List Broken
 align_rule w x = unless (is_first_align w x && (not w.names.coarray && align_right w x.1)) M5 x.1.at
@@ -290,7 +306,7 @@ cells_from copies before (a ∷ more) =
 
 abbrev pub nodes_rules : World → List Broken
 nodes_rules w =
-    flat_map (nodes_rule w) (enumerate_from 0 w.mappings.nodes) ++ has_nodes (length w.mappings.nodes) w.mappings.first_directive
+    flat_map (nodes_rule w) (enumerate_from 0 w.mappings.nodes) ++ has_nodes (first_nodes w) w.mappings.first_directive
 
 abbrev pub template_rules : World → List Broken
 template_rules w = flat_map (template_rule w) (enumerate_from 0 w.mappings.templates)

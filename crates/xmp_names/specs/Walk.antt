@@ -1,5 +1,5 @@
 -- The walk over a program: each part of it is a step from what was known before it to what is known after it. No rule ends the walk.
-use Rattle.std.specs.Prelude.{◌≡◌, ⊤, ◌++◌, ◌∷◌, [], ℕ, ◌==◌, List, ℤ, pos, Bool, true, false, not, ◌&&◌, ◌||◌, Option, Some, None, is_some, length, map, codes, nat_lt, Result, Ok, Err, drop}
+use Rattle.std.specs.Prelude.{◌≡◌, ⊤, ◌++◌, ◌∷◌, [], ℕ, ◌==◌, List, ℤ, pos, Bool, true, false, not, ◌&&◌, ◌||◌, if◌then◌else◌, Option, Some, None, is_some, length, map, codes, nat_lt, Result, Ok, Err, drop}
 use Rattle.xmp_base.specs.declared.place.Place.{Place}
 use Rattle.xmp_num.specs.declared.types.Ty.{Ty}
 use Rattle.xmp_num.specs.declared.types.Ty.TheVariants.{Int}
@@ -227,10 +227,14 @@ a_template _ = None
 
 -- ---- directives
 
--- The word of a directive: no function but main has one, and the first one of the program is kept.
+-- Whether a place stands before another.
+abbrev pub comes_before : Place → Place → Bool
+comes_before a b = nat_lt a.line b.line || ((a.line == b.line) && nat_lt a.column b.column)
+
+-- The word of a directive: no function but main has one, and the word whose place is least is kept.
 abbrev pub first_of_two : Option Place → Place → Option Place
 first_of_two None at = Some at
-first_of_two (Some first) at = Some first
+first_of_two (Some first) at = Some (if comes_before at first then at else first)
 
 abbrev pub directive_at : Place → Run ⊤
 directive_at at = λ w. Gave tt (record w {

@@ -3,17 +3,30 @@
 use sqlite_items::Items;
 use xmp_base::Place;
 
-/// A `nodes` directive: its word, and the sizes of its array; none for `[*]`.
+/// How a directive writes the parts of a nodes array or of a template: each in brackets of its own, or all between one
+/// pair of parentheses. Nodes are counted from 0 in brackets and from 1 in parentheses.
+#[derive(Clone, Copy)]
+pub enum Notation {
+    Brackets,
+    Parens,
+}
+
+/// A `nodes` directive: its word, how it is written, the sizes of its array, none for `*`, and whether it names a part of
+/// another nodes array (`=`).
 #[derive(Drop)]
 pub struct NodesLine {
     pub at: Place,
+    pub notation: Notation,
     pub sizes: Option<Items<i64>>,
+    pub part: bool,
 }
 
-/// A `template` directive: its word, and the sizes of its template.
+/// A `template` directive: its word, how it is written, and the lower bound and the size of each dimension.
 #[derive(Drop)]
 pub struct TemplateLine {
     pub at: Place,
+    pub notation: Notation,
+    pub lowers: Items<i64>,
     pub sizes: Items<i64>,
 }
 
@@ -34,7 +47,7 @@ pub struct Distribution {
     pub forms: Items<Form>,
 }
 
-/// What stands for a dimension of the template in an align: `*`, or a dimension of the array and a constant.
+/// What stands for a dimension of the template in an align: `*`, or a dimension of the array and the constant as written.
 #[derive(Clone, Copy)]
 pub enum AlignPoint {
     Star,
@@ -68,7 +81,8 @@ pub struct LoopUse {
     pub indexed: Items<bool>,
 }
 
-/// The mapping directives of a program in the order of its text, its loop directives, and the word of its first directive.
+/// The mapping directives of a program in the order of its text, its loop directives, and the word of the directive whose
+/// place is least.
 #[derive(Drop)]
 pub struct Mappings {
     pub nodes: Items<NodesLine>,

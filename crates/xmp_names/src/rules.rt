@@ -17,6 +17,7 @@ pub enum Rule {
     N6,
     N7,
     N8,
+    N9,
     N10,
     M1,
     M2,

@@ -1,7 +1,7 @@
 // The steps of the walk: what each does to what is known, made and noted.
 ghost use Rattle.std.specs.Prelude.{◌≡◌, None, false, is_some, map};
 ghost use Rattle.xmp_names.specs.declared.rules.Rule.TheVariants.{N1, N3};
-ghost use Rattle.xmp_names.specs.Walk.{Does, Gave, and_then, pure, first_place, a_nodes, a_scalar, a_template, an_array, an_int_scalar, close_scope, constant, declare, declare_scalar, directive_at, finished, first_of_two, is_known, is_main, is_outermost, is_reserved, judge, meaning_of, name_of, new_slot, not_in_function, note, of_kind, open_scope, stands_outermost, typed, typed_call, typed_constant, typed_reference, value_of};
+ghost use Rattle.xmp_names.specs.Walk.{Does, Gave, and_then, pure, first_place, a_nodes, a_scalar, a_template, an_array, an_int_scalar, close_scope, comes_before, constant, declare, declare_scalar, directive_at, finished, first_of_two, is_known, is_main, is_outermost, is_reserved, judge, meaning_of, name_of, new_slot, not_in_function, note, of_kind, open_scope, stands_outermost, typed, typed_call, typed_constant, typed_reference, value_of};
 
 use crate::names::{Meaning, Region};
 use crate::rules::{Broken, Notes, Rule, greater};
@@ -237,10 +237,7 @@ impl World {
         ensures { Does (directive_at at self.old) result self.new }
     {
         let outside = self.names.region != Region::Function;
-        self.mappings.first_directive = Some(match self.mappings.first_directive {
-            Some(first) => first,
-            None => at,
-        });
+        self.mappings.first_directive = first_of_two(self.mappings.first_directive, at);
         self.judge(outside, Rule::N5, at)
     }
 
@@ -265,6 +262,28 @@ impl World {
     {
         let depth = self.names.scopes.depth();
         depth < 2 || (is_main(self.names.region) && depth == 2)
+    }
+}
+
+// Whether a place stands before another.
+fn comes_before(a: Place, b: Place) -> bool
+    ensures { result ≡ comes_before a b }
+{
+    a.line < b.line || (a.line == b.line && a.column < b.column)
+}
+
+fn first_of_two(first: Option<Place>, at: Place) -> Option<Place>
+    ensures { result ≡ first_of_two first at }
+{
+    match first {
+        Some(first) => {
+            if comes_before(at, first) {
+                Some(at)
+            } else {
+                Some(first)
+            }
+        }
+        None => Some(at),
     }
 }
 

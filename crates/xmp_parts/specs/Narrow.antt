@@ -3,10 +3,8 @@ use Rattle.std.specs.Prelude.{ℕ, ℤ, Bool, true, ◌&&◌, nat_le, length, Op
 use Rattle.std.specs.List.{list_all}
 use Rattle.xmp_names.specs.declared.mappings.Form.{Form}
 use Rattle.xmp_names.specs.declared.mappings.Form.TheVariants as form
-use Rattle.xmp_names.specs.declared.mappings.AlignPoint.{AlignPoint}
-use Rattle.xmp_names.specs.declared.mappings.AlignPoint.TheVariants as ap
 use Rattle.xmp_names.specs.declared.mappings.Shadow.{Shadow}
-use Rattle.xmp_names.specs.Sizes.{most_cells, is_small, natural}
+use Rattle.xmp_names.specs.Sizes.{most_cells, natural}
 
 -- (A negative number counts as 0.)
 abbrev pub is_narrow : ℤ → Bool
@@ -17,10 +15,6 @@ is_narrow_form form.Whole = true
 is_narrow_form form.Block = true
 is_narrow_form (form.Cyclic n) = is_narrow n
 is_narrow_form (form.Gblock ns) = nat_le (length ns) 16 && list_all is_narrow ns
-
-abbrev pub is_narrow_point : AlignPoint → Bool
-is_narrow_point ap.Star = true
-is_narrow_point (ap.Dummy d offset) = is_small offset
 
 abbrev pub is_narrow_pair : ℤ × ℤ → Bool
 is_narrow_pair x = is_narrow x.0 && is_narrow x.1

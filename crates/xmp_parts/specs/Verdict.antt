@@ -11,7 +11,7 @@ use Rattle.xmp_base.specs.First.{first_of, IsFirst}
 use Rattle.xmp_syntax.specs.declared.program.Tree.{Tree}
 use Rattle.xmp_prog.specs.declared.statements.Stmt.{Stmt}
 use Rattle.xmp_names.specs.declared.rules.Rule.{Rule}
-use Rattle.xmp_names.specs.declared.rules.Rule.TheVariants.{N1, N2, N3, N4, N5, N6, N7, N8, N10, M1, M2, M3, M4, M5, M6, M7, M8, M9, M10}
+use Rattle.xmp_names.specs.declared.rules.Rule.TheVariants.{N1, N2, N3, N4, N5, N6, N7, N8, N9, N10, M1, M2, M3, M4, M5, M6, M7, M8, M9, M10}
 use Rattle.xmp_names.specs.declared.rules.Broken.{Broken}
 use Rattle.xmp_names.specs.declared.world.World.{World}
 use Rattle.xmp_names.specs.Walk.{Step, Gave}
@@ -28,6 +28,7 @@ number_of N5 = 5
 number_of N6 = 6
 number_of N7 = 7
 number_of N8 = 8
+number_of N9 = 9
 number_of N10 = 10
 number_of M1 = 1
 number_of M2 = 2
@@ -49,6 +50,7 @@ is_of_names N5 = true
 is_of_names N6 = true
 is_of_names N7 = true
 is_of_names N8 = true
+is_of_names N9 = true
 is_of_names N10 = true
 is_of_names _ = false
 
