@@ -1,6 +1,6 @@
 // The rules of aligns.
-ghost use Rattle.std.specs.Prelude.{◌≡◌, ◌++◌, ◌&&◌, IfOk, IsTrue, OnOk, option_copied, slice_get};
-ghost use Rattle.xmp_names.specs.Sizes.{extents_in, is_small};
+ghost use Rattle.std.specs.Prelude.{◌≡◌, ◌≤◌, ◌++◌, ◌&&◌, ◌-ℤ◌, int_le, negsuc, pos, IfOk, IsTrue, OnOk, option_copied, slice_get};
+ghost use Rattle.xmp_names.specs.Sizes.{extents_in, is_small, lower_at};
 ghost use Rattle.xmp_mapping_rules.specs.MappingRules.{align_of, align_right, align_rule, align_rules, aligned, all_different, dimension_in, dimensions_in, distributed, distributes, dummies_right, point_fits, point_right, points_right, reaches};
 
 use crate::lines::Lines;
@@ -9,7 +9,7 @@ use crate::numbers::{Numbers, is_at};
 use crate::template_rules::distributes;
 use sqlite_items::Items;
 use std::alloc::{AllocError, Global};
-use xmp_names::{Align, AlignPoint, Broken, Form, Rule, extents_in, is_small};
+use xmp_names::{Align, AlignPoint, Broken, Form, Rule, extents_in, is_small, lower_at};
 
 /// Adds the dimension of an array that stands in a point.
 pub(crate) fn add_dimension(dimensions: &mut Numbers, point: AlignPoint) -> Result<(), AllocError>
@@ -54,48 +54,104 @@ fn dummies_right(dummies: &[bool], dimensions: &Numbers) -> bool
     true
 }
 
-fn reaches(size: i64, offset: i64, extent: Option<u32>) -> bool
-    requires { IsTrue (is_small offset) }
-    ensures { result ≡ reaches size offset extent }
+// Whether a coordinate lies at most so far behind the lower bound as the size is.
+fn lies_below(size: i64, lower: i64, coordinate: i64) -> bool
+    ensures { result ≡ int_le (coordinate -ℤ lower) size }
+{
+    match size.checked_add(lower) {
+        Some(end) => coordinate <= end,
+        None => 0 < lower,
+    }
+}
+
+// Whether the positions of so many subscripts, the first at a coordinate, lie in a dimension.
+fn reaches(size: i64, lower: i64, c: i64, extent: Option<u32>) -> bool
+    requires { IsTrue (is_small c) }
+    ensures { result ≡ reaches size (c -ℤ lower) extent }
 {
     match extent {
-        Some(extent) => 0 <= offset && offset + i64::from(extent) <= size,
+        Some(extent) => lower <= c && lies_below(size, lower, c + i64::from(extent)),
         None => false,
     }
 }
 
-fn point_right(extents: &[u32], spread: bool, size: i64, point: AlignPoint) -> bool
-    ensures { result ≡ point_right extents.now spread size point }
+fn extent_at(extents: &[u32], d: usize) -> Option<u32>
+    ensures { result ≡ slice_get extents.now d }
+{
+    extents.get(d).copied()
+}
+
+fn dummy_right(
+    extents: &[u32],
+    spread: bool,
+    lower: i64,
+    size: i64,
+    dimension: usize,
+    c: i64,
+) -> bool
+    ensures { result ≡ point_right extents.now spread lower size (AlignPoint.Dummy dimension c) }
+{
+    is_small(c) && reaches(size, lower, c, extent_at(extents, dimension))
+}
+
+fn point_right(extents: &[u32], spread: bool, lower: i64, size: i64, point: AlignPoint) -> bool
+    ensures { result ≡ point_right extents.now spread lower size point }
 {
     match point {
         AlignPoint::Star => !spread,
         AlignPoint::Dummy { dimension, offset } => {
-            is_small(offset) && reaches(size, offset, extents.get(dimension).copied())
+            dummy_right(extents, spread, lower, size, dimension, offset)
         }
     }
 }
 
-fn point_fits(extents: &[u32], spread: bool, size: Option<i64>, point: AlignPoint) -> bool
-    ensures { result ≡ point_fits extents.now spread size point }
+fn point_fits(
+    extents: &[u32],
+    spread: bool,
+    lower: i64,
+    size: Option<i64>,
+    point: AlignPoint,
+) -> bool
+    ensures { result ≡ point_fits extents.now spread lower size point }
 {
     match size {
-        Some(size) => point_right(extents, spread, size, point),
+        Some(size) => point_right(extents, spread, lower, size, point),
         None => false,
     }
 }
 
-// The point of the i-th dimension of the template.
-fn point_at(extents: &[u32], forms: &[Form], sizes: &[i64], i: usize, point: AlignPoint) -> bool
-    ensures { result ≡ point_fits extents.now (distributes (slice_get forms.now i)) (slice_get sizes.now i) point }
+fn size_at(sizes: &[i64], i: usize) -> Option<i64>
+    ensures { result ≡ slice_get sizes.now i }
 {
-    point_fits(extents, distributes(forms, i), sizes.get(i).copied(), point)
+    sizes.get(i).copied()
 }
 
-fn points_right(extents: &[u32], forms: &[Form], sizes: &[i64], points: &[AlignPoint]) -> bool
-    ensures { result ≡ points_right extents.now forms.now sizes.now points.now }
+// The point of the i-th dimension of the template.
+fn point_at(
+    extents: &[u32],
+    forms: &[Form],
+    lowers: &[i64],
+    sizes: &[i64],
+    i: usize,
+    point: AlignPoint,
+) -> bool
+    ensures { result ≡ point_fits extents.now (distributes (slice_get forms.now i)) (lower_at lowers.now i) (slice_get sizes.now i) point }
+{
+    let spread = distributes(forms, i);
+    point_fits(extents, spread, lower_at(lowers, i), size_at(sizes, i), point)
+}
+
+fn points_right(
+    extents: &[u32],
+    forms: &[Form],
+    lowers: &[i64],
+    sizes: &[i64],
+    points: &[AlignPoint],
+) -> bool
+    ensures { result ≡ points_right extents.now forms.now lowers.now sizes.now points.now }
 {
     'points: for (i, point) in points.iter().enumerate() {
-        if !point_at(extents, forms, sizes, i, *point) {
+        if !point_at(extents, forms, lowers, sizes, i, *point) {
             return false;
         }
     }
@@ -116,11 +172,12 @@ fn align_right(alloc: Global, lines: &Lines, line: &Align) -> Result<bool, Alloc
     let points = line.points.as_slice();
     let extents = extents_in(lines.world(), line.array);
     let forms = lines.forms_of(line.template as usize);
+    let lowers = lines.template_lowers(line.template);
     let sizes = lines.template_sizes(line.template);
     let numbers = line.dummies.len() == extents.len()
         && (one_to_three(points.len()) && points.len() == sizes.len());
     let names = names_right(alloc, line)?;
-    Ok(numbers && (names && points_right(extents, forms, sizes, points)))
+    Ok(numbers && (names && points_right(extents, forms, lowers, sizes, points)))
 }
 
 fn align_rule(

@@ -10,6 +10,7 @@ use crate::lines::Lines;
 use crate::nodes_rules::{TOO_MANY, judge, limited_product, node_product};
 use sqlite_items::Items;
 use std::alloc::AllocError;
+use xmp_base::SIZE_LIMIT;
 use xmp_names::{Broken, Rule};
 
 // How many cells an array of these extents has, or 4,194,305 where it has more.
@@ -26,7 +27,7 @@ fn cells_in(extents: &[u32]) -> u64
 fn fits_extent(n: u32) -> bool
     ensures { result ≡ is_extent n }
 {
-    1 <= n && n <= 4_194_304
+    1 <= n && n <= SIZE_LIMIT
 }
 
 // Whether there are one to three extents, each of 1 to 4,194,304.

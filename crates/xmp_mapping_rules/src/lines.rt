@@ -1,13 +1,14 @@
 // The first lines on the templates and arrays of a world.
 ghost use Rattle.std.specs.Prelude.{◌≡◌, ◌∷◌, [], IfOk, is_some, option_copied, pos};
-ghost use Rattle.xmp_mapping_rules.specs.MappingRules.{align_of, aligned, distributed, distribution_of, forms_of, nodes_of, shadow_of, shadowed, template_sizes};
+ghost use Rattle.xmp_mapping_rules.specs.MappingRules.{align_of, aligned, distributed, distribution_of, first_nodes, forms_of, item_at, nodes_of, shadow_of, shadowed, template_lowers, template_sizes};
 ghost use Rattle.xmp_mapping_rules.specs.Numbers.{first_place, is_at};
 
+use crate::nodes_rules::first_nodes;
 use crate::numbers::{Numbers, is_at};
 use sqlite_items::Items;
 use std::alloc::{AllocError, Global};
 use std::marker::Model;
-use xmp_names::{Align, Distribution, Form, Shadow, World, given_or_one, line_sizes};
+use xmp_names::{Align, Distribution, Form, NodesLine, Shadow, World, given_or_one, line_sizes};
 
 /// A world with the sizes of its nodes array, and with the first line on each of its templates and arrays, which is found
 /// at once. A clause sees the world.
@@ -44,11 +45,21 @@ fn one_size(alloc: Global, size: u32) -> Result<Items<i64>, AllocError>
     Ok(sizes)
 }
 
-// The sizes of the first nodes array; where there is none all nodes stand in a row.
+// The nodes array of a program.
+fn own_nodes(w: &World) -> Option<&NodesLine>
+    ensures { option_copied result ≡ item_at w.now.mappings.nodes (first_nodes w.now) }
+{
+    match first_nodes(w) {
+        Some(place) => w.mappings.nodes.get(place),
+        None => None,
+    }
+}
+
+// The sizes of the nodes array; where there is none all nodes stand in a row.
 fn nodes_of(alloc: Global, w: &World) -> Result<Items<i64>, AllocError>
     ensures { IfOk result (λ sizes. sizes ≡ nodes_of w.now) }
 {
-    match w.mappings.nodes.get(0) {
+    match own_nodes(w) {
         Some(line) => line_sizes(alloc, given_or_one(w), line),
         None => one_size(alloc, given_or_one(w)),
     }
@@ -114,7 +125,7 @@ impl<'a> Lines<'a> {
         self.world
     }
 
-    /// The sizes of the first nodes array; where there is none all nodes stand in a row.
+    /// The sizes of the nodes array; where there is none all nodes stand in a row.
     pub fn nodes(&self) -> &[i64]
         ensures { result.now ≡ nodes_of self.now }
     {
@@ -185,6 +196,16 @@ impl<'a> Lines<'a> {
         ensures { result ≡ is_at i (first_place array (shadowed self.now)) }
     {
         is_at(i, self.shadows.first_place(array as usize))
+    }
+
+    /// The lower bounds of a template.
+    pub fn template_lowers(&self, template: u32) -> &'a [i64]
+        ensures { result.now ≡ template_lowers self.now template }
+    {
+        match self.world.mappings.templates.get(template as usize) {
+            Some(line) => line.lowers.as_slice(),
+            None => &[],
+        }
     }
 
     /// The sizes of a template.

@@ -3,11 +3,13 @@ ghost use Rattle.std.specs.Prelude.{◌≡◌, ◌++◌, ◌∷◌, [], ◌+◌,
 ghost use Rattle.std.specs.List.{list_all};
 ghost use Rattle.xmp_names.specs.Rules.{unless};
 ghost use Rattle.xmp_names.specs.Sizes.{most_cells, given_or_one, line_sizes, natural};
-ghost use Rattle.xmp_mapping_rules.specs.MappingRules.{has_nodes, is_given, node_product, nodes_of, nodes_right, nodes_rule, nodes_rules, one_to_three};
+ghost use Rattle.xmp_mapping_rules.specs.Numbers.{is_at};
+ghost use Rattle.xmp_mapping_rules.specs.MappingRules.{first_nodes, has_nodes, is_given, node_product, nodes_of, nodes_right, nodes_rule, nodes_rules, one_to_three};
 
+use crate::numbers::is_at;
 use sqlite_items::Items;
 use std::alloc::{AllocError, Global};
-use xmp_base::Place;
+use xmp_base::{CELL_LIMIT, Place};
 use xmp_names::{Broken, NodesLine, Rule, World, given_or_one, line_sizes};
 
 /// A rule breaks at a place unless the test holds.
@@ -26,7 +28,7 @@ pub(crate) fn judge(
 }
 
 // The least number of cells or nodes that is too many.
-pub(crate) const TOO_MANY: u64 = 4_194_305;
+pub(crate) const TOO_MANY: u64 = CELL_LIMIT as u64 + 1;
 
 /// A product of two numbers, or 4,194,305 where it is more.
 pub(crate) fn limited_product(a: u64, b: u64) -> u64
@@ -94,29 +96,45 @@ fn nodes_right(given: Option<u32>, sizes: &[i64]) -> bool
     one_to_three(sizes.len()) && all_positive(sizes) && product_right(given, sizes)
 }
 
+/// The place of the nodes array of a program among the nodes arrays: the first that is no part of another.
+pub(crate) fn first_nodes(w: &World) -> Option<usize>
+    ensures { result ≡ first_nodes w.now }
+{
+    w.mappings
+        .nodes
+        .as_slice()
+        .iter()
+        .position(|line| !line.part)
+}
+
 fn nodes_rule(
     alloc: Global,
     w: &World,
     broken: &mut Items<Broken>,
+    first: Option<usize>,
     i: usize,
     line: &NodesLine,
 ) -> Result<(), AllocError>
+    requires { first ≡ first_nodes w.now }
     ensures { OnOk result (broken.new ≡ broken.old ++ nodes_rule w.now (i, line.now)) }
 {
+    if line.part {
+        return judge(broken, false, Rule::N9, line.at);
+    }
     let sizes = line_sizes(alloc, given_or_one(w), line)?;
-    let right = i == 0 && nodes_right(w.given, sizes.as_slice());
+    let right = is_at(i, first) && nodes_right(w.given, sizes.as_slice());
     judge(broken, right, Rule::M1, line.at)
 }
 
 fn has_nodes(
     broken: &mut Items<Broken>,
-    count: usize,
+    found: Option<usize>,
     first: Option<Place>,
 ) -> Result<(), AllocError>
-    ensures { OnOk result (broken.new ≡ broken.old ++ has_nodes count first) }
+    ensures { OnOk result (broken.new ≡ broken.old ++ has_nodes found first) }
 {
     match first {
-        Some(at) => judge(broken, 0 < count, Rule::M1, at),
+        Some(at) => judge(broken, found.is_some(), Rule::M1, at),
         None => Ok(()),
     }
 }
@@ -129,9 +147,10 @@ pub(crate) fn nodes_rules(
 ) -> Result<(), AllocError>
     ensures { OnOk result (broken.new ≡ broken.old ++ nodes_rules w.now) }
 {
+    let first = first_nodes(w);
     let lines = w.mappings.nodes.as_slice();
     'lines: for (i, line) in lines.iter().enumerate() {
-        nodes_rule(alloc, w, broken, i, line)?;
+        nodes_rule(alloc, w, broken, first, i, line)?;
     }
-    has_nodes(broken, w.mappings.nodes.len(), w.mappings.first_directive)
+    has_nodes(broken, first, w.mappings.first_directive)
 }

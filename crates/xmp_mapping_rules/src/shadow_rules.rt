@@ -9,6 +9,7 @@ use crate::numbers::Numbers;
 use crate::template_rules::{distributes, has_intervals};
 use sqlite_items::Items;
 use std::alloc::{AllocError, Global};
+use xmp_base::SIZE_LIMIT;
 use xmp_names::{AlignPoint, Broken, Form, LoopUse, Rule, Shadow, extents_in};
 
 // Whether the form of a dimension, which may have none, gives each node one interval.
@@ -54,7 +55,7 @@ fn interval_dimensions(
 fn is_width(n: i64) -> bool
     ensures { result ≡ is_width n }
 {
-    0 <= n && n <= 4_194_304
+    0 <= n && n <= i64::from(SIZE_LIMIT)
 }
 
 fn width_right(dimensions: &Numbers, i: usize, widths: (i64, i64)) -> bool

@@ -2,14 +2,14 @@
 ghost use Rattle.std.specs.Prelude.{◌≡◌, ◌==◌, ◌++◌, ◌&&◌, IfOk, OnOk, int_le, length, map, min, option_copied, pos, slice_get};
 ghost use Rattle.std.specs.List.{count_by, list_all, sum};
 ghost use Rattle.xmp_mapping_rules.specs.MappingRules.{counts, distributed, distribution_of, distribution_rule, distribution_rules, distributes, form_fits, form_right, forms_of, forms_right, has_intervals, is_distributed, lengths_right, nodes_behind, nodes_of, spread_right, template_rule, template_rules, template_sizes};
-ghost use Rattle.xmp_names.specs.Sizes.{is_extent, natural};
+ghost use Rattle.xmp_names.specs.Sizes.{is_extent, is_small, natural};
 ghost use Rattle.xmp_mapping_rules.specs.Numbers.{is_at};
 
 use crate::lines::Lines;
 use crate::nodes_rules::{judge, natural, one_to_three};
 use sqlite_items::Items;
 use std::alloc::{AllocError, Global};
-use xmp_names::{Broken, Distribution, Form, Rule, TemplateLine, is_extent};
+use xmp_names::{Broken, Distribution, Form, Rule, TemplateLine, is_extent, is_small};
 
 /// Whether a form distributes its dimension.
 pub(crate) fn is_distributed(form: &Form) -> bool
@@ -53,6 +53,17 @@ fn all_extents(sizes: &[i64]) -> bool
     true
 }
 
+fn all_small(lowers: &[i64]) -> bool
+    ensures { result ≡ list_all is_small lowers.now }
+{
+    'lowers: for lower in lowers {
+        if !is_small(*lower) {
+            return false;
+        }
+    }
+    true
+}
+
 fn template_rule(
     lines: &Lines,
     broken: &mut Items<Broken>,
@@ -61,7 +72,8 @@ fn template_rule(
 ) -> Result<(), AllocError>
     ensures { OnOk result (broken.new ≡ broken.old ++ template_rule lines.now (i, line.now)) }
 {
-    let right = one_to_three(line.sizes.len()) && all_extents(line.sizes.as_slice());
+    let right = one_to_three(line.sizes.len())
+        && (all_extents(line.sizes.as_slice()) && all_small(line.lowers.as_slice()));
     judge(broken, right, Rule::M2, line.at)?;
     judge(broken, lines.has_distribution(i), Rule::M3, line.at)
 }
