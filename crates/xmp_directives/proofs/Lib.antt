@@ -1,4 +1,5 @@
 pub mod Nests
+mod MadePoints
 mod NodeBoxes
 mod NodeRanges
 mod NodeSets

@@ -1,48 +1,32 @@
 -- A set of nodes, step by step.
-use Rattle.std.proofs.Common.{◌≡◌, ◌∙◌, sym, ap, ℕ, ℤ, List, [], ◌∷◌, Bool, false, refl, length}
-use Rattle.std.specs.Prelude.{⊤, ◌==◌, ◌&&◌, ◌||◌, not, Option}
+use Rattle.std.proofs.Common.{◌≡◌, ◌∙◌, sym, ap, ℕ, ℤ, List, Bool, length}
+use Rattle.std.specs.Prelude.{⊤, ◌&&◌, ◌||◌, not, Option}
 use Rattle.xmp_base.specs.declared.place.Place.{Place}
 use Rattle.xmp_map.specs.declared.grid.NodeSet.{NodeSet}
-use Rattle.xmp_syntax.specs.declared.directive.Sections.{Sections}
-use Rattle.xmp_names.specs.declared.rules.Rule.TheVariants.{N3, M8}
+use Rattle.xmp_syntax.specs.declared.directive.NodesSet.{NodesSet}
+use Rattle.xmp_names.specs.declared.rules.Rule.TheVariants.{M8}
 use Rattle.xmp_names.specs.declared.world.World.{World}
-use Rattle.xmp_names.specs.Expressions.{is_nothing}
-use Rattle.xmp_names.specs.Lists.{inner}
-use Rattle.xmp_names.specs.Walk.{Gave, Run, and_then, ◌>>=◌, pure, each, judge, name_of, a_nodes}
-use Rattle.xmp_directives.specs.Directives.{box_of, is_one, nodes_sizes, ranges, ranges_right, set_of, set_part}
+use Rattle.xmp_names.specs.Lists.{notation, parts}
+use Rattle.xmp_names.specs.Walk.{Gave, and_then, ◌>>=◌, pure, each, judge, name_of, a_nodes}
+use Rattle.xmp_directives.specs.Directives.{box_of, is_one, judged_set, match_nodes, nodes_sizes, piece_of, ranges, ranges_right, set_of}
 
 -- Whether the ranges are right.
 abbrev pub judged : Bool → List ℤ → List (ℤ × ℤ) → Bool
 judged one sizes rs = ranges_right sizes rs && (not one || is_one rs)
 
--- What is left behind the parts of a set.
-abbrev last : Bool → Place → Place → List ℤ → List (Option (ℤ × ℤ)) → Run NodeSet
-last one word at sizes parts =
-    judge (is_nothing parts || (length parts == length sizes)) N3 at
-    >>= (λ u. judge (judged one sizes (ranges sizes parts)) M8 word >>= (λ v. pure (box_of sizes (ranges sizes parts))))
+-- What is left behind the pieces of a set.
+pub judged_walk : (one : Bool) (word : Place) (number : Option ℕ) (sizes : List ℤ) (pieces : List (Option (ℤ × ℤ))) (rs : List (ℤ × ℤ)) (right : Bool) (made : NodeSet) (v : ⊤) (w w2 : World) →
+    nodes_sizes number w ≡ Gave sizes w → rs ≡ ranges sizes pieces → right ≡ judged one sizes rs → judge right M8 word w ≡ Gave v w2 → made ≡ box_of sizes rs →
+    judged_set one word number pieces w ≡ Gave made w2
+judged_walk one word number sizes pieces rs right made v w w2 e r j k m =
+    ap (λ s. and_then s (λ ss. judge (judged one ss (ranges ss pieces)) M8 word >>= (λ v. pure (box_of ss (ranges ss pieces))))) e
+    ∙ (ap (λ b. and_then (judge b M8 word w) (λ v. pure (box_of sizes (ranges sizes pieces)))) (sym (j ∙ ap (judged one sizes) r))
+    ∙ (ap (λ s. and_then s (λ v. pure (box_of sizes (ranges sizes pieces)))) k ∙ ap (λ n. Gave n w2) (sym (m ∙ ap (box_of sizes) r))))
 
-last_walk : (one : Bool) (word at : Place) (sizes : List ℤ) (parts : List (Option (ℤ × ℤ))) (rs : List (ℤ × ℤ)) (counted right : Bool) (made : NodeSet) (u v : ⊤) (w2 w3 w4 : World) →
-    counted ≡ (is_nothing parts || (length parts == length sizes)) → judge counted N3 at w2 ≡ Gave u w3 →
-    rs ≡ ranges sizes parts → right ≡ judged one sizes rs → judge right M8 word w3 ≡ Gave v w4 → made ≡ box_of sizes rs →
-    last one word at sizes parts w2 ≡ Gave made w4
-last_walk one word at sizes parts rs counted right made u v w2 w3 w4 c d r j k m =
-    ap (λ b. and_then (judge b N3 at w2) (λ u. judge (judged one sizes (ranges sizes parts)) M8 word >>= (λ v. pure (box_of sizes (ranges sizes parts))))) (sym c)
-    ∙ (ap (λ s. and_then s (λ u. judge (judged one sizes (ranges sizes parts)) M8 word >>= (λ v. pure (box_of sizes (ranges sizes parts))))) d
-    ∙ (ap (λ b. and_then (judge b M8 word w3) (λ v. pure (box_of sizes (ranges sizes parts)))) (sym (j ∙ ap (judged one sizes) r))
-    ∙ (ap (λ s. and_then s (λ v. pure (box_of sizes (ranges sizes parts)))) k ∙ ap (λ n. Gave n w4) (sym (m ∙ ap (box_of sizes) r)))))
-
-pub set_walk : (one : Bool) (word : Place) (x : Sections) (number : Option ℕ) (sizes : List ℤ) (parts : List (Option (ℤ × ℤ))) (rs : List (ℤ × ℤ)) (counted right : Bool) (made : NodeSet)
-    (u v : ⊤) (w w1 w2 w3 w4 : World) →
-    name_of a_nodes x.name w ≡ Gave number w1 → nodes_sizes number w1 ≡ Gave sizes w1 → each set_part (inner x.sections) w1 ≡ Gave parts w2 →
-    counted ≡ (is_nothing parts || (length parts == length sizes)) → judge counted N3 x.name.at w2 ≡ Gave u w3 →
-    rs ≡ ranges sizes parts → right ≡ judged one sizes rs → judge right M8 word w3 ≡ Gave v w4 → made ≡ box_of sizes rs →
-    set_of one word x w ≡ Gave made w4
-set_walk one word x number sizes parts rs counted right made u v w w1 w2 w3 w4 e f g c d r j k m =
-    ap (λ s. and_then s (λ n. nodes_sizes n >>= (λ ss. each set_part (inner x.sections) >>= (λ ps. last one word x.name.at ss ps)))) e
-    ∙ (ap (λ s. and_then s (λ ss. each set_part (inner x.sections) >>= (λ ps. last one word x.name.at ss ps))) f
-    ∙ (ap (λ s. and_then s (λ ps. last one word x.name.at sizes ps)) g
-    ∙ last_walk one word x.name.at sizes parts rs counted right made u v w2 w3 w4 c d r j k m))
-
-pub some_there : {A : Type 0} (xs : List A) → (xs ≡ [] → ⊥) → is_nothing xs ≡ false
-some_there [] h = absurd (h refl)
-some_there (x ∷ xs) h = refl
+pub set_walk : (one : Bool) (word : Place) (x : NodesSet) (number : Option ℕ) (pieces : List (Option (ℤ × ℤ))) (u : ⊤) (w w1 w2 w3 : World) →
+    name_of a_nodes x.name w ≡ Gave number w1 → each (piece_of (notation x.pieces)) (parts x.pieces) w1 ≡ Gave pieces w2 →
+    match_nodes number (notation x.pieces) (length pieces) x.name.at w2 ≡ Gave u w3 → set_of one word x w ≡ judged_set one word number pieces w3
+set_walk one word x number pieces u w w1 w2 w3 e f g =
+    ap (λ s. and_then s (λ n. each (piece_of (notation x.pieces)) (parts x.pieces) >>= (λ ps. match_nodes n (notation x.pieces) (length ps) x.name.at >>= (λ u. judged_set one word n ps)))) e
+    ∙ (ap (λ s. and_then s (λ ps. match_nodes number (notation x.pieces) (length ps) x.name.at >>= (λ u. judged_set one word number ps))) f
+    ∙ ap (λ s. and_then s (λ u. judged_set one word number pieces)) g)

@@ -5,7 +5,7 @@
 use Rattle.std.specs.Prelude.{◌++◌, ◌∷◌, [], ℕ, ◌+◌, ◌*◌, ◌==◌, List, ℤ, pos, negsuc, ◌+ℤ◌, ◌-ℤ◌, int_le, nat_lt, nat_le, Bool, true, false, not, ◌&&◌, ◌||◌, if◌then◌else◌, Option, Some, None, is_some, length, map, slice_get}
 use Rattle.std.specs.Option.{unwrap_or}
 use Rattle.std.specs.Ordering.{int_eq}
-use Rattle.std.specs.List.{list_all, flat_map, count_by, enumerate_from, sum, position}
+use Rattle.std.specs.List.{list_all, flat_map, count_by, enumerate_from, sum, position_from}
 use Rattle.xmp_base.specs.declared.place.Place.{Place}
 use Rattle.xmp_map.specs.RowMajor.{product}
 use Rattle.xmp_map.specs.Spread.{sizes_fit}
@@ -104,7 +104,7 @@ spans_intervals (Some f) = has_intervals f
 
 -- The nodes array of a program is the first that is no part of another.
 abbrev pub first_nodes : World → Option ℕ
-first_nodes w = position (λ l. not l.part) w.mappings.nodes
+first_nodes w = position_from (λ l. not l.part) 0 w.mappings.nodes
 
 -- Its sizes; where there is none all nodes stand in a row.
 abbrev pub sizes_or_row : ℕ → Option NodesLine → List ℤ

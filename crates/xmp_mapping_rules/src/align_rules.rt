@@ -138,7 +138,13 @@ fn point_at(
     ensures { result ≡ point_fits extents.now (distributes (slice_get forms.now i)) (lower_at lowers.now i) (slice_get sizes.now i) point }
 {
     let spread = distributes(forms, i);
-    point_fits(extents, spread, lower_at(lowers, i), size_at(sizes, i), point)
+    point_fits(
+        extents,
+        spread,
+        lower_at(lowers, i),
+        size_at(sizes, i),
+        point,
+    )
 }
 
 fn points_right(

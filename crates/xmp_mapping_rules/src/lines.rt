@@ -1,6 +1,6 @@
 // The first lines on the templates and arrays of a world.
 ghost use Rattle.std.specs.Prelude.{◌≡◌, ◌∷◌, [], IfOk, is_some, option_copied, pos};
-ghost use Rattle.xmp_mapping_rules.specs.MappingRules.{align_of, aligned, distributed, distribution_of, first_nodes, forms_of, item_at, nodes_of, shadow_of, shadowed, template_lowers, template_sizes};
+ghost use Rattle.xmp_mapping_rules.specs.MappingRules.{align_of, aligned, distributed, distribution_of, first_nodes, forms_of, item_at, nodes_of, shadow_of, shadowed, sizes_or_row, template_lowers, template_sizes};
 ghost use Rattle.xmp_mapping_rules.specs.Numbers.{first_place, is_at};
 
 use crate::nodes_rules::first_nodes;
@@ -45,8 +45,8 @@ fn one_size(alloc: Global, size: u32) -> Result<Items<i64>, AllocError>
     Ok(sizes)
 }
 
-// The nodes array of a program.
-fn own_nodes(w: &World) -> Option<&NodesLine>
+// The line of the nodes array of a program.
+fn nodes_line(w: &World) -> Option<&NodesLine>
     ensures { option_copied result ≡ item_at w.now.mappings.nodes (first_nodes w.now) }
 {
     match first_nodes(w) {
@@ -55,11 +55,11 @@ fn own_nodes(w: &World) -> Option<&NodesLine>
     }
 }
 
-// The sizes of the nodes array; where there is none all nodes stand in a row.
+// The sizes of the nodes array of a program; where there is none all nodes stand in a row.
 fn nodes_of(alloc: Global, w: &World) -> Result<Items<i64>, AllocError>
     ensures { IfOk result (λ sizes. sizes ≡ nodes_of w.now) }
 {
-    match own_nodes(w) {
+    match nodes_line(w) {
         Some(line) => line_sizes(alloc, given_or_one(w), line),
         None => one_size(alloc, given_or_one(w)),
     }
@@ -198,22 +198,22 @@ impl<'a> Lines<'a> {
         is_at(i, self.shadows.first_place(array as usize))
     }
 
-    /// The lower bounds of a template.
-    pub fn template_lowers(&self, template: u32) -> &'a [i64]
-        ensures { result.now ≡ template_lowers self.now template }
-    {
-        match self.world.mappings.templates.get(template as usize) {
-            Some(line) => line.lowers.as_slice(),
-            None => &[],
-        }
-    }
-
     /// The sizes of a template.
     pub(crate) fn template_sizes(&self, template: u32) -> &'a [i64]
         ensures { result.now ≡ template_sizes self.now template }
     {
         match self.world.mappings.templates.get(template as usize) {
             Some(line) => line.sizes.as_slice(),
+            None => &[],
+        }
+    }
+
+    /// The lower bounds of a template.
+    pub fn template_lowers(&self, template: u32) -> &'a [i64]
+        ensures { result.now ≡ template_lowers self.now template }
+    {
+        match self.world.mappings.templates.get(template as usize) {
+            Some(line) => line.lowers.as_slice(),
             None => &[],
         }
     }

@@ -3,13 +3,12 @@ ghost use Rattle.std.specs.Prelude.{◌≡◌, ◌++◌, ◌∷◌, [], ◌+◌,
 ghost use Rattle.std.specs.List.{list_all};
 ghost use Rattle.xmp_names.specs.Rules.{unless};
 ghost use Rattle.xmp_names.specs.Sizes.{most_cells, given_or_one, line_sizes, natural};
-ghost use Rattle.xmp_mapping_rules.specs.Numbers.{is_at};
 ghost use Rattle.xmp_mapping_rules.specs.MappingRules.{first_nodes, has_nodes, is_given, node_product, nodes_of, nodes_right, nodes_rule, nodes_rules, one_to_three};
 
 use crate::numbers::is_at;
 use sqlite_items::Items;
 use std::alloc::{AllocError, Global};
-use xmp_base::{CELL_LIMIT, Place};
+use xmp_base::{CELL_LIMIT, NODE_LIMIT, Place};
 use xmp_names::{Broken, NodesLine, Rule, World, given_or_one, line_sizes};
 
 /// A rule breaks at a place unless the test holds.
@@ -87,7 +86,7 @@ fn product_right(given: Option<u32>, sizes: &[i64]) -> bool
     ensures { result ≡ (nat_le (node_product sizes.now) 16 && is_given given (node_product sizes.now)) }
 {
     let count = node_product(sizes);
-    count <= 16 && is_given(given, count)
+    count <= u64::from(NODE_LIMIT) && is_given(given, count)
 }
 
 fn nodes_right(given: Option<u32>, sizes: &[i64]) -> bool
@@ -96,15 +95,17 @@ fn nodes_right(given: Option<u32>, sizes: &[i64]) -> bool
     one_to_three(sizes.len()) && all_positive(sizes) && product_right(given, sizes)
 }
 
-/// The place of the nodes array of a program among the nodes arrays: the first that is no part of another.
+/// The place of the nodes array of a program among its `nodes` lines: the first that is no part of another.
 pub(crate) fn first_nodes(w: &World) -> Option<usize>
     ensures { result ≡ first_nodes w.now }
 {
-    w.mappings
-        .nodes
-        .as_slice()
-        .iter()
-        .position(|line| !line.part)
+    let lines = w.mappings.nodes.as_slice();
+    'lines: for (i, line) in lines.iter().enumerate() {
+        if !line.part {
+            return Some(i);
+        }
+    }
+    None
 }
 
 fn nodes_rule(

@@ -2,6 +2,7 @@ pub mod Accepted
 pub mod Dimensions
 mod Firsts
 pub mod FormsFit
+pub mod HeldPoints
 pub mod MadeLists
 pub mod Padded
 pub mod Rows

@@ -1,6 +1,6 @@
 -- The sizes of a nodes array that breaks no rule make a grid.
 use Rattle.std.proofs.Common.{◌≡◌, ◌≤◌, ◌<◌, ◌∙◌, ap, refl, ◌∷◌, [], ◌+◌, ◌*◌, ◌&&◌, ℕ, zero, suc, ℤ, pos, negsuc, true, List, Option, Some, None, arith, length, map, IsTrue, le-leb, leb-true}
-use Rattle.std.specs.Prelude.{slice_get, nat_le, int_le}
+use Rattle.std.specs.Prelude.{nat_le, int_le}
 use Rattle.std.specs.Option.{unwrap_or}
 use Rattle.std.specs.List.{list_all}
 use Rattle.std.proofs.lemmas.Bool.Decides.{nat_tests}
@@ -10,7 +10,7 @@ use Rattle.xmp_map.specs.RowMajor.{product}
 use Rattle.xmp_names.specs.declared.mappings.NodesLine.{NodesLine}
 use Rattle.xmp_names.specs.declared.world.World.{World}
 use Rattle.xmp_names.specs.Sizes.{given_or_one, line_sizes, natural}
-use Rattle.xmp_mapping_rules.specs.MappingRules.{is_given, mapping_rules, node_product, nodes_of, nodes_right, one_to_three, sizes_or_row}
+use Rattle.xmp_mapping_rules.specs.MappingRules.{first_nodes, is_given, item_at, mapping_rules, node_product, nodes_of, nodes_right, one_to_three, sizes_or_row}
 use Rattle.xmp_parts.specs.Narrow.{is_count, is_narrow}
 use Rattle.xmp_parts.proofs.Unbroken.{both_true, left_true, nodes_at, right_true}
 
@@ -37,9 +37,9 @@ one_row n h =
     record { few = refl; some = both_true (nat_le 1 n) true (left_true (nat_le 1 n) (nat_le n 16) h) refl; most = ap (λ m. nat_le m 16) e ∙ right_true (nat_le 1 n) (nat_le n 16) h }
 
 pub right_nodes : (w : World) → mapping_rules w ≡ [] → IsTrue (is_count w.given) → RightNodes (nodes_of w)
-right_nodes w h c = go (slice_get w.mappings.nodes 0) refl
+right_nodes w h c = go (item_at w.mappings.nodes (first_nodes w)) refl
   where
-    go : (o : Option NodesLine) → slice_get w.mappings.nodes 0 ≡ o → RightNodes (sizes_or_row (given_or_one w) o)
+    go : (o : Option NodesLine) → item_at w.mappings.nodes (first_nodes w) ≡ o → RightNodes (sizes_or_row (given_or_one w) o)
     go (Some l) e = from_right w.given (line_sizes (given_or_one w) l) (nodes_at w l h e)
     go None e = one_row (given_or_one w) (count_of w.given c)
 

@@ -16,14 +16,15 @@ use Rattle.xmp_names.specs.declared.mappings.AlignPoint.{AlignPoint}
 use Rattle.xmp_names.specs.declared.mappings.AlignPoint.TheVariants as point
 use Rattle.xmp_names.specs.declared.mappings.Form.{Form}
 use Rattle.xmp_names.specs.declared.mappings.Form.TheVariants as form
-use Rattle.xmp_names.specs.Sizes.{is_small, natural}
-use Rattle.xmp_mapping_rules.specs.MappingRules.{all_different, dimensions_in, distributes, one_to_three, point_fits, points_right, reaches}
+use Rattle.xmp_names.specs.Sizes.{natural}
+use Rattle.xmp_mapping_rules.specs.MappingRules.{all_different, dimensions_in, distributes, one_to_three, reaches}
 use Rattle.xmp_parts.specs.Parts.{made_form, target_from, targets, targets_from}
 use Rattle.xmp_parts.proofs.Dimensions.{Named, found, named_by, named_by_none, star_not}
+use Rattle.xmp_parts.proofs.HeldPoints.{point_fits, points_right}
 use Rattle.xmp_parts.proofs.Padded.{all_filled, at_most_three, count_filled, filled_get, filled_past, mapped, mapped_to}
 use Rattle.xmp_parts.proofs.Unbroken.{all_here, both_true, right_true}
 
--- What is right of the points of an align, over the sizes and forms of its template.
+-- What is right of the held points of an align, over the sizes and forms of its template.
 pub record RightPoints (extents : List ℕ) (sizes : List ℤ) (forms : List Form) (points : List AlignPoint) : Type 0 where
   pub few : one_to_three (length points) ≡ true
   pub as_sizes : length points ≡ length sizes
@@ -144,7 +145,7 @@ star_spread extents true (Some z) h = cc
 
 dimension_there : (extents : List ℕ) (b : Bool) (size : Option ℤ) (d : ℕ) (o : ℤ) → point_fits extents b size (point.Dummy d o) ≡ true → d < length extents
 dimension_there extents b None d o h = absurd (cc)
-dimension_there extents b (Some z) d o h = go (slice_get extents d) refl (right_true (is_small o) _ h)
+dimension_there extents b (Some z) d o h = go (slice_get extents d) refl h
   where
     go : (x : Option ℕ) → slice_get extents d ≡ x → reaches z o x ≡ true → d < length extents
     go None e k = absurd (cc)
@@ -225,7 +226,7 @@ position_ok extents sizes ss forms k d x o b made few e h = go (slice_get sizes 
     go None q p = absurd (cc)
     go (Some z) q p =
         let there = mapped (λ s. s.dim.size) ss k (natural z) (ap (λ l. slice_get l k) made.sizes ∙ filled_get natural 1 sizes k z few q) in
-        let reach : reaches z o (Some x) ≡ true = subst (λ n. reaches z o n ≡ true) e (right_true (is_small o) _ p) in
+        let reach : reaches z o (Some x) ≡ true = subst (λ n. reaches z o n ≡ true) e p in
         both_true (nat_lt k (length sizes)) _ (lt-ltb k (length sizes) (slice_get_within sizes k z q))
         (subst (λ s. positions_fit o x s ≡ true) (sym there.1) (reaches_inside o z x there.0 reach there.2))
 

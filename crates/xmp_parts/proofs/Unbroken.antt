@@ -1,6 +1,6 @@
 -- What follows of each line where no rule of mappings breaks.
 use Rattle.std.proofs.Common.{◌≡◌, ◌∙◌, sym, ap, refl, subst, ◌++◌, ◌∷◌, [], ◌+◌, ◌<◌, ◌&&◌, ◌||◌, not, ℕ, zero, suc, ℤ, Bool, true, false, List, Option, Some, None, arith, length, get_or, map, eq-eqb, eqb-true}
-use Rattle.std.specs.Prelude.{slice_get, is_some, ◌==◌}
+use Rattle.std.specs.Prelude.{slice_get, is_some, ◌==◌, if◌then◌else◌}
 use Rattle.std.specs.List.{flat_map, list_all, enumerate_from}
 use Rattle.std.proofs.lemmas.Option.{same_Some, none-some}
 use Rattle.std.proofs.lemmas.List.Quantifiers.{position-Some}
@@ -12,12 +12,12 @@ use Rattle.xmp_names.specs.declared.mappings.NodesLine.{NodesLine}
 use Rattle.xmp_names.specs.declared.mappings.Shadow.{Shadow}
 use Rattle.xmp_names.specs.declared.mappings.TemplateLine.{TemplateLine}
 use Rattle.xmp_names.specs.declared.rules.Rule.{Rule}
-use Rattle.xmp_names.specs.declared.rules.Rule.TheVariants.{M1, M2, M3, M4, M5, M6}
+use Rattle.xmp_names.specs.declared.rules.Rule.TheVariants.{N9, M1, M2, M3, M4, M5, M6}
 use Rattle.xmp_names.specs.declared.world.World.{World}
 use Rattle.xmp_names.specs.Rules.{unless}
 use Rattle.xmp_mapping_rules.specs.Numbers.{first_place, is_at}
-use Rattle.xmp_names.specs.Sizes.{is_extent, given_or_one, line_sizes}
-use Rattle.xmp_mapping_rules.specs.MappingRules.{item_at, nodes_of, nodes_right, nodes_rule, nodes_rules, has_nodes, template_rule, template_rules, distribution_rule, distribution_rules, align_rule, align_rules, shadow_rule, shadow_rules, loop_rules, cell_rules, mapping_rules, distributed, shadowed, align_of, forms_in, forms_of, template_sizes, template_sizes_in, one_to_three, spread_right, forms_right, is_first_distribution, is_first_align, is_first_shadow, align_right, shadow_right}
+use Rattle.xmp_names.specs.Sizes.{is_extent, is_small, given_or_one, line_sizes}
+use Rattle.xmp_mapping_rules.specs.MappingRules.{item_at, first_nodes, nodes_of, nodes_right, nodes_rule, nodes_rules, has_nodes, template_rule, template_rules, distribution_rule, distribution_rules, align_rule, align_rules, shadow_rule, shadow_rules, loop_rules, cell_rules, mapping_rules, distributed, shadowed, align_of, forms_in, forms_of, template_sizes, template_sizes_in, one_to_three, spread_right, forms_right, is_first_distribution, is_first_align, is_first_shadow, align_right, shadow_right}
 
 -- ---- lists with nothing in them
 
@@ -135,11 +135,33 @@ after_aligns w h = right_none (align_rules w) _ (after_distributions w h)
 pub no_cell_rule : (w : World) → mapping_rules w ≡ [] → cell_rules w ≡ []
 no_cell_rule w h = right_none (loop_rules w) _ (right_none (shadow_rules w) _ (after_aligns w h))
 
-pub nodes_at : (w : World) (l : NodesLine) → mapping_rules w ≡ [] → slice_get w.mappings.nodes 0 ≡ Some l → nodes_right w.given (line_sizes (given_or_one w) l) ≡ true
-nodes_at w l h e =
+-- A line of nodes, where no rule breaks: it is no part of another, and the first.
+pub record RightLine (w : World) (k : ℕ) (l : NodesLine) : Type 0 where
+  pub first : first_nodes w ≡ Some k
+  pub sizes : nodes_right w.given (line_sizes (given_or_one w) l) ≡ true
+
+is_place : (k : ℕ) (o : Option ℕ) → is_at k o ≡ true → o ≡ Some k
+is_place k None h = cc
+is_place k (Some j) h = ap Some (eqb-true j k h)
+
+right_line : (w : World) (k : ℕ) (l : NodesLine) (b : Bool) →
+    (if b then unless false N9 l.at else unless (is_at k (first_nodes w) && nodes_right w.given (line_sizes (given_or_one w) l)) M1 l.at) ≡ [] → RightLine w k l
+right_line w k l true h = absurd (cc)
+right_line w k l false h =
+    let both = holds (is_at k (first_nodes w) && nodes_right w.given (line_sizes (given_or_one w) l)) M1 l.at h in
+    record { first = is_place k (first_nodes w) (left_true (is_at k (first_nodes w)) _ both); sizes = right_true (is_at k (first_nodes w)) _ both }
+
+pub line_at : (w : World) (k : ℕ) (l : NodesLine) → mapping_rules w ≡ [] → slice_get w.mappings.nodes k ≡ Some l → RightLine w k l
+line_at w k l h e =
     let rules : nodes_rules w ≡ [] = left_none (nodes_rules w) _ h in
-    let one : nodes_rule w (0, l) ≡ [] = none_here (nodes_rule w) w.mappings.nodes 0 l (left_none (flat_map (nodes_rule w) (enumerate_from 0 w.mappings.nodes)) (has_nodes (length w.mappings.nodes) w.mappings.first_directive) rules) e in
-    holds (nodes_right w.given (line_sizes (given_or_one w) l)) M1 l.at one
+    right_line w k l l.part (none_here (nodes_rule w) w.mappings.nodes k l (left_none (flat_map (nodes_rule w) (enumerate_from 0 w.mappings.nodes)) (has_nodes (first_nodes w) w.mappings.first_directive) rules) e)
+
+line_of : (w : World) (l : NodesLine) (o : Option ℕ) → item_at w.mappings.nodes o ≡ Some l → (k : ℕ) × (slice_get w.mappings.nodes k ≡ Some l)
+line_of w l None e = absurd (none-some l e)
+line_of w l (Some k) e = (k, e)
+
+pub nodes_at : (w : World) (l : NodesLine) → mapping_rules w ≡ [] → item_at w.mappings.nodes (first_nodes w) ≡ Some l → nodes_right w.given (line_sizes (given_or_one w) l) ≡ true
+nodes_at w l h e = let at = line_of w l (first_nodes w) e in (line_at w at.0 l h at.1).sizes
 
 -- A template, its first distribution, and what is right of them.
 pub record RightTemplate (nodes sizes : List ℤ) (fs : List Form) : Type 0 where
@@ -159,19 +181,30 @@ distribution_at w k i d h e f =
       second_true a c f (holds (not a || c) M4 d.at (right_none (unless (a && b) M3 d.at) (unless (not a || c) M4 d.at) one)),
     )
 
+-- The bounds of a template.
+bounds_at : (w : World) (k : ℕ) (l : TemplateLine) → mapping_rules w ≡ [] → slice_get w.mappings.templates k ≡ Some l →
+    (one_to_three (length l.sizes) && (list_all is_extent l.sizes && list_all is_small l.lowers)) ≡ true
+bounds_at w k l h e =
+    let one : template_rule w (k, l) ≡ [] = none_here (template_rule w) w.mappings.templates k l (left_none (template_rules w) _ (after_nodes w h)) e in
+    let a : Bool = one_to_three (length l.sizes) && (list_all is_extent l.sizes && list_all is_small l.lowers) in
+    holds a M2 l.at (left_none (unless a M2 l.at) (unless (is_some (first_place k (distributed w))) M3 l.at) one)
+
+pub lowers_at : (w : World) (k : ℕ) (l : TemplateLine) → mapping_rules w ≡ [] → slice_get w.mappings.templates k ≡ Some l → list_all is_small l.lowers ≡ true
+lowers_at w k l h e = right_true (list_all is_extent l.sizes) _ (right_true (one_to_three (length l.sizes)) _ (bounds_at w k l h e))
+
 pub template_at : (w : World) (k : ℕ) (l : TemplateLine) → mapping_rules w ≡ [] → slice_get w.mappings.templates k ≡ Some l → RightTemplate (nodes_of w) l.sizes (forms_of w k)
 template_at w k l h e =
     let one : template_rule w (k, l) ≡ [] = none_here (template_rule w) w.mappings.templates k l (left_none (template_rules w) _ (after_nodes w h)) e in
-    let a : Bool = one_to_three (length l.sizes) && list_all is_extent l.sizes in
+    let a : Bool = one_to_three (length l.sizes) && (list_all is_extent l.sizes && list_all is_small l.lowers) in
     let b : Bool = is_some (first_place k (distributed w)) in
-    let sizes = holds a M2 l.at (left_none (unless a M2 l.at) (unless b M3 l.at) one) in
+    let sizes = bounds_at w k l h e in
     let spread = holds b M3 l.at (right_none (unless a M2 l.at) (unless b M3 l.at) one) in
     let item = some_item (λ d. d.template) w.mappings.distributions k spread in
     let first = first_of_all (λ d. d.template) w.mappings.distributions k item.0 item.1 in
     let right = distribution_at w k first.place item.0 h first.at (is_first (λ d. d.template) w.mappings.distributions k item.0 first) in
     record {
       few = left_true (one_to_three (length l.sizes)) _ sizes;
-      extents = right_true (one_to_three (length l.sizes)) _ sizes;
+      extents = left_true (list_all is_extent l.sizes) _ (right_true (one_to_three (length l.sizes)) _ sizes);
       spread = subst (λ o. spread_right (nodes_of w) (template_sizes_in o) (forms_of w k) ≡ true) e (subst (λ o. spread_right (nodes_of w) (template_sizes w k) (forms_in o) ≡ true) (sym item.1) (subst (λ n. spread_right (nodes_of w) (template_sizes w n) item.0.forms ≡ true) first.same right.0));
       forms = subst (λ o. forms_right (forms_of w k) (template_sizes_in o) (nodes_of w) ≡ true) e (subst (λ o. forms_right (forms_in o) (template_sizes w k) (nodes_of w) ≡ true) (sym item.1) (subst (λ n. forms_right item.0.forms (template_sizes w n) (nodes_of w) ≡ true) first.same right.1));
     }

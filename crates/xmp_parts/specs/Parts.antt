@@ -63,6 +63,15 @@ IsTemplate w g k t = IsOf g (template_sizes w k) (forms_of w k) t
 
 -- ---- arrays
 
+-- The points of an align, each constant held less the lower bound of its dimension of the template.
+abbrev pub held_point : ℤ → AlignPoint → AlignPoint
+held_point lower ap.Star = ap.Star
+held_point lower (ap.Dummy d c) = ap.Dummy d (held lower c)
+
+abbrev pub held_points : List ℤ → ℕ → List AlignPoint → List AlignPoint
+held_points lowers k [] = []
+held_points lowers k (p ∷ more) = held_point (lower_at lowers k) p ∷ held_points lowers (k + 1) more
+
 -- A dimension that no point names is whole at each node.
 abbrev pub no_target : Target
 no_target = record { dim = None; offset = pos 0 }
@@ -70,37 +79,37 @@ no_target = record { dim = None; offset = pos 0 }
 abbrev pub target_at : ℕ → ℤ → Target
 target_at k offset = record { dim = Some k; offset = offset }
 
--- The constant of a point that names a dimension of the array, held less the lower bound of the point's dimension.
-abbrev pub offset_for : ℕ → ℤ → AlignPoint → Option ℤ
-offset_for d lower ap.Star = None
-offset_for d lower (ap.Dummy e c) = if e == d then Some (held lower c) else None
+-- The held constant of a point that names a dimension of the array.
+abbrev pub offset_for : ℕ → AlignPoint → Option ℤ
+offset_for d ap.Star = None
+offset_for d (ap.Dummy e offset) = if e == d then Some offset else None
 
--- The dimension of the template, from the k-th on, whose point names a dimension of the array, with the held constant.
-abbrev pub target_from : ℕ → List ℤ → ℕ → List AlignPoint → Target
-target_from d lowers k [] = no_target
-target_from d lowers k (ap.Star ∷ more) = target_from d lowers (k + 1) more
-target_from d lowers k (ap.Dummy e c ∷ more) = if e == d then target_at k (held (lower_at lowers k) c) else target_from d lowers (k + 1) more
+-- The dimension of the template, from the k-th on, whose point names a dimension of the array, with its held constant.
+abbrev pub target_from : ℕ → ℕ → List AlignPoint → Target
+target_from d k [] = no_target
+target_from d k (ap.Star ∷ more) = target_from d (k + 1) more
+target_from d k (ap.Dummy e offset ∷ more) = if e == d then target_at k offset else target_from d (k + 1) more
 
-abbrev pub targets_from : ℕ → List ℕ → List ℤ → List AlignPoint → List Target
-targets_from d extents lowers points = map (λ x. target_from x.0 lowers 0 points) (enumerate_from d extents)
+abbrev pub targets_from : ℕ → List ℕ → List AlignPoint → List Target
+targets_from d extents points = map (λ x. target_from x.0 0 points) (enumerate_from d extents)
 
-abbrev pub targets : List ℕ → List ℤ → List AlignPoint → List Target
-targets extents lowers points = targets_from 0 extents lowers points
+abbrev pub targets : List ℕ → List AlignPoint → List Target
+targets extents points = targets_from 0 extents points
 
 -- The widths of the first shadow of an array.
 abbrev pub widths_in : List ℕ → Option Shadow → List (ℕ × ℕ)
 widths_in extents None = map (λ x. (0, 0)) extents
 widths_in extents (Some s) = map (λ x. (natural x.0, natural x.1)) s.widths
 
--- A map over a template, of these extents, lower bounds, points and widths.
-pub record IsOver (t : Template) (extents : List ℕ) (lowers : List ℤ) (points : List AlignPoint) (widths : List (ℕ × ℕ)) (m : ArrayMap) : Type 0 where
+-- A map over a template, of these extents, held points and widths.
+pub record IsOver (t : Template) (extents : List ℕ) (points : List AlignPoint) (widths : List (ℕ × ℕ)) (m : ArrayMap) : Type 0 where
   pub template : m.template ≡ t
   pub dims : m.dims ≡ length extents
-  pub aligned : m.aligned ≡ aligned_dims extents (targets extents lowers points) widths
+  pub aligned : m.aligned ≡ aligned_dims extents (targets extents points) widths
 
 abbrev pub IsMapOver : World → ℕ → List ℕ → Align → ArrayMap → Option Template → Type 0
 IsMapOver w k extents a m None = ⊥
-IsMapOver w k extents a m (Some t) = IsOver t extents (template_lowers w a.template) a.points (widths_in extents (shadow_of w k)) m
+IsMapOver w k extents a m (Some t) = IsOver t extents (held_points (template_lowers w a.template) 0 a.points) (widths_in extents (shadow_of w k)) m
 
 abbrev pub IsMap : World → List Template → ℕ → List ℕ → Align → ArrayMap → Type 0
 IsMap w templates k extents a m = IsMapOver w k extents a m (slice_get templates a.template)

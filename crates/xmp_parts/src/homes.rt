@@ -4,14 +4,15 @@ ghost use Rattle.std.specs.List.{list_all};
 ghost use Rattle.xmp_map.specs.Align.{aligned_dims, map_fault};
 ghost use Rattle.xmp_map.specs.RowMajor.{product};
 ghost use Rattle.xmp_map.specs.Spread.{sizes_fit};
-ghost use Rattle.xmp_names.specs.Sizes.{natural};
-ghost use Rattle.xmp_mapping_rules.specs.MappingRules.{align_of, mapping_rules, shadow_of};
-ghost use Rattle.xmp_parts.specs.Narrow.{are_narrow, is_narrow_pair, is_narrow_point};
-ghost use Rattle.xmp_parts.specs.Parts.{EachMade, IsArray, IsHome, IsOver, IsSpread, IsTemplate, offset_for, target_from, targets, widths_in};
+ghost use Rattle.xmp_names.specs.Sizes.{lower_at, natural};
+ghost use Rattle.xmp_mapping_rules.specs.MappingRules.{align_of, mapping_rules, shadow_of, template_lowers};
+ghost use Rattle.xmp_parts.specs.Narrow.{are_narrow, is_narrow_pair};
+ghost use Rattle.xmp_parts.specs.Parts.{EachMade, IsArray, IsHome, IsOver, IsSpread, IsTemplate, held_point, held_points, offset_for, target_from, targets, widths_in};
 
 use crate::grids::narrowed;
 use sqlite_items::Items;
 use std::alloc::{AllocError, Global};
+use xmp_names::{held, lower_at};
 use xmp_map::{ArrayMap, Grid, Target, Template};
 use xmp_mapping_rules::Lines;
 use xmp_prog as prog;
@@ -20,16 +21,15 @@ use xmp_walk::{Align, AlignPoint, Array, Shadow};
 
 // ---- what the dimensions of an array are aligned with
 
-// The constant of a point, where it is that of dimension `d` of the array.
-fn offset_for(point: AlignPoint, d: usize) -> Option<i32>
-    requires { IsTrue (is_narrow_point point) }
-    ensures { result ≡ offset_for d point }
+// The held constant of a point, where it is that of dimension `d` of the array.
+fn offset_for(point: AlignPoint, lower: i64, d: usize) -> Option<i32>
+    ensures { result ≡ offset_for d (held_point lower point) }
 {
     match point {
         AlignPoint::Star => None,
         AlignPoint::Dummy { dimension, offset } => {
             if dimension == d {
-                Some(offset as i32)
+                Some(held(lower, offset))
             } else {
                 None
             }
@@ -38,13 +38,12 @@ fn offset_for(point: AlignPoint, d: usize) -> Option<i32>
 }
 
 // What dimension `d` of the array is aligned with.
-fn target_of(d: usize, points: &[AlignPoint]) -> Target
-    requires narrow { IsTrue (list_all is_narrow_point points.now) }
-    requires few { length points.now ≤ 3 }
-    ensures { result ≡ target_from d 0 points.now }
+fn target_of(d: usize, lowers: &[i64], points: &[AlignPoint]) -> Target
+    requires { length points.now ≤ 3 }
+    ensures { result ≡ target_from d 0 (held_points lowers.now 0 points.now) }
 {
     'points: for (k, point) in points.iter().enumerate() {
-        if let Some(offset) = offset_for(*point, d) {
+        if let Some(offset) = offset_for(*point, lower_at(lowers, k), d) {
             return Target {
                 dim: Some(k as u32),
                 offset,
@@ -60,15 +59,15 @@ fn target_of(d: usize, points: &[AlignPoint]) -> Target
 fn made_targets(
     alloc: Global,
     extents: &[u32],
+    lowers: &[i64],
     points: &[AlignPoint],
 ) -> Result<Items<Target>, AllocError>
-    requires narrow { IsTrue (list_all is_narrow_point points.now) }
-    requires few { length points.now ≤ 3 }
-    ensures { IfOk result (λ ts. ts ≡ targets extents.now points.now) }
+    requires { length points.now ≤ 3 }
+    ensures { IfOk result (λ ts. ts ≡ targets extents.now (held_points lowers.now 0 points.now)) }
 {
     let mut made = Items::new(alloc);
     'extents: for (d, _extent) in extents.iter().enumerate() {
-        made.push(target_of(d, points))?;
+        made.push(target_of(d, lowers, points))?;
     }
     Ok(made)
 }
@@ -138,20 +137,20 @@ fn made_map(
     alloc: Global,
     template: &Template,
     extents: &[u32],
+    lowers: &[i64],
     points: &[AlignPoint],
     shadow: Option<&Shadow>,
 ) -> Result<ArrayMap, AllocError>
-    requires points { IsTrue (list_all is_narrow_point points.now) }
     requires few { length points.now ≤ 3 }
     requires shadow { IsTrue (are_narrow (option_copied shadow)) }
     requires widths { length (widths_in extents.now (option_copied shadow)) ≡ length extents.now }
     requires sizes { IsTrue (sizes_fit extents.now) }
     requires cells { product extents.now ≤ 4194304 }
     requires right { map_fault template.now.dims template.now.spread
-        (aligned_dims extents.now (targets extents.now points.now) (widths_in extents.now (option_copied shadow))) ≡ None }
-    ensures { IfOk result (λ m. IsOver template.now extents.now points.now (widths_in extents.now (option_copied shadow.entry)) m) }
+        (aligned_dims extents.now (targets extents.now (held_points lowers.now 0 points.now)) (widths_in extents.now (option_copied shadow))) ≡ None }
+    ensures { IfOk result (λ m. IsOver template.now extents.now (held_points lowers.now 0 points.now) (widths_in extents.now (option_copied shadow.entry)) m) }
 {
-    let targets = made_targets(alloc, extents, points)?;
+    let targets = made_targets(alloc, extents, lowers, points)?;
     let widths = made_widths(alloc, extents, shadow)?;
     Ok(map_of(template, extents, targets.as_slice(), widths.as_slice()))
 }
@@ -185,8 +184,9 @@ fn spread_home(
         Some(template) => {
             let shadow = lines.shadow_of(k);
             let extents = array.extents.as_slice();
+            let lowers = lines.template_lowers(align.template);
             let points = align.points.as_slice();
-            let map = made_map(alloc, template, extents, points, shadow)?;
+            let map = made_map(alloc, template, extents, lowers, points, shadow)?;
             Ok(Home::Spread(align.template, map))
         }
         None => unreachable!(),

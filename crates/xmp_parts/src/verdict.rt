@@ -19,6 +19,7 @@ fn number_of(rule: Rule) -> u16
         Rule::N6 => 6,
         Rule::N7 => 7,
         Rule::N8 => 8,
+        Rule::N9 => 9,
         Rule::N10 => 10,
         Rule::M1 => 1,
         Rule::M2 => 2,
@@ -46,6 +47,7 @@ fn is_of_names(rule: Rule) -> bool
         Rule::N6 => true,
         Rule::N7 => true,
         Rule::N8 => true,
+        Rule::N9 => true,
         Rule::N10 => true,
         _ => false,
     }

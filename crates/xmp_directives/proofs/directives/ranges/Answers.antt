@@ -10,5 +10,5 @@ sizes-preserved c =
     let f : SFits w64 (get_or c.args.sizes.now c.sizes.i (pos 0)) = search rules in
     let e : to_z w64 (of_z w64 (get_or c.args.sizes.now c.sizes.i (pos 0))) ≡ get_or c.args.sizes.now c.sizes.i (pos 0) = omega (arith, ints) in
     c.sizes.invariant
-    ∙ range_step c.sizes.done c.push.new.self c.args.sizes.now c.args.parts.now c.sizes.i _ c.part_at.result c.range_of.result c.sizes-test.true
-    e c.part_at.ensures c.range_of.ensures c.in_ok-push.ensures.ok
+    ∙ range_step c.sizes.done c.push.new.self c.args.sizes.now c.args.pieces.now c.sizes.i _ c.piece_at.result c.range_of.result c.sizes-test.true
+    e c.piece_at.ensures c.range_of.ensures c.in_ok-push.ensures.ok

@@ -4,4 +4,4 @@ use Rattle.xmp_directives.proofs.directives.ranges.Given as goal
 
 -- what is left to do from here gives what the whole gives
 abbrev pub invariant-sizes : goal.invariant-sizes
-invariant-sizes l = ranges l.sizes l.parts ≡ l.done ++ ranges (drop l.i l.sizes) (drop l.i l.parts)
+invariant-sizes l = ranges l.sizes l.pieces ≡ l.done ++ ranges (drop l.i l.sizes) (drop l.i l.pieces)
