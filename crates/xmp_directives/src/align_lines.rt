@@ -9,9 +9,7 @@ use crate::points::{match_template, offset_of};
 use sqlite_items::Items;
 use std::alloc::{AllocError, Global};
 use xmp_base::Place;
-use xmp_names::{
-    Align, AlignPoint, Meaning, Rule, Shadow, World, extents_in, notation, part_at,
-};
+use xmp_names::{Align, AlignPoint, Meaning, Rule, Shadow, World, extents_in, notation, part_at};
 use xmp_scopes::Scopes;
 use xmp_syntax::{AlignDimension, Expr, Inside, Name, Point, Several};
 

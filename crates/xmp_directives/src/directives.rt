@@ -379,7 +379,11 @@ fn set_right(one_node: bool, sizes: &[i64], ranges: &[(i128, i128)]) -> bool
 fn node_number(n: i128) -> u32
     ensures { result ≡ node_number n }
 {
-    if 0 <= n && n <= i128::from(NODE_LIMIT) { n as u32 } else { 0 }
+    if 0 <= n && n <= i128::from(NODE_LIMIT) {
+        n as u32
+    } else {
+        0
+    }
 }
 
 fn are_small(sizes: &[i64]) -> bool

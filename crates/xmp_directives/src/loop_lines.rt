@@ -20,9 +20,7 @@ use xmp_names::{LoopUse, Rule, World, held, lower_at, notation, part_at};
 use xmp_num::RedOp;
 use xmp_prog as prog;
 use xmp_prog::{LoopHead, Stmt};
-use xmp_syntax::{
-    CommaList, Inside, LoopLine, Name, Point, Reduction, ReductionOperator, Several,
-};
+use xmp_syntax::{CommaList, Inside, LoopLine, Name, Point, Reduction, ReductionOperator, Several};
 
 /// What the line of a loop directive says: the template by its number, with its lower bounds, its points, each with the slot
 /// of the index and the constant as written or nothing for `*`, the slots of its names, and its reductions.

@@ -394,9 +394,7 @@ fn mapping_line(world: &mut World, alloc: Global, mapping: &Mapping) -> Result<(
     ensures { Does (mapping_line mapping.now world.old) result world.new }
 {
     match mapping {
-        Mapping::Nodes(line, name, sizes) => {
-            nodes_with_sizes(world, alloc, line, name, sizes)
-        }
+        Mapping::Nodes(line, name, sizes) => { nodes_with_sizes(world, alloc, line, name, sizes) }
         Mapping::NodesStar(line, name, star) => nodes_star(world, alloc, line, name, star),
         Mapping::NodesPart(line, name, size, _, set) => {
             nodes_part(world, alloc, line, name, size, set)
@@ -409,15 +407,7 @@ fn mapping_line(world: &mut World, alloc: Global, mapping: &Mapping) -> Result<(
         }
         Mapping::Align(line, array, dimensions, _, template, points) => {
             let dimensions = dimensions.as_slice();
-            align_line(
-                world,
-                alloc,
-                line.word,
-                array,
-                dimensions,
-                template,
-                points,
-            )
+            align_line(world, alloc, line.word, array, dimensions, template, points)
         }
         Mapping::Shadow(line, array, widths) => {
             shadow_line(world, alloc, line.word, array, widths.as_slice())

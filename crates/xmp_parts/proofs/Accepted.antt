@@ -158,7 +158,7 @@ map_facts w g templates k array a h made at e =
       t.0,
       t.1,
       subst (λ ls. MapFits array.extents (held_points ls 0 a.points) (shadow_of w k) t.0) (sym (ap template_lowers_in l.1))
-      (map_fits array.extents l.0.sizes (forms_of w a.template) (held_points l.0.lowers 0 a.points) (shadow_of w k) g t.0
+          (map_fits array.extents l.0.sizes (forms_of w a.template) (held_points l.0.lowers 0 a.points) (shadow_of w k) g t.0
           (points_of w k array a l.0 h at r.0 l.1 r.2 (template_at w a.template l.0 h l.1))
           (held_shadow array.extents (forms_of w a.template) l.0.lowers a.points (shadow_of w k) (shadow_of_array w k array a h at e))
           (subst (λ ss. IsOf g ss (forms_of w a.template) t.0) sizes t.2) cells.0 cells.1),

@@ -12,9 +12,9 @@ ghost use Rattle.xmp_parts.specs.Parts.{EachMade, IsArray, IsHome, IsOver, IsSpr
 use crate::grids::narrowed;
 use sqlite_items::Items;
 use std::alloc::{AllocError, Global};
-use xmp_names::{held, lower_at};
 use xmp_map::{ArrayMap, Grid, Target, Template};
 use xmp_mapping_rules::Lines;
+use xmp_names::{held, lower_at};
 use xmp_prog as prog;
 use xmp_prog::Home;
 use xmp_walk::{Align, AlignPoint, Array, Shadow};

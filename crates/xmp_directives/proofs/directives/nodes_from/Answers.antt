@@ -10,8 +10,8 @@ pub returns-in-Parens-Some : goal.returns-in-Parens-Some
 returns-in-Parens-Some c =
     let f : SFits w64 c.args.first = search rules in
     let g : SFits w64 c.in-Parens-Some.last = search rules in
-    let b : c.from-b.result ≡ c.args.first = c.from-b.ensures in
-    let l : c.from-in-Parens-Some.result ≡ c.in-Parens-Some.last = c.from-in-Parens-Some.ensures in
+    let b : c.from-b.result ≡ to_z w64 (of_z w64 c.args.first) = c.from-b.ensures in
+    let l : c.from-in-Parens-Some.result ≡ to_z w64 (of_z w64 c.in-Parens-Some.last) = c.from-in-Parens-Some.ensures in
     let x : to_z w128 (of_z w128 (to_z w128 (of_z w128 c.from-b.result) -ℤ pos 1)) ≡ c.args.first -ℤ pos 1 = omega (arith, ints) in
     let y : to_z w128 (of_z w128 (to_z w128 (of_z w128 (to_z w128 (of_z w128 c.from-in-Parens-Some.result) -ℤ to_z w128 (of_z w128 c.from-b.result))) +ℤ pos 1)) ≡ c.in-Parens-Some.last -ℤ c.args.first +ℤ pos 1 = omega (arith, ints) in
     ap₂ (λ p q. (p, q)) x y ∙ sym (ap (λ n. nodes_from n c.args.first c.args.second) c.in-Parens-Some.is-0 ∙ ap (nodes_from Parens c.args.first) c.in-Parens-Some.is-1)
