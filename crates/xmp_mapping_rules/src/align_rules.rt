@@ -1,9 +1,5 @@
 // The rules of aligns.
-<<<<<<< HEAD
-ghost use Rattle.std.specs.Prelude.{◌≡◌, ◌≤◌, ◌++◌, ◌&&◌, ◌-ℤ◌, int_le, negsuc, pos, IfOk, IsTrue, OnOk, option_copied, slice_get};
-=======
 ghost use Rattle.std.specs.Prelude.{◌≡◌, ◌++◌, ◌&&◌, ◌-ℤ◌, IfOk, OnOk, option_copied, slice_get};
->>>>>>> 2db86ca39e155034464e1014a4561f763dc0ae50
 ghost use Rattle.xmp_names.specs.Sizes.{extents_in, is_small, lower_at};
 ghost use Rattle.xmp_mapping_rules.specs.MappingRules.{align_of, align_right, align_rule, align_rules, aligned, all_different, dimension_in, dimensions_in, distributed, distributes, dummies_right, point_fits, point_right, points_right, reaches};
 
@@ -58,50 +54,15 @@ fn dummies_right(dummies: &[bool], dimensions: &Numbers) -> bool
     true
 }
 
-// Whether a coordinate lies at most so far behind the lower bound as the size is.
-fn lies_below(size: i64, lower: i64, coordinate: i64) -> bool
-    ensures { result ≡ int_le (coordinate -ℤ lower) size }
-{
-    match size.checked_add(lower) {
-        Some(end) => coordinate <= end,
-        None => 0 < lower,
-    }
-}
-
-// Whether the positions of so many subscripts, the first at a coordinate, lie in a dimension.
-fn reaches(size: i64, lower: i64, c: i64, extent: Option<u32>) -> bool
-    requires { IsTrue (is_small c) }
-    ensures { result ≡ reaches size (c -ℤ lower) extent }
+fn reaches(size: i64, position: i128, extent: Option<u32>) -> bool
+    ensures { result ≡ reaches size position extent }
 {
     match extent {
-<<<<<<< HEAD
-        Some(extent) => lower <= c && lies_below(size, lower, c + i64::from(extent)),
-=======
         Some(extent) => { 0 <= position && position <= i128::from(size) - i128::from(extent) }
->>>>>>> 2db86ca39e155034464e1014a4561f763dc0ae50
         None => false,
     }
 }
 
-<<<<<<< HEAD
-fn extent_at(extents: &[u32], d: usize) -> Option<u32>
-    ensures { result ≡ slice_get extents.now d }
-{
-    extents.get(d).copied()
-}
-
-fn dummy_right(
-    extents: &[u32],
-    spread: bool,
-    lower: i64,
-    size: i64,
-    dimension: usize,
-    c: i64,
-) -> bool
-    ensures { result ≡ point_right extents.now spread lower size (AlignPoint.Dummy dimension c) }
-{
-    is_small(c) && reaches(size, lower, c, extent_at(extents, dimension))
-=======
 // Where a constant puts subscript 0 of an array: at the coordinate less the lower bound.
 fn position_of(lower: i64, c: i64) -> i128
     ensures { result ≡ c -ℤ lower }
@@ -119,7 +80,6 @@ fn size_at(sizes: &[i64], dimension: usize) -> Option<i64>
     ensures { result ≡ slice_get sizes.now dimension }
 {
     sizes.get(dimension).copied()
->>>>>>> 2db86ca39e155034464e1014a4561f763dc0ae50
 }
 
 fn point_right(extents: &[u32], spread: bool, lower: i64, size: i64, point: AlignPoint) -> bool
@@ -128,12 +88,8 @@ fn point_right(extents: &[u32], spread: bool, lower: i64, size: i64, point: Alig
     match point {
         AlignPoint::Star => !spread,
         AlignPoint::Dummy { dimension, offset } => {
-<<<<<<< HEAD
-            dummy_right(extents, spread, lower, size, dimension, offset)
-=======
             let extent = extent_at(extents, dimension);
             is_small(offset) && reaches(size, position_of(lower, offset), extent)
->>>>>>> 2db86ca39e155034464e1014a4561f763dc0ae50
         }
     }
 }
@@ -153,12 +109,6 @@ fn point_fits(
     }
 }
 
-fn size_at(sizes: &[i64], i: usize) -> Option<i64>
-    ensures { result ≡ slice_get sizes.now i }
-{
-    sizes.get(i).copied()
-}
-
 // The point of the i-th dimension of the template.
 fn point_at(
     extents: &[u32],
@@ -171,19 +121,9 @@ fn point_at(
     ensures { result ≡ point_fits extents.now (distributes (slice_get forms.now i)) (lower_at lowers.now i) (slice_get sizes.now i) point }
 {
     let spread = distributes(forms, i);
-<<<<<<< HEAD
-    point_fits(
-        extents,
-        spread,
-        lower_at(lowers, i),
-        size_at(sizes, i),
-        point,
-    )
-=======
     let lower = lower_at(lowers, i);
     let size = size_at(sizes, i);
     point_fits(extents, spread, lower, size, point)
->>>>>>> 2db86ca39e155034464e1014a4561f763dc0ae50
 }
 
 fn points_right(
