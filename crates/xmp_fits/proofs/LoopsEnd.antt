@@ -20,7 +20,8 @@ use Rattle.xmp_names.specs.declared.mappings.TemplateLine.{TemplateLine}
 use Rattle.xmp_names.specs.declared.rules.Rule.TheVariants.{N3, M7}
 use Rattle.xmp_names.specs.declared.world.World.{World}
 use Rattle.xmp_names.specs.Rules.{unless}
-use Rattle.xmp_names.specs.Lists.{inner}
+use Rattle.xmp_names.specs.declared.mappings.Notation.{Notation}
+use Rattle.xmp_names.specs.Lists.{notation, parts}
 use Rattle.xmp_directives.specs.Directives.{Nest, is_indexed, judged_loop, loop_line, loop_right, lowers_of, made_points, match_template, template_takes, name_list, nest_of, point_of, reductions_of, use_template}
 use Rattle.xmp_mapping_rules.specs.MappingRules.{forms_of, indexed_right, loop_rule, loop_rules, mapping_rules, cell_rules, nodes_of, shadow_rules, template_sizes, template_sizes_in}
 use Rattle.xmp_parts.specs.Parts.{IsOf, IsTemplate}
