@@ -1,12 +1,12 @@
 -- The heads of a nest, one after the other.
-use Rattle.std.proofs.Common.{◌≡◌, ◌∙◌, ◌<◌, ◌≤◌, ◌+◌, ◌-◌, ◌++◌, ℕ, zero, suc, refl, sym, ap, Bool, false, List, [], ◌∷◌, append_assoc, arith}
+use Rattle.std.proofs.Common.{◌≡◌, ◌∙◌, ◌<◌, ◌≤◌, ◌+◌, ◌-◌, ◌++◌, ℕ, zero, suc, refl, sym, ap, false, List, [], ◌∷◌, append_assoc, arith}
 use Rattle.std.specs.Prelude.{Option, None, Some, is_some}
 use Rattle.xmp_prog.specs.declared.statements.LoopHead.{LoopHead}
 use Rattle.std.proofs.lemmas.List.{append-nil}
 use Rattle.xmp_prog.specs.declared.statements.Stmt.{Stmt, out-Stmt, out-roll-Stmt}
 use Rattle.xmp_prog.specs.declared.statements.Stmt.TheVariants as stmt
 use Rattle.xmp_prog.specs.declared.statements.Stmt.TheOpen.{Stmt-F}
-use Rattle.xmp_directives.specs.Directives.{Nest, counted_in, head_of, nest_in, nest_of, single, unbraced_in, with_head}
+use Rattle.xmp_directives.specs.Directives.{Nest, counted_in, head_of, nest_in, nest_of, single, unbraced_in}
 
 -- A nest behind loops that stand round it.
 abbrev pub behind : List LoopHead → Nest → Nest

@@ -1,5 +1,5 @@
 -- The ranges of a set of nodes, dimension by dimension.
-use Rattle.std.proofs.Common.{◌≡◌, ◌∙◌, ◌<◌, ◌≤◌, ◌+◌, ◌++◌, refl, sym, ap, ℕ, ℤ, pos, List, [], ◌∷◌, Option, None, Some, length, drop, get_or, add-one, drop-cons, append_assoc, arith, ⊎_elim, Bool, true}
+use Rattle.std.proofs.Common.{◌≡◌, ◌∙◌, ◌<◌, ◌≤◌, ◌+◌, ◌++◌, refl, sym, ap, ℕ, ℤ, pos, List, [], ◌∷◌, Option, None, length, drop, get_or, add-one, drop-cons, append_assoc, arith, ⊎_elim, true}
 use Rattle.std.proofs.lemmas.Bool.{cases_lt}
 use Rattle.std.proofs.lemmas.List.{drop_all}
 use Rattle.std.proofs.lemmas.Option.{slice_get_past, unwrap_or-slice_get}

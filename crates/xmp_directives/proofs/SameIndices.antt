@@ -1,5 +1,5 @@
 -- Two lists of numbers that are gone through side by side.
-use Rattle.std.proofs.Common.{◌≡◌, ◌∙◌, ◌<◌, ◌≤◌, ◌+◌, ◌-◌, refl, ap, ℕ, List, [], ◌∷◌, Bool, false, length, drop, get_or, arith, length-drop, add-one, drop-cons}
+use Rattle.std.proofs.Common.{◌≡◌, ◌∙◌, ◌<◌, ◌≤◌, ◌+◌, ◌-◌, refl, ap, ℕ, List, [], ◌∷◌, false, length, drop, get_or, arith, length-drop, add-one, drop-cons}
 use Rattle.std.specs.Prelude.{nat_le}
 use Rattle.std.proofs.lemmas.List.{drop_all}
 use Rattle.std.proofs.lemmas.Bool.Decides.{nat_tests}

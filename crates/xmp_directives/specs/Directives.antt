@@ -57,7 +57,6 @@ use Rattle.xmp_names.specs.declared.mappings.NodesLine.{NodesLine}
 use Rattle.xmp_names.specs.declared.mappings.TemplateLine.{TemplateLine}
 use Rattle.xmp_directives.specs.declared.loop_lines.LoopParts.{LoopParts}
 use Rattle.xmp_names.specs.declared.rules.Rule.TheVariants.{N1, N3, M7, M8, M9}
-use Rattle.xmp_names.specs.declared.world.World.{World}
 use Rattle.xmp_names.specs.Expressions.{is_nothing}
 use Rattle.xmp_names.specs.Walk.{Gave, Run, ◌>>=◌, pure, each, if_there, judge, typed, constant, first_place, meaning_of, name_of, a_scalar, an_int_scalar, an_array, a_nodes, a_template, directive_at}
 use Rattle.xmp_names.specs.Lists.{listed, inner, parts, notation, is_same}

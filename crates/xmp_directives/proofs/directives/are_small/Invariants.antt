@@ -1,4 +1,4 @@
-use Rattle.std.proofs.Common.{◌≡◌, map, drop}
+use Rattle.std.proofs.Common.{◌≡◌, drop}
 use Rattle.std.specs.Prelude.{int_le, pos}
 use Rattle.std.specs.List.{list_all}
 use Rattle.xmp_directives.proofs.directives.are_small.Given as goal

@@ -1,4 +1,4 @@
-use Rattle.std.proofs.Common.{◌≡◌, map, drop}
+use Rattle.std.proofs.Common.{◌≡◌, drop}
 use Rattle.xmp_directives.specs.Directives.{is_one}
 use Rattle.xmp_directives.proofs.directives.is_one.Given as goal
 

@@ -1,4 +1,4 @@
-use Rattle.std.proofs.Common.{◌≡◌, map, drop}
+use Rattle.std.proofs.Common.{◌≡◌, drop}
 use Rattle.std.specs.List.{list_all}
 use Rattle.xmp_prog.specs.Numbers.{is_in}
 use Rattle.xmp_directives.proofs.indices.all_in.Given as goal

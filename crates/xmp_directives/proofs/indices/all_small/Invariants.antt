@@ -1,4 +1,4 @@
-use Rattle.std.proofs.Common.{◌≡◌, map, drop}
+use Rattle.std.proofs.Common.{◌≡◌, drop}
 use Rattle.std.specs.List.{list_all}
 use Rattle.xmp_directives.specs.Directives.{is_small_point}
 use Rattle.xmp_directives.proofs.indices.all_small.Given as goal

@@ -1,4 +1,4 @@
-use Rattle.std.proofs.Common.{◌≡◌, map, drop, ◌++◌}
+use Rattle.std.proofs.Common.{◌≡◌, drop, ◌++◌}
 use Rattle.xmp_directives.specs.Directives.{slots_of_points}
 use Rattle.xmp_directives.proofs.indices.slots_of_points.Given as goal
 

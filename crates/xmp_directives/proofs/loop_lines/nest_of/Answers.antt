@@ -1,4 +1,4 @@
-use Rattle.std.proofs.Common.{◌∙◌, ◌+◌, ◌-◌, ◌++◌, ◌∷◌, [], ap, sym, arith}
+use Rattle.std.proofs.Common.{◌∙◌, ◌+◌, ◌-◌, ap, sym, arith}
 use Rattle.std.specs.Prelude.{is_some}
 use Rattle.xmp_directives.specs.Directives.{head_of, nest_of}
 use Rattle.xmp_directives.proofs.Nests.{behind, next_head, no_head, all_heads}

@@ -1,4 +1,4 @@
-use Rattle.std.proofs.Common.{◌≡◌, map, drop, []}
+use Rattle.std.proofs.Common.{◌≡◌, drop, []}
 use Rattle.xmp_directives.specs.Directives.{reductions_of}
 use Rattle.xmp_directives.proofs.loop_lines.reductions_of.Given as goal
 

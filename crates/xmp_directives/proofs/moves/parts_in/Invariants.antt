@@ -1,4 +1,4 @@
-use Rattle.std.proofs.Common.{◌≡◌, map, drop, []}
+use Rattle.std.proofs.Common.{◌≡◌, drop, []}
 use Rattle.xmp_names.specs.Lists.{inner}
 use Rattle.xmp_directives.specs.Directives.{parts_in}
 use Rattle.xmp_directives.proofs.moves.parts_in.Given as goal
