@@ -1,6 +1,6 @@
 -- A world of a walk that ends in a program with no rule broken; and what names mean there.
 use Rattle.std.proofs.Common.{◌≡◌, ◌<◌, ◌∙◌, sym, ap, refl, subst, ◌++◌, ◌∷◌, [], ℕ, zero, suc, Bool, true, false, not, List, Option, Some, None, length, ◌&&◌, eqb-true, IsTrue, arith}
-use Rattle.std.specs.Prelude.{slice_get, is_some, ◌==◌, ℤ, if◌then◌else◌}
+use Rattle.std.specs.Prelude.{slice_get, is_some, ℤ, if◌then◌else◌}
 use Rattle.std.proofs.lemmas.Option.{none-some}
 use Rattle.std.specs.List.{flat_map, enumerate_from}
 use Rattle.std.specs.Option.{unwrap_or}

@@ -1,9 +1,8 @@
 -- Loop directives that break no rule: their template is one of the program's, with a point for each dimension; the indices of the nest
 -- stand in one point each, and the point of each distributed dimension has one.
-use Rattle.std.proofs.Common.{◌≡◌, ◌≤◌, ◌∙◌, sym, ap, refl, subst, ◌++◌, ◌∷◌, [], ◌&&◌, ◌||◌, ℕ, zero, suc, ℤ, pos, negsuc, Bool, true, not, List, Option, Some, None, arith, length, map, eqb-true, eq-eqb}
+use Rattle.std.proofs.Common.{◌≡◌, ◌≤◌, ◌∙◌, sym, ap, refl, subst, ◌++◌, ◌∷◌, [], ◌&&◌, ◌||◌, ℕ, suc, ℤ, pos, Bool, true, not, List, Option, Some, None, arith, length, map, eqb-true, eq-eqb}
 use Rattle.std.specs.Prelude.{int_le, neg_ℤ, ◌-ℤ◌, ◌+◌, false, ◌==◌, slice_get, if◌then◌else◌}
 use Rattle.std.specs.List.{list_all, count_by, flat_map}
-use Rattle.std.proofs.lemmas.List.{length-map}
 use Rattle.std.proofs.lemmas.Bool.{lt-ltb}
 use Rattle.std.proofs.lemmas.Int.{ints}
 use Rattle.std.proofs.lemmas.Option.{slice_get_within}

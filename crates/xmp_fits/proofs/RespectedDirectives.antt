@@ -1,6 +1,6 @@
 -- Statements and directives with no statement inside respect a relation that the single steps respect.
 use Rattle.std.proofs.Common.{◌++◌, ◌∷◌, [], ℕ, List, Bool, true, false, Option, Some, None, length, map}
-use Rattle.std.specs.Prelude.{⊤, ℤ, pos, not, ◌&&◌, ◌||◌, ◌==◌, slice_get, drop}
+use Rattle.std.specs.Prelude.{⊤, ℤ, not, ◌&&◌, ◌||◌, ◌==◌, slice_get, drop}
 use Rattle.std.specs.Option.{unwrap_or}
 use Rattle.std.specs.List.{list_all}
 use Rattle.xmp_base.specs.declared.place.Place.{Place}

@@ -1,5 +1,5 @@
 -- The lines of mapping directives respect a relation that the single steps respect.
-use Rattle.std.proofs.Common.{◌++◌, ◌∷◌, [], ℕ, ◌+◌, List, Bool, false, Option, Some, None, length, map}
+use Rattle.std.proofs.Common.{◌++◌, ◌∷◌, [], ℕ, ◌+◌, List, Bool, true, false, Option, Some, None, length, map}
 use Rattle.std.specs.Prelude.{⊤, ℤ, pos, not}
 use Rattle.xmp_base.specs.declared.place.Place.{Place}
 use Rattle.xmp_syntax.specs.declared.parts.Name as named

@@ -1,5 +1,5 @@
 -- Runs of the walk after which the names mean the same scalars as before: the single steps do but the declaration of a scalar.
-use Rattle.std.proofs.Common.{◌≡◌, refl, ◌∙◌, map, sym, ap, subst, ◌⊎◌, inl, inr, ◌++◌, ◌∷◌, [], ℕ, Bool, true, false, List, Option, Some, None, length}
+use Rattle.std.proofs.Common.{◌≡◌, refl, ◌∙◌, map, sym, ap, subst, ◌⊎◌, inl, inr, ◌++◌, ◌∷◌, [], ℕ, Bool, true, false, List, Some, None, length}
 use Rattle.std.specs.List.{list_all}
 use Rattle.std.specs.Prelude.{⊤, ℤ, ◌&&◌, nat_le, not, ◌||◌, is_some, if◌then◌else◌}
 use Rattle.std.specs.Option.{option_or}

@@ -1,6 +1,6 @@
 -- The scalars of all statements, by the induction over the statements of a tree.
 use Rattle.std.proofs.Common.{◌≡◌, ◌∙◌, sym, ap, refl, subst, ◌++◌, ◌∷◌, [], ℕ, ℤ, ◌+◌, ◌≤◌, Bool, true, List, Option, Some, None, length, length-append, map, arith}
-use Rattle.std.specs.Prelude.{⊤, pos, ◌||◌, not, ◌==◌, is_some, slice_get}
+use Rattle.std.specs.Prelude.{⊤, pos, ◌||◌, not, is_some, slice_get}
 use Rattle.std.specs.List.{flat_map, AllByRecursion}
 use Rattle.std.specs.Option.{unwrap_or}
 use Rattle.std.proofs.lemmas.List.{append-nil}
@@ -49,7 +49,7 @@ use Rattle.xmp_names.specs.declared.mappings.Notation.{Notation}
 use Rattle.xmp_names.specs.Lists.{listed, inner, notation, parts}
 use Rattle.xmp_walk.specs.Declarations.{local_declarator, declare_array}
 use Rattle.xmp_walk.specs.Statements.{simple_of, return_of, first_of, first_part, index_of}
-use Rattle.xmp_directives.specs.Directives.{signed, scalar_name, task_line, offset_of, index_name, point_of, made_points, slot_of_point, slots_of_points, names_or, name_list, operation_of, reduction_name, reductions_of, lowers_in, lowers_of, match_template, template_takes, Nest, nest_of, loop_right, is_indexed, use_template, made_loop, loop_line, judged_loop}
+use Rattle.xmp_directives.specs.Directives.{signed, scalar_name, task_line, offset_of, index_name, point_of, made_points, slot_of_point, slots_of_points, names_or, name_list, operation_of, reduction_name, reductions_of, lowers_of, match_template, template_takes, Nest, nest_of, loop_right, is_indexed, use_template, made_loop, loop_line, judged_loop}
 use Rattle.xmp_names.specs.Sizes.{limited}
 use Rattle.xmp_directives.specs.MappingLines.{mapping_of}
 use Rattle.xmp_walk.specs.Program.{plain_of}

@@ -18,7 +18,6 @@ use Rattle.xmp_syntax.specs.declared.directive.NodesSet.{NodesSet}
 use Rattle.xmp_syntax.specs.declared.directive.TaskLine.{TaskLine}
 use Rattle.xmp_syntax.specs.declared.parts.CommaList.{CommaList}
 use Rattle.xmp_syntax.specs.declared.parts.Name as named
-use Rattle.xmp_names.specs.declared.rules.Broken.{Broken}
 use Rattle.xmp_names.specs.declared.rules.Rule.TheVariants.{M8, M9}
 use Rattle.xmp_names.specs.declared.world.World.{World}
 use Rattle.xmp_names.specs.Rules.{unless}
