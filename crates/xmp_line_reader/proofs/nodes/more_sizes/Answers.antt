@@ -6,7 +6,7 @@ use Rattle.xmp_line_reader.proofs.nodes.more_sizes.Goals as goal
 
 pub returns-in_err-more-clause-goes : goal.returns-in_err-more-clause-goes
 returns-in_err-more-clause-goes c = λ s L K w.
-    let p = err_from_is_err_and c.from_residual.result c.from_residual.ensures.1 in
+    let p = err_from_is_err_and c.from_residual-in_err-more.result c.from_residual-in_err-more.ensures.1 in
     rw (p.1, p.2) (c.in_err-more.ensures.goes s _ _ (split w))
 
 pub returns-in_err-end-clause-goes : goal.returns-in_err-end-clause-goes
