@@ -1,5 +1,6 @@
 #!/usr/bin/env python3
-"""Runs the texts of LANGUAGE.md: check_language.py [PATH OF xmpc], which is ../crates/xmpc/out/xmpc beside this file where no path is given.
+"""Runs the texts of LANGUAGE.md and ../examples/forms.md: check_language.py [PATH OF xmpc], which is ../crates/xmpc/out/xmpc beside this
+file where no path is given.
 
 The line above a fenced block, one code span, says what becomes of the text in it:
 
@@ -9,8 +10,9 @@ The line above a fenced block, one code span, says what becomes of the text in i
     serial trapped zero at 8:79        the same, and then this line on standard error, status 1
     serial out of steps                the same, status 2
 
-A block 'input' behind a serial one is its input. A block of python is an expression whose value is the text. A block with no such
-line above it is only shown. Each rule that a table of the page lists must be broken by some text.
+A block 'input' behind a serial one is its input. A block of python is an expression whose value is the text. Behind 'text NAME' stands
+a text that such expressions may name; it isn't run. A block with no such line above it is only shown. Each rule that a table of
+LANGUAGE.md lists must be broken by some text of it.
 """
 import os
 import re
@@ -39,21 +41,23 @@ def blocks(page):
             lines.append(line)
 
 
-def texts(page):
+def texts(name, page):
     """The texts to be run: line, whether the form is serial, options, what becomes of the text, the text, its output and its input."""
-    found = []
+    found, named = [], {}
     for line, words, language, text in blocks(page):
         if words in ("output", "input"):
             if not found or not found[-1]["serial"]:
-                sys.exit(f"LANGUAGE.md:{line}: no text to be run stands before this {words}")
-            found[-1][words] = text
+                sys.exit(f"{name}:{line}: no text to be run stands before this {words}")
+            found[-1][words] = eval(text, dict(named)) if language == "python" else text
+        elif words and words.startswith("text "):
+            named[words.split(" ")[1]] = eval(text, dict(named)) if language == "python" else text
         elif words:
             said = HEAD.match(words)
             if not said or not (said[2] or said[4]):
-                sys.exit(f"LANGUAGE.md:{line}: what is '{words}'?")
+                sys.exit(f"{name}:{line}: what is '{words}'?")
             found.append({
                 "line": line, "serial": bool(said[2]), "options": (said[1] + said[3]).split(), "end": said[4],
-                "text": eval(text, {}) if language == "python" else text, "output": "", "input": None})
+                "text": eval(text, dict(named)) if language == "python" else text, "output": "", "input": None})
     return found
 
 
@@ -79,30 +83,35 @@ def wanted(it, form):
     return STATUS.get(it["end"].split(" ")[0], 0), output, line
 
 
+def judge(xmpc, name, folder):
+    """Runs the texts of one page: those texts, how many runs there were, and how many of them were wrong."""
+    with open(os.path.join(HERE, name), encoding="utf-8") as it:
+        page = it.read()
+    all_texts, runs, wrong = texts(name, page), 0, 0
+    for it in all_texts:
+        forms = ["serial"] if it["serial"] else ["check", "serial"] if it["end"].startswith("refused") else ["check"]
+        for form in forms:
+            got, due = run(xmpc, form, it["options"], it["text"], it["input"], folder), wanted(it, form)
+            runs += 1
+            if got != due:
+                wrong += 1
+                print(f"{name}:{it['line']}: {form}: wanted {due}, and got {got}")
+    broken = {it["end"].split(" ")[1] for it in all_texts if it["end"].startswith("refused")}
+    listed = set(re.findall(r"^\| ([LESNMFC]\d+) \|", page, re.M))
+    if listed and listed != broken:
+        wrong += 1
+        print(f"{name}: rules without a text that breaks them, or without a row: {' '.join(sorted(listed ^ broken))}")
+    print(f"{name}: {len(all_texts)} texts, {len(broken)} rules, {runs} runs, {wrong} wrong")
+    return wrong
+
+
 def main():
     xmpc = sys.argv[1] if len(sys.argv) > 1 else f"{HERE}/../crates/xmpc/out/xmpc"
     if not os.access(xmpc, os.X_OK):
-        sys.exit(f"LANGUAGE.md: there is no program {xmpc}")
-    with open(f"{HERE}/LANGUAGE.md", encoding="utf-8") as it:
-        page = it.read()
-    all_texts, runs, wrong = texts(page), 0, 0
+        sys.exit(f"check_language: there is no program {xmpc}")
     with tempfile.TemporaryDirectory() as folder:
-        for it in all_texts:
-            forms = ["serial"] if it["serial"] else ["check", "serial"] if it["end"].startswith("refused") else ["check"]
-            for form in forms:
-                got, due = run(xmpc, form, it["options"], it["text"], it["input"], folder), wanted(it, form)
-                runs += 1
-                if got != due:
-                    wrong += 1
-                    print(f"LANGUAGE.md:{it['line']}: {form}: wanted {due}, and got {got}")
-    listed = set(re.findall(r"^\| ([LESNMC]\d+) \|", page, re.M))
-    broken = {it["end"].split(" ")[1] for it in all_texts if it["end"].startswith("refused")}
-    if listed != broken:
-        wrong += 1
-        print(f"LANGUAGE.md: rules without a text that breaks them, or without a row: {' '.join(sorted(listed ^ broken))}")
-    if wrong:
-        sys.exit(1)
-    print(f"LANGUAGE.md: {len(all_texts)} texts right, {len(listed)} rules, {runs} runs")
+        if sum([judge(xmpc, name, folder) for name in ("LANGUAGE.md", "../examples/forms.md")]):
+            sys.exit(1)
 
 
 main()

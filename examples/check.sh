@@ -1,7 +1,7 @@
 #!/bin/bash
 # Checks and runs every example: check.sh [PATH OF xmpc], which is ../crates/xmpc/out/xmpc beside this file where no path is given.
 # Each NAME.c has to be accepted, and to print the bytes of NAME.out under serial, with NAME.in as its input where that is there.
-# A program over nodes p[*] takes its nodes from the command line: it has to print the same on 1 and on 3 of them.
+# A program over nodes p(*) takes its nodes from the command line: it has to print the same on 1 and on 3 of them.
 folder=$(dirname "$0")
 xmpc=${1:-$folder/../crates/xmpc/out/xmpc}
 printed=$(mktemp) && trap 'rm -f "$printed"' EXIT || exit 1
@@ -36,7 +36,7 @@ example() {
 
 for file in "$folder"/*.c; do
   example "$file"
-  if grep -q 'nodes p\[\*\]' "$file"; then example "$file" --nodes=3; fi
+  if grep -q 'nodes p(\*)' "$file"; then example "$file" --nodes=3; fi
 done
 [ $wrong -eq 0 ] || exit 1
 echo "examples: $right right"

@@ -8,16 +8,16 @@
 #define TURNS 220
 
 int length[N];
-#pragma xmp nodes p[*]
-#pragma xmp template t[N]
-#pragma xmp distribute t[cyclic] onto p
-#pragma xmp align length[x] with t[x]
+#pragma xmp nodes p(*)
+#pragma xmp template t(0:N-1)
+#pragma xmp distribute t(cyclic) onto p
+#pragma xmp align length[x] with t(x)
 
 int main(void) {
   int i, k, longest = 0, start = N, open = 0;
   long steps = 0, highest = 0;
 
-#pragma xmp loop (i) on t[i] reduction(+:steps, open) reduction(max:longest, highest)
+#pragma xmp loop (i) on t(i) reduction(+:steps, open) reduction(max:longest, highest)
   for (i = 1; i < N; i++) {
     long n = i;
     int turns = 0;
@@ -33,12 +33,12 @@ int main(void) {
     if (n != 1) open++;
   }
 
-#pragma xmp loop (i) on t[i] reduction(min:start)
+#pragma xmp loop (i) on t(i) reduction(min:start)
   for (i = 1; i < N; i++)
     if (length[i] == longest)
       if (i < start) start = i;
 
-#pragma xmp task on p[0]
+#pragma xmp task on p(1)
   {
     printf("chains not ended after %d turns: %d\n", TURNS, open);
     printf("steps in all: %ld, highest number: %ld\n", steps, highest);

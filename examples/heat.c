@@ -9,11 +9,11 @@
 #define STEPS 100
 
 long u[N], v[N];
-#pragma xmp nodes p[4]
-#pragma xmp template t[N]
-#pragma xmp distribute t[block] onto p
-#pragma xmp align u[x] with t[x]
-#pragma xmp align v[x] with t[x]
+#pragma xmp nodes p(4)
+#pragma xmp template t(0:N-1)
+#pragma xmp distribute t(block) onto p
+#pragma xmp align u[x] with t(x)
+#pragma xmp align v[x] with t(x)
 #pragma xmp shadow u[1]
 
 int main(void) {
@@ -21,21 +21,21 @@ int main(void) {
   long total = 0, hottest = 0, middle, edge;
 
   /* the middle fifth is hot; both ends stay cold */
-#pragma xmp loop (i) on t[i]
+#pragma xmp loop (i) on t(i)
   for (i = 0; i < N; i++)
     u[i] = i >= 400 && i < 600 ? 1000000 : 0;
 
   for (step = 0; step < STEPS; step++) {
 #pragma xmp reflect (u)
-#pragma xmp loop (i) on t[i]
+#pragma xmp loop (i) on t(i)
     for (i = 1; i < N - 1; i++)
       v[i] = u[i] + (u[i - 1] - 2 * u[i] + u[i + 1]) / 4;
-#pragma xmp loop (i) on t[i]
+#pragma xmp loop (i) on t(i)
     for (i = 1; i < N - 1; i++)
       u[i] = v[i];
   }
 
-#pragma xmp loop (i) on t[i] reduction(+:total) reduction(max:hottest)
+#pragma xmp loop (i) on t(i) reduction(+:total) reduction(max:hottest)
   for (i = 0; i < N; i++) {
     total += u[i];
     if (u[i] > hottest) hottest = u[i];
@@ -45,7 +45,7 @@ int main(void) {
 #pragma xmp gmove
   edge = u[400];
 
-#pragma xmp task on p[0]
+#pragma xmp task on p(1)
   {
     printf("after %d steps\n", STEPS);
     printf("total   %10ld\n", total);

@@ -9,10 +9,10 @@
 #define BINS 19
 
 int h[BLOCKS][BINS], all[BLOCKS][BINS], count[BINS];
-#pragma xmp nodes p[4]
-#pragma xmp template t[BLOCKS]
-#pragma xmp distribute t[cyclic(2)] onto p
-#pragma xmp align h[x][*] with t[x]
+#pragma xmp nodes p(4)
+#pragma xmp template t(0:BLOCKS-1)
+#pragma xmp distribute t(cyclic(2)) onto p
+#pragma xmp align h[x][*] with t(x)
 
 /* a linear congruential generator: 31 bits */
 long next(long x) {
@@ -22,7 +22,7 @@ long next(long x) {
 int main(void) {
   int i, k, d, b, sum, total = 0, most = 0;
 
-#pragma xmp loop (i) on t[i]
+#pragma xmp loop (i) on t(i)
   for (i = 0; i < BLOCKS; i++) {
     long x = 7 * i + 1;
     for (k = 0; k < SAMPLES; k++) {
@@ -45,7 +45,7 @@ int main(void) {
     if (count[b] > count[most]) most = b;
   }
 
-#pragma xmp task on p[0]
+#pragma xmp task on p(1)
   {
     for (b = 3; b < BINS; b++)
       printf("%2d %5d\n", b, count[b]);

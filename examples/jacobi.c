@@ -9,11 +9,11 @@
 #define TOL 200
 
 int u[N][N], v[N][N];
-#pragma xmp nodes p[2][2]
-#pragma xmp template t[N][N]
-#pragma xmp distribute t[block][block] onto p
-#pragma xmp align u[x][y] with t[x][y]
-#pragma xmp align v[x][y] with t[x][y]
+#pragma xmp nodes p(2, 2)
+#pragma xmp template t(0:N-1, 0:N-1)
+#pragma xmp distribute t(block, block) onto p
+#pragma xmp align u[x][y] with t(x, y)
+#pragma xmp align v[x][y] with t(x, y)
 #pragma xmp shadow u[1][1]
 
 int main(void) {
@@ -21,7 +21,7 @@ int main(void) {
   long total = 0;
 
   /* the upper edge is hot, the other edges are cold */
-#pragma xmp loop (i, j) on t[i][j]
+#pragma xmp loop (i, j) on t(i, j)
   for (i = 0; i < N; i++)
     for (j = 0; j < N; j++)
       u[i][j] = i == 0 ? HOT : 0;
@@ -29,11 +29,11 @@ int main(void) {
   while (change > TOL) {
     change = 0;
 #pragma xmp reflect (u)
-#pragma xmp loop (i, j) on t[i][j]
+#pragma xmp loop (i, j) on t(i, j)
     for (i = 1; i < N - 1; i++)
       for (j = 1; j < N - 1; j++)
         v[i][j] = (u[i - 1][j] + u[i + 1][j] + u[i][j - 1] + u[i][j + 1]) / 4;
-#pragma xmp loop (i, j) on t[i][j] reduction(max:change)
+#pragma xmp loop (i, j) on t(i, j) reduction(max:change)
     for (i = 1; i < N - 1; i++)
       for (j = 1; j < N - 1; j++) {
         int d = v[i][j] - u[i][j];
@@ -44,14 +44,14 @@ int main(void) {
     sweeps++;
   }
 
-#pragma xmp loop (i, j) on t[i][j] reduction(+:total)
+#pragma xmp loop (i, j) on t(i, j) reduction(+:total)
   for (i = 0; i < N; i++)
     for (j = 0; j < N; j++)
       total += u[i][j];
 #pragma xmp gmove
   centre = u[N / 2][N / 2];
 
-#pragma xmp task on p[0][0]
+#pragma xmp task on p(1, 1)
   {
     printf("sweeps %d, last change %d\n", sweeps, change);
     printf("centre %d, total %ld\n", centre, total);

@@ -8,11 +8,11 @@
 #define GENERATIONS 60
 
 int a[N][N], b[N][N];
-#pragma xmp nodes p[2][2]
-#pragma xmp template t[N][N]
-#pragma xmp distribute t[block][block] onto p
-#pragma xmp align a[x][y] with t[x][y]
-#pragma xmp align b[x][y] with t[x][y]
+#pragma xmp nodes p(2, 2)
+#pragma xmp template t(0:N-1, 0:N-1)
+#pragma xmp distribute t(block, block) onto p
+#pragma xmp align a[x][y] with t(x, y)
+#pragma xmp align b[x][y] with t(x, y)
 #pragma xmp shadow a[1][1]
 
 int main(void) {
@@ -21,14 +21,14 @@ int main(void) {
   /*  . X X
    *  X X .
    *  . X .  in the middle */
-#pragma xmp loop (i, j) on t[i][j]
+#pragma xmp loop (i, j) on t(i, j)
   for (i = 0; i < N; i++)
     for (j = 0; j < N; j++)
       a[i][j] = (i == 19 && (j == 20 || j == 21)) || (i == 20 && (j == 19 || j == 20)) || (i == 21 && j == 20);
 
   for (g = 1; g <= GENERATIONS; g++) {
 #pragma xmp reflect (a)
-#pragma xmp loop (i, j) on t[i][j]
+#pragma xmp loop (i, j) on t(i, j)
     for (i = 1; i < N - 1; i++)
       for (j = 1; j < N - 1; j++) {
         int near = a[i - 1][j - 1] + a[i - 1][j] + a[i - 1][j + 1] + a[i][j - 1]
@@ -37,7 +37,7 @@ int main(void) {
       }
     alive = 0;
     upper = 0;
-#pragma xmp loop (i, j) on t[i][j] reduction(+:alive, upper, births)
+#pragma xmp loop (i, j) on t(i, j) reduction(+:alive, upper, births)
     for (i = 1; i < N - 1; i++)
       for (j = 1; j < N - 1; j++) {
         births += b[i][j] > a[i][j];
@@ -46,12 +46,12 @@ int main(void) {
         a[i][j] = b[i][j];
       }
     if (g % 10 == 0) {
-#pragma xmp task on p[0][0]
+#pragma xmp task on p(1, 1)
       printf("generation %2d: %3d alive, %3d of them in the upper half\n", g, alive, upper);
     }
   }
 
-#pragma xmp task on p[0][0]
+#pragma xmp task on p(1, 1)
   printf("births: %d\n", births);
   return 0;
 }

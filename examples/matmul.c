@@ -8,19 +8,19 @@
 #define STRIP 12
 
 int a[N][N], b[N][N], c[N][N], w[STRIP][N];
-#pragma xmp nodes p[4]
-#pragma xmp template t[N]
-#pragma xmp distribute t[block] onto p
-#pragma xmp align a[x][*] with t[x]
-#pragma xmp align b[x][*] with t[x]
-#pragma xmp align c[x][*] with t[x]
+#pragma xmp nodes p(4)
+#pragma xmp template t(N)
+#pragma xmp distribute t(block) onto p
+#pragma xmp align a[x][*] with t(x+1)
+#pragma xmp align b[x][*] with t(x+1)
+#pragma xmp align c[x][*] with t(x+1)
 
 int main(void) {
   int i, j, k, q, wrong = 0, corner;
   long trace = 0, total = 0;
 
   /* a adds up the rows up to its own, b takes differences of neighbouring rows of the matrix i * i + j */
-#pragma xmp loop (i) on t[i]
+#pragma xmp loop (i) on t(i+1)
   for (i = 0; i < N; i++)
     for (j = 0; j < N; j++) {
       a[i][j] = j <= i;
@@ -30,7 +30,7 @@ int main(void) {
   for (q = 0; q < N; q += STRIP) {
 #pragma xmp gmove
     w[:][:] = b[q:STRIP][:];
-#pragma xmp loop (i) on t[i]
+#pragma xmp loop (i) on t(i+1)
     for (i = 0; i < N; i++)
       for (j = 0; j < N; j++) {
         int sum = c[i][j];
@@ -39,7 +39,7 @@ int main(void) {
       }
   }
 
-#pragma xmp loop (i) on t[i] reduction(+:wrong, trace, total)
+#pragma xmp loop (i) on t(i+1) reduction(+:wrong, trace, total)
   for (i = 0; i < N; i++)
     for (j = 0; j < N; j++) {
       if (c[i][j] != i * i + j) wrong++;
@@ -49,7 +49,7 @@ int main(void) {
 #pragma xmp gmove
   corner = c[N - 1][N - 1];
 
-#pragma xmp task on p[0]
+#pragma xmp task on p(1)
   {
     printf("%d x %d, wrong cells: %d\n", N, N, wrong);
     printf("corner %d, trace %ld, total %ld\n", corner, trace, total);

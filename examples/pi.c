@@ -8,9 +8,9 @@
 #define POINTS 400
 #define R 32768
 
-#pragma xmp nodes p[*]
-#pragma xmp template t[STREAMS]
-#pragma xmp distribute t[cyclic] onto p
+#pragma xmp nodes p(*)
+#pragma xmp template t(0:STREAMS-1)
+#pragma xmp distribute t(cyclic) onto p
 
 /* a linear congruential generator: 31 bits, of which the upper 15 are taken */
 long next(long x) {
@@ -25,7 +25,7 @@ int main(void) {
   int i, k, hits = 0, best = 0, worst = POINTS;
   long points = STREAMS * POINTS;
 
-#pragma xmp loop (i) on t[i] reduction(+:hits) reduction(max:best) reduction(min:worst)
+#pragma xmp loop (i) on t(i) reduction(+:hits) reduction(max:best) reduction(min:worst)
   for (i = 0; i < STREAMS; i++) {
     long seed = i * 7919 + 17;
     int inside = 0;
@@ -42,7 +42,7 @@ int main(void) {
     if (inside < worst) worst = inside;
   }
 
-#pragma xmp task on p[0]
+#pragma xmp task on p(1)
   {
     printf("%d of %ld points lie in the circle\n", hits, points);
     printf("a stream of %d has %d to %d of them\n", POINTS, worst, best);

@@ -6,18 +6,18 @@
 #define N 1000
 
 int a[N], b[N], first[N];
-#pragma xmp nodes p[4]
-#pragma xmp template t[N]
-#pragma xmp distribute t[block] onto p
-#pragma xmp align a[x] with t[x]
-#pragma xmp align b[x] with t[x]
-#pragma xmp align first[x] with t[x]
+#pragma xmp nodes p(4)
+#pragma xmp template t(0:N-1)
+#pragma xmp distribute t(block) onto p
+#pragma xmp align a[x] with t(x)
+#pragma xmp align b[x] with t(x)
+#pragma xmp align first[x] with t(x)
 #pragma xmp shadow a[1:0]
 
 int main(void) {
   int i, d, rounds = 0, wrong = 0, half, last;
 
-#pragma xmp loop (i) on t[i]
+#pragma xmp loop (i) on t(i)
   for (i = 0; i < N; i++) {
     first[i] = i * 37 % 101;
     a[i] = first[i];
@@ -26,7 +26,7 @@ int main(void) {
   for (d = 1; d < N; d *= 2) {
 #pragma xmp gmove
     b[d:N - d] = a[0:N - d];
-#pragma xmp loop (i) on t[i]
+#pragma xmp loop (i) on t(i)
     for (i = d; i < N; i++)
       a[i] += b[i];
     rounds++;
@@ -34,7 +34,7 @@ int main(void) {
 
   /* each sum is the one before it and one number more */
 #pragma xmp reflect (a)
-#pragma xmp loop (i) on t[i] reduction(+:wrong)
+#pragma xmp loop (i) on t(i) reduction(+:wrong)
   for (i = 1; i < N; i++)
     if (a[i] != a[i - 1] + first[i]) wrong++;
 #pragma xmp gmove
@@ -42,7 +42,7 @@ int main(void) {
 #pragma xmp gmove
   last = a[N - 1];
 
-#pragma xmp task on p[0]
+#pragma xmp task on p(1)
   printf("%d rounds, %d wrong, half way %d, in all %d\n", rounds, wrong, half, last);
   return 0;
 }

@@ -8,17 +8,17 @@
 #define N 10000
 
 int composite[N];
-#pragma xmp nodes p[4]
-#pragma xmp template t[N]
-#pragma xmp distribute t[block] onto p
-#pragma xmp align composite[x] with t[x]
+#pragma xmp nodes p(4)
+#pragma xmp template t(0:N-1)
+#pragma xmp distribute t(block) onto p
+#pragma xmp align composite[x] with t(x)
 #pragma xmp shadow composite[0:2]
 
 int main(void) {
   int i, q, c, primes = 0, twins = 0, greatest = 0;
   long sum = 0;
 
-#pragma xmp loop (i) on t[i]
+#pragma xmp loop (i) on t(i)
   for (i = 0; i < 2; i++)
     composite[i] = 1;
 
@@ -26,14 +26,14 @@ int main(void) {
 #pragma xmp gmove
     c = composite[q];
     if (c == 0) {
-#pragma xmp loop (i) on t[i]
+#pragma xmp loop (i) on t(i)
       for (i = q * q; i < N; i++)
         if (i % q == 0) composite[i] = 1;
     }
   }
 
 #pragma xmp reflect (composite)
-#pragma xmp loop (i) on t[i] reduction(+:primes, twins, sum) reduction(max:greatest)
+#pragma xmp loop (i) on t(i) reduction(+:primes, twins, sum) reduction(max:greatest)
   for (i = 0; i < N; i++)
     if (composite[i] == 0) {
       primes++;
@@ -42,7 +42,7 @@ int main(void) {
       if (i + 2 < N && composite[i + 2] == 0) twins++;
     }
 
-#pragma xmp task on p[0]
+#pragma xmp task on p(1)
   {
     printf("primes below %d: %d, the greatest is %d\n", N, primes, greatest);
     printf("their sum: %ld\n", sum);

@@ -4,7 +4,7 @@
  * them tells the rest. A barrier ends the first part. Each task may print where it runs on one node; the lines stand in
  * the order of the text, whichever node was first.
  */
-#pragma xmp nodes p[6]
+#pragma xmp nodes p(6)
 
 /* b to the power e, modulo m: 31 binary digits at most, so the loop is counted */
 int power(int b, int e, int m) {
@@ -24,14 +24,14 @@ int main(void) {
 
 #pragma xmp tasks
   {
-#pragma xmp task on p[0:2]
+#pragma xmp task on p(1:2)
     /* Fibonacci numbers */
     for (k = 0; k < 80; k++) {
       long c = a + b;
       a = b;
       b = c;
     }
-#pragma xmp task on p[2:3]
+#pragma xmp task on p(3:5)
     /* the greatest perfect number below 500 */
     for (n = 2; n < 500; n++) {
       int sum = 0;
@@ -39,7 +39,7 @@ int main(void) {
         if (n % k == 0) sum += k;
       if (sum == n) perfect = n;
     }
-#pragma xmp task on p[5]
+#pragma xmp task on p(6)
     /* an inverse modulo a prime, by Fermat */
     {
       inverse = power(1234567, 1000000005, 1000000007);
@@ -48,12 +48,12 @@ int main(void) {
   }
 
 #pragma xmp barrier
-#pragma xmp bcast (a) from p[0]
-#pragma xmp bcast (perfect) from p[3]
-#pragma xmp bcast (inverse) from p[5]
+#pragma xmp bcast (a) from p(1)
+#pragma xmp bcast (perfect) from p(4)
+#pragma xmp bcast (inverse) from p(6)
 
   check = (int)(1234567L * inverse % 1000000007);
-#pragma xmp task on p[0]
+#pragma xmp task on p(1)
   {
     printf("fibonacci(80) = %ld\n", a);
     printf("greatest perfect number below 500: %d\n", perfect);

@@ -8,25 +8,25 @@
 #define M 40
 
 int a[N][M], b[N][M], across[N], down[M];
-#pragma xmp nodes p[4]
-#pragma xmp template rows[N]
-#pragma xmp template columns[M]
-#pragma xmp distribute rows[block] onto p
-#pragma xmp distribute columns[cyclic(3)] onto p
-#pragma xmp align a[x][*] with rows[x]
-#pragma xmp align across[x] with rows[x]
-#pragma xmp align b[*][y] with columns[y]
-#pragma xmp align down[y] with columns[y]
+#pragma xmp nodes p(4)
+#pragma xmp template rows(N)
+#pragma xmp template columns(0:M-1)
+#pragma xmp distribute rows(block) onto p
+#pragma xmp distribute columns(cyclic(3)) onto p
+#pragma xmp align a[x][*] with rows(x+1)
+#pragma xmp align across[x] with rows(x+1)
+#pragma xmp align b[*][y] with columns(y)
+#pragma xmp align down[y] with columns(y)
 
 int main(void) {
   int i, j, widest = 0, tallest = 0, total = 0, again = 0, probe;
 
-#pragma xmp loop (i) on rows[i]
+#pragma xmp loop (i) on rows(i+1)
   for (i = 0; i < N; i++)
     for (j = 0; j < M; j++)
       a[i][j] = (i * 17 + j * 29) % 83;
 
-#pragma xmp loop (i) on rows[i] reduction(+:total) reduction(max:widest)
+#pragma xmp loop (i) on rows(i+1) reduction(+:total) reduction(max:widest)
   for (i = 0; i < N; i++) {
     int sum = 0;
     for (j = 0; j < M; j++) sum += a[i][j];
@@ -37,7 +37,7 @@ int main(void) {
 
 #pragma xmp gmove
   b[:][:] = a[:][:];
-#pragma xmp loop (j) on columns[j] reduction(+:again) reduction(max:tallest)
+#pragma xmp loop (j) on columns(j) reduction(+:again) reduction(max:tallest)
   for (j = 0; j < M; j++) {
     int sum = 0;
     for (i = 0; i < N; i++) sum += b[i][j];
@@ -52,7 +52,7 @@ int main(void) {
 #pragma xmp gmove
   probe = b[19][5];
 
-#pragma xmp task on p[0]
+#pragma xmp task on p(1)
   {
     printf("by rows %d, by columns %d\n", total, again);
     printf("greatest row %d, greatest column %d\n", widest, tallest);

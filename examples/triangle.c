@@ -8,10 +8,10 @@
 #define P 1009
 
 int factorial[N], inverse[N], c[N][N];
-#pragma xmp nodes p[4]
-#pragma xmp template t[N]
-#pragma xmp distribute t[gblock({120, 50, 38, 32})] onto p
-#pragma xmp align c[x][*] with t[x]
+#pragma xmp nodes p(4)
+#pragma xmp template t(0:N-1)
+#pragma xmp distribute t(gblock({120, 50, 38, 32})) onto p
+#pragma xmp align c[x][*] with t(x)
 
 int main(void) {
   int i, j, k, odd = 0, wrong = 0, entry;
@@ -27,12 +27,12 @@ int main(void) {
     inverse[k] = r;
   }
 
-#pragma xmp loop (i) on t[i]
+#pragma xmp loop (i) on t(i)
   for (i = 0; i < N; i++)
     for (j = 0; j < i + 1; j++)
       c[i][j] = factorial[i] * inverse[j] % P * inverse[i - j] % P;
 
-#pragma xmp loop (i) on t[i] reduction(+:odd, total, wrong)
+#pragma xmp loop (i) on t(i) reduction(+:odd, total, wrong)
   for (i = 0; i < N; i++) {
     int sum = 0, power = 1;
     for (j = 0; j < i + 1; j++) {
@@ -46,7 +46,7 @@ int main(void) {
 #pragma xmp gmove
   entry = c[20][10];
 
-#pragma xmp task on p[0]
+#pragma xmp task on p(1)
   {
     printf("rows whose sum is no power of two: %d\n", wrong);
     printf("sums %ld, odd remainders %d\n", total, odd);

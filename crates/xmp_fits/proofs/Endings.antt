@@ -1,6 +1,6 @@
 -- A world of a walk that ends in a program with no rule broken; and what names mean there.
 use Rattle.std.proofs.Common.{◌≡◌, ◌<◌, ◌∙◌, sym, ap, refl, subst, ◌++◌, ◌∷◌, [], ℕ, zero, suc, Bool, true, false, not, List, Option, Some, None, length, ◌&&◌, eqb-true, IsTrue, arith}
-use Rattle.std.specs.Prelude.{slice_get, is_some, ◌==◌}
+use Rattle.std.specs.Prelude.{slice_get, is_some, ℤ, if◌then◌else◌}
 use Rattle.std.proofs.lemmas.Option.{none-some}
 use Rattle.std.specs.List.{flat_map, enumerate_from}
 use Rattle.std.specs.Option.{unwrap_or}
@@ -15,14 +15,15 @@ use Rattle.xmp_names.specs.declared.names.Array as array
 use Rattle.xmp_names.specs.declared.names.Meaning.{Meaning}
 use Rattle.xmp_names.specs.declared.names.Meaning.TheVariants.{Scalar, Array, Nodes, Template, Function}
 use Rattle.xmp_names.specs.declared.rules.Rule.{Rule}
-use Rattle.xmp_names.specs.declared.rules.Rule.TheVariants.{N1, N3, N5, M1}
+use Rattle.xmp_names.specs.declared.rules.Rule.TheVariants.{N1, N3, N5, N9, M1}
 use Rattle.xmp_names.specs.declared.rules.Broken.{Broken}
 use Rattle.xmp_names.specs.declared.world.World.{World}
 use Rattle.xmp_names.specs.Rules.{unless}
 use Rattle.xmp_names.specs.Expressions.{is_function}
 use Rattle.xmp_names.specs.Sizes.{given_or_one, line_sizes}
 use Rattle.xmp_directives.specs.Directives.{sizes_in}
-use Rattle.xmp_mapping_rules.specs.MappingRules.{mapping_rules, has_nodes, nodes_of, nodes_right, nodes_rule, nodes_rules, sizes_or_row}
+use Rattle.xmp_mapping_rules.specs.MappingRules.{mapping_rules, first_nodes, has_nodes, item_at, nodes_of, nodes_right, nodes_rule, nodes_rules, sizes_or_row}
+use Rattle.xmp_mapping_rules.specs.Numbers.{is_at}
 use Rattle.xmp_parts.specs.Narrow.{is_count}
 use Rattle.xmp_parts.specs.Parts.{IsArray, Made}
 use Rattle.xmp_names.specs.Walk.{Step, Gave, Run, and_then, first_of_two, a_nodes, a_template, an_array, name_of, of_kind}
@@ -184,18 +185,28 @@ array_there w p k e h =
     let m = made_here (IsArray e.last p.templates) e.last.names.arrays p.arrays k x.0 e.made.arrays y in
     record { known = x.0; at = x.1; made = m.0; is = m.1; extents = m.2.extents }
 
--- There is one nodes array.
-only_first : (w : World) (k : ℕ) (l : NodesLine) → mapping_rules w ≡ [] → slice_get w.mappings.nodes k ≡ Some l → k ≡ 0
+at_is : (k : ℕ) (place : Option ℕ) → is_at k place ≡ true → place ≡ Some k
+at_is k None h = cc
+at_is k (Some j) h = ap (λ (n : ℕ). Some n) (eqb-true j k h)
+
+-- There is one nodes array, and no part of it.
+only_first : (w : World) (k : ℕ) (l : NodesLine) → mapping_rules w ≡ [] → slice_get w.mappings.nodes k ≡ Some l → first_nodes w ≡ Some k
 only_first w k l h e =
     let rules : nodes_rules w ≡ [] = left_none (nodes_rules w) _ h in
-    let one : nodes_rule w (k, l) ≡ [] = none_here (nodes_rule w) w.mappings.nodes k l (left_none (flat_map (nodes_rule w) (enumerate_from 0 w.mappings.nodes)) (has_nodes (length w.mappings.nodes) w.mappings.first_directive) rules) e in
-    eqb-true k 0 (left_true (k == 0) (nodes_right w.given (line_sizes (given_or_one w) l)) (holds ((k == 0) && nodes_right w.given (line_sizes (given_or_one w) l)) M1 l.at one))
+    by l.part (none_here (nodes_rule w) w.mappings.nodes k l (left_none (flat_map (nodes_rule w) (enumerate_from 0 w.mappings.nodes)) (has_nodes (first_nodes w) w.mappings.first_directive) rules) e)
+  where
+    sizes : List ℤ
+    sizes = line_sizes (given_or_one w) l
+
+    by : (part : Bool) → (if part then unless false N9 l.at else unless (is_at k (first_nodes w) && nodes_right w.given sizes) M1 l.at) ≡ [] → first_nodes w ≡ Some k
+    by true one = cc
+    by false one = at_is k (first_nodes w) (left_true (is_at k (first_nodes w)) (nodes_right w.given sizes) (holds (is_at k (first_nodes w) && nodes_right w.given sizes) M1 l.at one))
 
 -- The sizes of a nodes array that is named are those of the grid.
 pub sizes_at_end : (w : World) (p : ProgParts) (k : ℕ) (e : Ending w p) → k < length w.mappings.nodes → sizes_in (given_or_one w) (slice_get w.mappings.nodes k) ≡ nodes_of e.last
 sizes_at_end w p k e h =
     let x = item_there w.mappings.nodes k h in
     let y : slice_get e.last.mappings.nodes k ≡ Some x.0 = begins_get w.mappings.nodes e.last.mappings.nodes k x.0 e.later.mappings.nodes x.1 in
-    let z : slice_get e.last.mappings.nodes 0 ≡ Some x.0 = ap (slice_get e.last.mappings.nodes) (sym (only_first e.last k x.0 e.rules y)) ∙ y in
+    let z : item_at e.last.mappings.nodes (first_nodes e.last) ≡ Some x.0 = ap (item_at e.last.mappings.nodes) (only_first e.last k x.0 e.rules y) ∙ y in
     let given : given_or_one e.last ≡ given_or_one w = ap (λ g. unwrap_or g 1) e.later.given in
     ap (sizes_in (given_or_one w)) x.1 ∙ (ap (λ n. line_sizes n x.0) (sym given) ∙ ap (sizes_or_row (given_or_one e.last)) (sym z))

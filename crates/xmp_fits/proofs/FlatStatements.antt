@@ -42,6 +42,9 @@ use Rattle.xmp_syntax.specs.declared.directive.TaskLine.{TaskLine}
 use Rattle.xmp_syntax.specs.declared.directive.Section.{Section}
 use Rattle.xmp_syntax.specs.declared.directive.Section.TheVariants as section
 use Rattle.xmp_syntax.specs.declared.directive.Sections.{Sections}
+use Rattle.xmp_syntax.specs.declared.directive.Piece.{Piece}
+use Rattle.xmp_syntax.specs.declared.directive.Piece.TheVariants as piece
+use Rattle.xmp_syntax.specs.declared.directive.NodesSet.{NodesSet}
 use Rattle.xmp_syntax.specs.declared.statement.Simple.{Simple}
 use Rattle.xmp_syntax.specs.declared.statement.Simple.TheVariants as simple
 use Rattle.xmp_syntax.specs.declared.statement.Plain.{Plain}
@@ -55,11 +58,12 @@ use Rattle.xmp_names.specs.declared.rules.Rule.TheVariants.{N1, N3, N4, N5, N6, 
 use Rattle.xmp_names.specs.declared.typed.Operand.{Operand}
 use Rattle.xmp_names.specs.Expressions.{is_function, is_nothing}
 use Rattle.xmp_names.specs.Formats.{fits_format, is_scan_format}
-use Rattle.xmp_names.specs.Lists.{listed, inner}
+use Rattle.xmp_names.specs.declared.mappings.Notation.{Notation}
+use Rattle.xmp_names.specs.Lists.{listed, inner, notation, parts}
 use Rattle.xmp_names.specs.Walk as walk
 use Rattle.xmp_names.specs.Walk.{Gave, Run, a_scalar, a_nodes, an_array, first_place, is_known, is_main}
 use Rattle.xmp_walk.specs.Statements.{target_in, target_of, compound_of, set, one, call_in, call_statement, is_scalar_target, target_name, simple_of, returned, return_of, print_of, scan_of, has_coarray, sync_of}
-use Rattle.xmp_directives.specs.Directives.{slot_or_zero, scalar_name, array_name, count_of, set_part, nodes_sizes, ranges, ranges_right, is_one, box_of, set_of, share, task_line, reflect_of, barrier_of, bcast_of, number_of, unwritten, step_of, part_with, part_of, parts_in, first_extent, no_side, side_as, side_of, sections_match, gmove_of}
+use Rattle.xmp_directives.specs.Directives.{slot_or_zero, scalar_name, array_name, match_nodes, nodes_from, nodes_take, piece_of, second_of, nodes_sizes, ranges, ranges_right, is_one, box_of, set_of, share, task_line, reflect_of, barrier_of, bcast_of, number_of, unwritten, step_of, part_with, part_of, parts_in, first_extent, no_side, side_as, side_of, sections_match, gmove_of}
 use Rattle.xmp_names.specs.Sizes.{extents_in}
 use Rattle.xmp_walk.specs.Program.{plain_of}
 use Rattle.xmp_fits.proofs.TermsFit.{Seen}
@@ -67,7 +71,7 @@ use Rattle.xmp_fits.proofs.StepsFit.{IsPlace}
 use Rattle.xmp_fits.proofs.ScopedForms.{declared_plain, May, may_both, plain_right}
 use Rattle.xmp_fits.proofs.ScopedFits.{Sees, FlatFits, nothing_flat, allow_all}
 use Rattle.xmp_fits.proofs.SlotsSeen.{terms_both, const_sees, operand_sees}
-use Rattle.xmp_fits.proofs.Looking.{Looks, looks_then, looks_map, looks_pure, looks_next, looks_end, looks_each, looks_judge, looks_asked, looks_judged, looks_directive, looks_typed, looks_reference, looks_call, looks_all, looks_constant, Means, looks_meaning, looks_name}
+use Rattle.xmp_fits.proofs.Looking.{Looks, looks_then, looks_map, looks_pure, looks_next, looks_end, looks_each, looks_there, looks_judge, looks_asked, looks_judged, looks_directive, looks_typed, looks_reference, looks_call, looks_all, looks_constant, Means, looks_meaning, looks_name}
 
 module _ (env : Environment) (p : ProgParts) where
   abbrev All : List ℕ → Type 0
@@ -217,32 +221,33 @@ module _ (env : Environment) (p : ProgParts) where
   barrier_looks : (line : DirectiveLine) → Looks env (FlatFits p env) (barrier_of line)
   barrier_looks line = looks_end env (λ _. ⊤) (FlatFits p env) (walk.directive_at line.word) (λ _. s.Plain (m.Barrier line.word)) (looks_directive env line.word) (λ _ h. flat_plain (m.Barrier line.word) refl tt tt)
 
-  count_looks : (x : Option (Place × Expr)) → Looks env (λ (n : ℤ). ⊤) (count_of x)
-  count_looks None = looks_pure env (λ _. ⊤) (pos 1) tt
-  count_looks (Some x) = looks_constant env p x.1
-
-  part_looks : (x : Section) → Looks env (λ (r : Option (ℤ × ℤ)). ⊤) (set_part x)
-  part_looks (section.All at) = looks_pure env (λ _. ⊤) None tt
-  part_looks (section.Numbers first many step) = looks_next env (λ _. ⊤) (λ _. ⊤) (walk.constant first) _ (looks_constant env p first) (λ a. looks_end env (λ _. ⊤) (λ _. ⊤) (count_of many) (λ n. Some (a, n)) (count_looks many) (λ n h. tt))
+  piece_looks : (written : Notation) (x : Piece) → Looks env (λ (r : Option (ℤ × ℤ)). ⊤) (piece_of written x)
+  piece_looks written (piece.All at) = looks_pure env (λ _. ⊤) None tt
+  piece_looks written (piece.Numbers first second) = looks_next env (λ _. ⊤) (λ _. ⊤) (walk.constant first) _ (looks_constant env p first) (λ b.
+      looks_end env _ (λ _. ⊤) (second_of second) (λ x. Some (nodes_from written b x)) (looks_there env (λ _. ⊤) (λ (y : Place × Expr). walk.constant y.1) (λ y. looks_constant env p y.1) second) (λ x h. tt))
 
   sizes_looks : (k : Option ℕ) → Looks env (λ (ns : List ℤ). ⊤) (nodes_sizes k)
   sizes_looks None = looks_pure env (λ _. ⊤) [] tt
   sizes_looks (Some k) = looks_asked env _
 
-  pub set_looks : (one_node : Bool) (word : Place) (x : Sections) → Looks env (λ (n : NodeSet). ⊤) (set_of one_node word x)
+  nodes_look : (k : Option ℕ) (written : Notation) (count : ℕ) (at : Place) → Looks env (λ _. ⊤) (match_nodes k written count at)
+  nodes_look None written count at = looks_pure env (λ _. ⊤) tt tt
+  nodes_look (Some k) written count at = looks_judged env (λ w. (count == 0) || nodes_take written count (slice_get w.mappings.nodes k)) N3 at
+
+  pub set_looks : (one_node : Bool) (word : Place) (x : NodesSet) → Looks env (λ (n : NodeSet). ⊤) (set_of one_node word x)
   set_looks one_node word x = looks_next env _ (λ _. ⊤) (walk.name_of a_nodes x.name) _ (looks_name env a_nodes x.name) (λ number.
+      looks_next env _ (λ _. ⊤) (walk.each (piece_of (notation x.pieces)) (parts x.pieces)) _ (looks_each env (λ _. ⊤) (piece_of (notation x.pieces)) (piece_looks (notation x.pieces)) (parts x.pieces)) (λ pieces.
+      looks_next env (λ _. ⊤) (λ _. ⊤) (match_nodes number (notation x.pieces) (length pieces) x.name.at) _ (nodes_look number (notation x.pieces) (length pieces) x.name.at) (λ _.
       looks_next env (λ _. ⊤) (λ _. ⊤) (nodes_sizes number) _ (sizes_looks number) (λ sizes.
-      looks_next env _ (λ _. ⊤) (walk.each set_part (inner x.sections)) _ (looks_each env (λ _. ⊤) set_part part_looks (inner x.sections)) (λ parts.
-      looks_next env _ (λ _. ⊤) (walk.judge (is_nothing parts || (length parts == length sizes)) N3 x.name.at) _ (looks_judge env (is_nothing parts || (length parts == length sizes)) N3 x.name.at) (λ _.
-      looks_end env _ (λ _. ⊤) (walk.judge (ranges_right sizes (ranges sizes parts) && (not one_node || is_one (ranges sizes parts))) M8 word) (λ _. box_of sizes (ranges sizes parts))
-      (looks_judge env (ranges_right sizes (ranges sizes parts) && (not one_node || is_one (ranges sizes parts))) M8 word) (λ _ h. tt)))))
+      looks_end env _ (λ _. ⊤) (walk.judge (ranges_right sizes (ranges sizes pieces) && (not one_node || is_one (ranges sizes pieces))) M8 word) (λ _. box_of sizes (ranges sizes pieces))
+      (looks_judge env (ranges_right sizes (ranges sizes pieces) && (not one_node || is_one (ranges sizes pieces))) M8 word) (λ _ h. tt)))))
 
   pub task_line_looks : (before : List NodeSet) (line : TaskLine) → Looks env (λ (n : NodeSet). ⊤) (task_line before line)
   task_line_looks before line = looks_next env (λ _. ⊤) (λ _. ⊤) (walk.directive_at line.line.word) _ (looks_directive env line.line.word) (λ _.
       looks_next env (λ _. ⊤) (λ _. ⊤) (set_of false line.line.word line.set) _ (set_looks false line.line.word line.set) (λ nodes.
       looks_end env _ (λ _. ⊤) (walk.judge (list_all (λ other. not (share other nodes)) before) M9 line.line.word) (λ _. nodes) (looks_judge env (list_all (λ other. not (share other nodes)) before) M9 line.line.word) (λ _ h. tt)))
 
-  bcast_looks : (line : DirectiveLine) (names : CommaList named.Name) (x : Sections) → Looks env (FlatFits p env) (bcast_of line names x)
+  bcast_looks : (line : DirectiveLine) (names : CommaList named.Name) (x : NodesSet) → Looks env (FlatFits p env) (bcast_of line names x)
   bcast_looks line names x = looks_next env (λ _. ⊤) (FlatFits p env) (walk.directive_at line.word) _ (looks_directive env line.word) (λ _.
       looks_then env _ (FlatFits p env) (walk.each scalar_name (listed names)) _ (looks_each env (λ x. Seen env x.number) scalar_name scalar_name_looks (listed names)) (λ variables.
       looks_end env (λ _. ⊤) (λ y. AllByRecursion (λ x. Seen env x.number) variables → FlatFits p env y) (set_of true line.word x) (λ nodes. s.Plain (m.Cast variables nodes line.word)) (set_looks true line.word x)

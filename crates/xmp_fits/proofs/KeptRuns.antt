@@ -1,11 +1,12 @@
 -- Runs of the walk that go on from each world to a later one, and keep it good: the single steps do.
-use Rattle.std.proofs.Common.{◌≡◌, refl, ◌++◌, ◌∷◌, [], ℕ, ◌+◌, ◌<◌, List, Bool, true, Option, length, length-append, map, arith}
+use Rattle.std.proofs.Common.{◌≡◌, refl, ◌++◌, ◌∷◌, [], ℕ, ◌+◌, ◌<◌, List, Bool, true, length, length-append, map, arith}
 use Rattle.std.specs.Prelude.{ℤ, nat_lt, not, ◌&&◌, ◌||◌, ◌==◌, nat_le}
 use Rattle.std.specs.List.{list_all}
 use Rattle.xmp_base.specs.declared.place.Place.{Place}
 use Rattle.xmp_num.specs.declared.types.Ty.{Ty}
 use Rattle.xmp_syntax.specs.declared.parts.Name as named
 use Rattle.xmp_scopes.specs.Names as scope
+use Rattle.xmp_names.specs.declared.mappings.Notation.{Notation}
 use Rattle.xmp_names.specs.declared.names.Array.{Array}
 use Rattle.xmp_names.specs.declared.names.Region.{Region}
 use Rattle.xmp_names.specs.declared.names.Region.TheVariants as region
@@ -147,18 +148,18 @@ more_nodes m l = record { nodes = begins_with m.nodes (l ∷ []); templates = be
 more_templates : (m : Mappings) (l : TemplateLine) → LaterMappings m (record m { templates = m.templates ++ l ∷ [] })
 more_templates m l = record { nodes = begins_refl m.nodes; templates = begins_with m.templates (l ∷ []); distributions = begins_refl m.distributions; aligns = begins_refl m.aligns; shadows = begins_refl m.shadows; loops = begins_refl m.loops }
 
-nodes_goes : (at : Place) (n : named.Name) (sizes : Option (List ℤ)) → Kept (lines.nodes_line at n sizes)
-nodes_goes at n sizes = record {
+nodes_goes : (l : NodesLine) (n : named.Name) → Kept (lines.nodes_line l n)
+nodes_goes l n = record {
   at = λ w.
-      goes_declared w n.text (meaning.Nodes (length w.mappings.nodes)) w.names.arrays w.scalars (record w.mappings { nodes = w.mappings.nodes ++ record { at = at; sizes = sizes } ∷ [] }) w.deepest
+      goes_declared w n.text (meaning.Nodes (length w.mappings.nodes)) w.names.arrays w.scalars (record w.mappings { nodes = w.mappings.nodes ++ l ∷ [] }) w.deepest
       (w.broken ++ unless (not (scope.is_declared_here n.text w.names.scopes || is_reserved n.text)) N2 n.at)
       (begins_refl w.names.arrays) (begins_refl w.scalars) (more_nodes w.mappings _) (begins_with w.broken _) (λ own k. one_longer w.mappings.nodes _) (λ k e. absurd (cc e));
 }
 
-template_goes : (at : Place) (n : named.Name) (sizes : List ℤ) → Kept (lines.template_line at n sizes)
-template_goes at n sizes = record {
+template_goes : (at : Place) (n : named.Name) (written : Notation) (dims : List (ℤ × ℤ)) → Kept (lines.template_line at n written dims)
+template_goes at n written dims = record {
   at = λ w.
-      goes_declared w n.text (meaning.Template (length w.mappings.templates)) w.names.arrays w.scalars (record w.mappings { templates = w.mappings.templates ++ record { at = at; sizes = sizes } ∷ [] }) w.deepest
+      goes_declared w n.text (meaning.Template (length w.mappings.templates)) w.names.arrays w.scalars (record w.mappings { templates = w.mappings.templates ++ record { at = at; notation = written; lowers = map (λ d. d.0) dims; sizes = map (λ d. d.1) dims } ∷ [] }) w.deepest
       (w.broken ++ unless (not (scope.is_declared_here n.text w.names.scopes || is_reserved n.text)) N2 n.at)
       (begins_refl w.names.arrays) (begins_refl w.scalars) (more_templates w.mappings _) (begins_with w.broken _) (λ own k. one_longer w.mappings.templates _) (λ k e. absurd (cc e));
 }

@@ -20,8 +20,9 @@ use Rattle.xmp_names.specs.declared.mappings.TemplateLine.{TemplateLine}
 use Rattle.xmp_names.specs.declared.rules.Rule.TheVariants.{N3, M7}
 use Rattle.xmp_names.specs.declared.world.World.{World}
 use Rattle.xmp_names.specs.Rules.{unless}
-use Rattle.xmp_names.specs.Lists.{inner}
-use Rattle.xmp_directives.specs.Directives.{Nest, dimensions, is_indexed, judged_loop, loop_line, loop_right, made_of_point, match_template, name_list, nest_of, point_of, reductions_of, use_template}
+use Rattle.xmp_names.specs.declared.mappings.Notation.{Notation}
+use Rattle.xmp_names.specs.Lists.{notation, parts}
+use Rattle.xmp_directives.specs.Directives.{Nest, is_indexed, judged_loop, loop_line, loop_right, lowers_of, made_points, match_template, template_takes, name_list, nest_of, point_of, reductions_of, use_template}
 use Rattle.xmp_mapping_rules.specs.MappingRules.{forms_of, indexed_right, loop_rule, loop_rules, mapping_rules, cell_rules, nodes_of, shadow_rules, template_sizes, template_sizes_in}
 use Rattle.xmp_parts.specs.Parts.{IsOf, IsTemplate}
 use Rattle.xmp_names.specs.Walk.{Gave, a_template, each, if_there, name_of}
@@ -98,14 +99,14 @@ points_kept : (xs : List Point) → Kept (each point_of xs)
 points_kept xs = (kept.each going (kept_directives.point_of going) xs).kept
 
 -- As many points as dimensions.
-points_match : (v u : World) (template : Option ℕ) (k n : ℕ) (at : Place) (l : TemplateLine) (x : ⊤) → template ≡ Some k → slice_get v.mappings.templates k ≡ Some l →
-    match_template template n at v ≡ Gave x u → u.broken ≡ [] → n ≡ length l.sizes
-points_match v u template k n at l x is there e none =
-    let test : Bool = n == dimensions (slice_get v.mappings.templates k) in
-    let read : Gave tt (record v { broken = v.broken ++ unless test N3 at }) ≡ Gave x u = ap (λ o. match_template o n at v) (sym is) ∙ e in
+points_match : (v u : World) (template : Option ℕ) (written : Notation) (k n : ℕ) (at : Place) (l : TemplateLine) (x : ⊤) → template ≡ Some k → slice_get v.mappings.templates k ≡ Some l →
+    match_template template written n at v ≡ Gave x u → u.broken ≡ [] → n ≡ length l.sizes
+points_match v u template written k n at l x is there e none =
+    let test : Bool = template_takes written n (slice_get v.mappings.templates k) in
+    let read : Gave tt (record v { broken = v.broken ++ unless test N3 at }) ≡ Gave x u = ap (λ o. match_template o written n at v) (sym is) ∙ e in
     let world : record v { broken = v.broken ++ unless test N3 at } ≡ u = same_world read in
     let same : test ≡ true = judged_true v.broken test N3 at (ap (λ (y : World). y.broken) world ∙ none) in
-    eqb-true n (dimensions (slice_get v.mappings.templates k)) same ∙ ap dimensions there
+    eqb-true n (length l.sizes) (left_true (n == length l.sizes) _ (sym (ap (template_takes written n) there) ∙ same))
 
 pub line_made : (own : Own) (w : World) (line : LoopLine) → Good own w → Ends LineMade (loop_line line w)
 line_made own w line g =
@@ -113,15 +114,17 @@ line_made own w line g =
     let g0 : Good own u = (goes_directed line.line.word w).good own g in
     opened (if_there name_list line.names u) _ LineMade (λ names v1 e1.
     opened (name_of a_template line.template v1) _ LineMade (λ template v2 e2.
-    opened (each point_of (inner line.points) v2) _ LineMade (λ points v3 e3.
-    opened (match_template template (length points) line.template.at v3) _ LineMade (λ x v4 e4.
-    opened (reductions_of [] line.reductions v4) _ LineMade (λ reductions v5 e5. λ p end.
+    opened (each point_of (parts line.points) v2) _ LineMade (λ points v3 e3.
+    opened (match_template template (notation line.points) (length points) line.template.at v3) _ LineMade (λ x v4 e4.
+    opened (lowers_of template v4) _ LineMade (λ lowers v6 e6.
+    opened (reductions_of [] line.reductions v6) _ LineMade (λ reductions v5 e5. λ p end.
     let l1 = later_at (if_there name_list line.names) u names v1 (kept.if_there going (kept_directives.name_list going) line.names).kept e1 in
     let l2 = later_at (name_of a_template line.template) v1 template v2 (kept_steps.name_of going a_template line.template).kept e2 in
-    let l3 = later_at (each point_of (inner line.points)) v2 points v3 (points_kept (inner line.points)) e3 in
-    let l4 = later_at (match_template template (length points) line.template.at) v3 x v4 (kept_lines.match_template going template (length points) line.template.at).kept e4 in
-    let l5 = later_at (reductions_of [] line.reductions) v4 reductions v5 (kept_directives.reductions_kept going [] line.reductions) e5 in
-    let end4 : Ending v4 p = earlier v4 v5 p l5.onward.later end in
+    let l3 = later_at (each point_of (parts line.points)) v2 points v3 (points_kept (parts line.points)) e3 in
+    let l4 = later_at (match_template template (notation line.points) (length points) line.template.at) v3 x v4 (kept_lines.match_template going template (notation line.points) (length points) line.template.at).kept e4 in
+    let l6 = later_at (lowers_of template) v4 lowers v6 (kept_lines.lowers_kept going template) e6 in
+    let l5 = later_at (reductions_of [] line.reductions) v6 reductions v5 (kept_directives.reductions_kept going [] line.reductions) e5 in
+    let end4 : Ending v4 p = earlier v4 v6 p l6.onward.later (earlier v6 v5 p l5.onward.later end) in
     let end2 : Ending v2 p = earlier v2 v3 p l3.onward.later (earlier v3 v4 p l4.onward.later end4) in
     let end1 : Ending v1 p = earlier v1 v2 p l2.onward.later end2 in
     let k : Number (length v1.mappings.templates) template = template_number own line.template v1 template (l1.good own g0) (found_at a_template line.template v1 v2 template p e2 end2) in
@@ -136,8 +139,8 @@ line_made own w line g =
       at = t.is;
       as_line = t.as_line;
       few = t.few;
-      as_dims = points_match v3 v4 template k.number (length points) line.template.at t.line x k.is at3 e4 (no_broken v4 p end4);
-    })))))
+      as_dims = points_match v3 v4 template (notation line.points) k.number (length points) line.template.at t.line x k.is at3 e4 (no_broken v4 p end4);
+    }))))))
 
 -- ---- the loop
 
@@ -152,19 +155,19 @@ use_there v u template k at indexed x is e =
 
 -- A loop directive that is right, over a loop whose statements fit.
 right_loop_fits : (p : ProgParts) (parts : LoopParts) (n : ℕ) (x : made.Stmt) (d : LoopDirective) → RightLoop p (unwrap_or parts.template 0) parts.points parts.names (nest_of n x).0 → d.template ≡ unwrap_or parts.template 0 →
-    d.points ≡ map made_of_point parts.points → d.nest ≡ (nest_of n x).0 → StmtFits p x → StmtFits p (s.Loop d (nest_of n x).1)
+    d.points ≡ made_points parts.lowers 0 parts.points → d.nest ≡ (nest_of n x).0 → StmtFits p x → StmtFits p (s.Loop d (nest_of n x).1)
 right_loop_fits p parts n x d r a b c h =
     let template : ℕ = unwrap_or parts.template 0 in
     let nest = (nest_of n x).0 in
     let counts : AllByRecursion (λ y. counted_fits p y ≡ true) (statements_of x) = map_all (DirectiveFits p) (λ y. counted_fits p y ≡ true) (λ y f. f.counted) (statements_of x) h in
     loop_fits p d (nest_of n x).1 (record {
       counted = refl;
-      loop_templates = template_named p template parts.points parts.names nest d r a b c;
-      points = points_there p template parts.points parts.names nest d r a b c;
-      constants = constants_small p template parts.points parts.names nest d r a b c;
-      distributed = distributed_named p template parts.points parts.names nest d r a b c;
-      indices = each_once p template parts.points parts.names nest d r a b c;
-      nest_indices = each_of_nest p template parts.points parts.names nest d r a b c;
+      loop_templates = template_named p template parts.lowers parts.points parts.names nest d r a b c;
+      points = points_there p template parts.lowers parts.points parts.names nest d r a b c;
+      constants = constants_small p template parts.lowers parts.points parts.names nest d r a b c;
+      distributed = distributed_named p template parts.lowers parts.points parts.names nest d r a b c;
+      indices = each_once p template parts.lowers parts.points parts.names nest d r a b c;
+      nest_indices = each_of_nest p template parts.lowers parts.points parts.names nest d r a b c;
       nests = ap (λ hs. is_nest p hs (writes_of (nest_of n x).1)) c ∙ nest_fits p n x counts;
       arrays = refl;
       sides = refl;
@@ -199,4 +202,4 @@ loop_made v word parts n x lines fits =
       as_dims = line.as_dims;
       indexed = indexed_at end.last (length u.mappings.loops) kept_use end.rules there;
     } in
-    right_loop_fits p parts n x (record { template = unwrap_or parts.template 0; points = map made_of_point parts.points; nest = nest.0; reductions = parts.reductions; at = word }) right refl refl refl (fits p end0))
+    right_loop_fits p parts n x (record { template = unwrap_or parts.template 0; points = made_points parts.lowers 0 parts.points; nest = nest.0; reductions = parts.reductions; at = word }) right refl refl refl (fits p end0))

@@ -1,11 +1,10 @@
 -- Loop directives that break no rule: their template is one of the program's, with a point for each dimension; the indices of the nest
 -- stand in one point each, and the point of each distributed dimension has one.
-use Rattle.std.proofs.Common.{◌≡◌, ◌≤◌, ◌∙◌, sym, ap, refl, subst, ◌++◌, ◌∷◌, [], ◌&&◌, ◌||◌, ℕ, zero, suc, ℤ, pos, negsuc, Bool, true, not, List, Option, Some, None, arith, length, map, eqb-true, eq-eqb}
-use Rattle.std.specs.Prelude.{nat_le, int_le, neg_ℤ, ◌==◌, slice_get, if◌then◌else◌}
+use Rattle.std.proofs.Common.{◌≡◌, ◌≤◌, ◌∙◌, sym, ap, refl, subst, ◌++◌, ◌∷◌, [], ◌&&◌, ◌||◌, ℕ, suc, ℤ, pos, Bool, true, not, List, Option, Some, None, arith, length, map, eqb-true, eq-eqb}
+use Rattle.std.specs.Prelude.{int_le, neg_ℤ, ◌-ℤ◌, ◌+◌, false, ◌==◌, slice_get, if◌then◌else◌}
 use Rattle.std.specs.List.{list_all, count_by, flat_map}
-use Rattle.std.proofs.lemmas.List.{length-map}
 use Rattle.std.proofs.lemmas.Bool.{lt-ltb}
-use Rattle.std.proofs.lemmas.Bool.Decides.{nat_tests}
+use Rattle.std.proofs.lemmas.Int.{ints}
 use Rattle.std.proofs.lemmas.Option.{slice_get_within}
 use Rattle.xmp_dist.specs.declared.form.Dist.{Dist}
 use Rattle.xmp_dist.specs.declared.form.Dist.TheVariants as dist
@@ -23,8 +22,8 @@ use Rattle.xmp_prog.specs.Directives as fit
 use Rattle.xmp_prog.specs.Directives.{dim_count, distributed_indexed, has_indices, has_points, indices_of_nest, indices_once, names_template, points_indices}
 use Rattle.xmp_names.specs.declared.mappings.Form.{Form}
 use Rattle.xmp_names.specs.declared.mappings.Form.TheVariants as form
-use Rattle.xmp_directives.specs.Directives.{is_indexed, is_small_point, loop_right, made_of_point, same_numbers, slot_of_point, slots_of_points}
-use Rattle.xmp_names.specs.Sizes.{is_small, limited}
+use Rattle.xmp_directives.specs.Directives.{is_indexed, is_small_point, loop_right, made_of_point, made_points, same_numbers, slot_of_point, slots_of_points}
+use Rattle.xmp_names.specs.Sizes.{held, is_small, lower_at}
 use Rattle.xmp_mapping_rules.specs.MappingRules.{distributes, indexed_right, is_distributed}
 use Rattle.xmp_parts.specs.Parts.{IsOf, made_form}
 use Rattle.xmp_parts.proofs.Padded.{filled_get, filled_past, mapped_to}
@@ -32,27 +31,35 @@ use Rattle.xmp_parts.proofs.Unbroken.{all_here, both_true, left_true, right_true
 
 -- ---- constants
 
-small_number : (c : ℤ) → is_small c ≡ true → (int_le c (pos 8388608) && int_le (neg_ℤ c) (pos 8388608)) ≡ true
-small_number (pos zero) h = refl
-small_number (pos (suc n)) h = both_true _ true (below n (left_true (nat_le (suc n) 4194304) _ h)) refl
+below : (lower c : ℤ) → int_le c (pos 4194304) ≡ true → int_le (neg_ℤ (pos 4194304)) lower ≡ true → int_le (c -ℤ lower) (pos 8388608) ≡ true
+below lower c h k = grind (arith, ints)
+
+above : (lower c : ℤ) → int_le (neg_ℤ (pos 4194304)) c ≡ true → int_le lower (pos 4194304) ≡ true → int_le (neg_ℤ (c -ℤ lower)) (pos 8388608) ≡ true
+above lower c h k = grind (arith, ints)
+
+held_small : (lower c : ℤ) → (int_le (held lower c) (pos 8388608) && int_le (neg_ℤ (held lower c)) (pos 8388608)) ≡ true
+held_small lower c = by (is_small lower && is_small c) refl
   where
-    below : (n : ℕ) → nat_le (suc n) 4194304 ≡ true → nat_le (suc n) 8388608 ≡ true
-    below n h = grind (arith, nat_tests)
-small_number (negsuc n) h = below n h
-  where
-    below : (n : ℕ) → nat_le n 4194303 ≡ true → nat_le (suc n) 8388608 ≡ true
-    below n h = grind (arith, nat_tests)
+    by : (b : Bool) → (is_small lower && is_small c) ≡ b → (int_le (if b then c -ℤ lower else pos 0) (pos 8388608) && int_le (neg_ℤ (if b then c -ℤ lower else pos 0)) (pos 8388608)) ≡ true
+    by false e = refl
+    by true e =
+        let l : is_small lower ≡ true = left_true (is_small lower) (is_small c) e in
+        let s : is_small c ≡ true = right_true (is_small lower) (is_small c) e in
+        both_true _ _
+        (below lower c (left_true (int_le c (pos 4194304)) _ s) (right_true (int_le lower (pos 4194304)) _ l))
+        (above lower c (right_true (int_le c (pos 4194304)) _ s) (left_true (int_le lower (pos 4194304)) _ l))
 
-kept : (c : ℤ) → is_small c ≡ true → limited c ≡ c
-kept c h = ap (λ b. if b then c else pos 4194305) h
+small_point : (lower : ℤ) (x : Option (ℕ × ℤ)) → fit.is_small_point (made_of_point lower x) ≡ true
+small_point lower None = refl
+small_point lower (Some x) = held_small lower x.1
 
-small_point : (x : Option (ℕ × ℤ)) → is_small_point x ≡ true → fit.is_small_point (made_of_point x) ≡ true
-small_point None h = refl
-small_point (Some x) h = ap (λ c. int_le c (pos 8388608) && int_le (neg_ℤ c) (pos 8388608)) (kept x.1 h) ∙ small_number x.1 h
+small_points : (lowers : List ℤ) (k : ℕ) (points : List (Option (ℕ × ℤ))) → list_all fit.is_small_point (made_points lowers k points) ≡ true
+small_points lowers k [] = refl
+small_points lowers k (x ∷ xs) = both_true _ _ (small_point (lower_at lowers k) x) (small_points lowers (k + 1) xs)
 
-small_points : (points : List (Option (ℕ × ℤ))) → list_all is_small_point points ≡ true → list_all fit.is_small_point (map made_of_point points) ≡ true
-small_points [] h = refl
-small_points (x ∷ xs) h = both_true _ _ (small_point x (left_true (is_small_point x) _ h)) (small_points xs (right_true (is_small_point x) _ h))
+as_many : (lowers : List ℤ) (k : ℕ) (points : List (Option (ℕ × ℤ))) → length (made_points lowers k points) ≡ length points
+as_many lowers k [] = refl
+as_many lowers k (x ∷ xs) = ap suc (as_many lowers (k + 1) xs)
 
 -- ---- indices
 
@@ -63,26 +70,27 @@ same_lists (n ∷ ns) [] h = cc
 same_lists (n ∷ ns) (m ∷ ms) h =
     ap (λ x. x ∷ ns) (eqb-true n m (left_true (n == m) _ h)) ∙ ap (λ l. m ∷ l) (same_lists ns ms (right_true (n == m) _ h))
 
-point_slots : (x : Option (ℕ × ℤ)) → made_slots.slots_of_point (made_of_point x) ≡ slot_of_point x
-point_slots None = refl
-point_slots (Some x) = refl
+point_slots : (lower : ℤ) (x : Option (ℕ × ℤ)) → made_slots.slots_of_point (made_of_point lower x) ≡ slot_of_point x
+point_slots lower None = refl
+point_slots lower (Some x) = refl
 
-points_slots : (points : List (Option (ℕ × ℤ))) → flat_map made_slots.slots_of_point (map made_of_point points) ≡ slots_of_points points
-points_slots [] = refl
-points_slots (x ∷ xs) = ap (λ l. l ++ flat_map made_slots.slots_of_point (map made_of_point xs)) (point_slots x) ∙ ap (λ l. slot_of_point x ++ l) (points_slots xs)
+points_slots : (lowers : List ℤ) (k : ℕ) (points : List (Option (ℕ × ℤ))) → flat_map made_slots.slots_of_point (made_points lowers k points) ≡ slots_of_points points
+points_slots lowers k [] = refl
+points_slots lowers k (x ∷ xs) =
+    ap (λ l. l ++ flat_map made_slots.slots_of_point (made_points lowers (k + 1) xs)) (point_slots (lower_at lowers k) x) ∙ ap (λ l. slot_of_point x ++ l) (points_slots lowers (k + 1) xs)
 
 -- ---- distributed dimensions
 
 -- The point of a dimension: where it is distributed it has an index.
-each_indexed : (ss : List SpreadDim) (points : List (Option (ℕ × ℤ))) →
+each_indexed : (lowers : List ℤ) (k : ℕ) (ss : List SpreadDim) (points : List (Option (ℕ × ℤ))) →
     ((i : ℕ) (s : SpreadDim) (x : Option (ℕ × ℤ)) → slice_get ss i ≡ Some s → slice_get points i ≡ Some x → (is_indexed x || is_whole s.dim.dist) ≡ true) →
-    distributed_indexed ss (map made_of_point points) ≡ true
-each_indexed [] points h = refl
-each_indexed (s ∷ ss) [] h = refl
-each_indexed (s ∷ ss) (x ∷ xs) h =
-    both_true _ _ (ap (λ b. b || is_whole s.dim.dist) (has x) ∙ h 0 s x refl refl) (each_indexed ss xs (λ i t y e f. h (suc i) t y e f))
+    distributed_indexed ss (made_points lowers k points) ≡ true
+each_indexed lowers k [] points h = refl
+each_indexed lowers k (s ∷ ss) [] h = refl
+each_indexed lowers k (s ∷ ss) (x ∷ xs) h =
+    both_true _ _ (ap (λ b. b || is_whole s.dim.dist) (has x) ∙ h 0 s x refl refl) (each_indexed lowers (k + 1) ss xs (λ i t y e f. h (suc i) t y e f))
   where
-    has : (x : Option (ℕ × ℤ)) → fit.has_index (made_of_point x) ≡ is_indexed x
+    has : (x : Option (ℕ × ℤ)) → fit.has_index (made_of_point (lower_at lowers k) x) ≡ is_indexed x
     has None = refl
     has (Some x) = refl
 
@@ -99,9 +107,9 @@ whole_at forms i d (Some x) few e f = ap is_whole (same (sym f ∙ filled_get ma
     same : {A : Type 0} {x y : A} → Some x ≡ Some y → x ≡ y
     same e = cc
 
-points_indexed : (forms : List Form) (points : List (Option (ℕ × ℤ))) (ss : List SpreadDim) → length forms ≤ 3 → map (λ s. s.dim.dist) ss ≡ filled dist.Whole (map made_form forms) →
-    indexed_right forms (map is_indexed points) ≡ true → distributed_indexed ss (map made_of_point points) ≡ true
-points_indexed forms points ss few is h = each_indexed ss points (λ i s x e f. here i s x e f)
+points_indexed : (lowers : List ℤ) (forms : List Form) (points : List (Option (ℕ × ℤ))) (ss : List SpreadDim) → length forms ≤ 3 → map (λ s. s.dim.dist) ss ≡ filled dist.Whole (map made_form forms) →
+    indexed_right forms (map is_indexed points) ≡ true → distributed_indexed ss (made_points lowers 0 points) ≡ true
+points_indexed lowers forms points ss few is h = each_indexed lowers 0 ss points (λ i s x e f. here i s x e f)
   where
     here : (i : ℕ) (s : SpreadDim) (x : Option (ℕ × ℤ)) → slice_get ss i ≡ Some s → slice_get points i ≡ Some x → (is_indexed x || is_whole s.dim.dist) ≡ true
     here i s x e f =
@@ -124,8 +132,8 @@ pub record RightLoop (p : ProgParts) (template : ℕ) (points : List (Option (�
   pub as_dims : length points ≡ length sizes
   pub indexed : indexed_right forms (map is_indexed points) ≡ true
 
-module _ (p : ProgParts) (template : ℕ) (points : List (Option (ℕ × ℤ))) (names : List ℕ) (nest : List LoopHead) (d : LoopDirective) (r : RightLoop p template points names nest)
-    (as_template : d.template ≡ template) (as_points : d.points ≡ map made_of_point points) (as_nest : d.nest ≡ nest) where
+module _ (p : ProgParts) (template : ℕ) (lowers : List ℤ) (points : List (Option (ℕ × ℤ))) (names : List ℕ) (nest : List LoopHead) (d : LoopDirective) (r : RightLoop p template points names nest)
+    (as_template : d.template ≡ template) (as_points : d.points ≡ made_points lowers 0 points) (as_nest : d.nest ≡ nest) where
   abbrev rest : Bool
   rest = list_all (is_in names) (slots_of_points points) && list_all is_small_point points
 
@@ -136,7 +144,7 @@ module _ (p : ProgParts) (template : ℕ) (points : List (Option (ℕ × ℤ))) 
   known_names = same_lists names (indices_of nest) (left_true (same_numbers names (indices_of nest)) (once && rest) r.right) ∙ ap indices_of (sym as_nest)
 
   known_slots : points_indices d ≡ slots_of_points points
-  known_slots = ap (λ l. flat_map made_slots.slots_of_point l) as_points ∙ points_slots points
+  known_slots = ap (λ l. flat_map made_slots.slots_of_point l) as_points ∙ points_slots lowers 0 points
 
   behind : (once && rest) ≡ true
   behind = right_true (same_numbers names (indices_of nest)) (once && rest) r.right
@@ -146,18 +154,18 @@ module _ (p : ProgParts) (template : ℕ) (points : List (Option (ℕ × ℤ))) 
 
   pub points_there : has_points p d ≡ true
   points_there =
-      let many : length d.points ≡ length r.sizes = ap (λ l. length l) as_points ∙ (length-map points made_of_point ∙ r.as_dims) in
+      let many : length d.points ≡ length r.sizes = ap (λ l. length l) as_points ∙ (as_many lowers 0 points ∙ r.as_dims) in
       let dims : dim_count (slice_get p.templates d.template) ≡ length r.sizes = ap (λ k. dim_count (slice_get p.templates k)) as_template ∙ (ap dim_count r.at ∙ r.is.dims) in
       eq-eqb (length d.points) (dim_count (slice_get p.templates d.template)) (many ∙ sym dims)
 
   pub constants_small : list_all fit.is_small_point d.points ≡ true
-  constants_small = ap (list_all fit.is_small_point) as_points ∙ small_points points (right_true (list_all (is_in names) (slots_of_points points)) _ (right_true once rest behind))
+  constants_small = ap (list_all fit.is_small_point) as_points ∙ small_points lowers 0 points
 
   pub distributed_named : has_indices p d ≡ true
   distributed_named =
       ap (λ k. distributed_indexed (fit.dims_of (slice_get p.templates k)) d.points) as_template
       ∙ (ap (λ o. distributed_indexed (fit.dims_of o) d.points) r.at
-      ∙ (ap (distributed_indexed r.made.spread) as_points ∙ points_indexed r.forms points r.made.spread r.few r.is.forms r.indexed))
+      ∙ (ap (distributed_indexed r.made.spread) as_points ∙ points_indexed lowers r.forms points r.made.spread r.few r.is.forms r.indexed))
 
   pub each_once : indices_once d ≡ true
   each_once =

@@ -28,8 +28,8 @@ use Rattle.xmp_names.specs.declared.world.World.{World}
 use Rattle.xmp_names.specs.declared.rules.Rule.TheVariants.{M10}
 use Rattle.xmp_names.specs.Rules.{unless}
 use Rattle.xmp_names.specs.Sizes.{most_cells, given_or_one, line_sizes, natural}
-use Rattle.xmp_mapping_rules.specs.MappingRules.{align_of, cells_from, copies, forms_of, mapping_rules, is_given, node_product, nodes_of, nodes_right, number_of_nodes, one_to_three, sizes_or_row}
-use Rattle.xmp_parts.specs.Parts.{EachMade, IsAligned, IsArray, IsGrid, IsHome, IsMapOver, IsOver, IsTemplate, Made, kind_of, targets, targets_from, widths_in}
+use Rattle.xmp_mapping_rules.specs.MappingRules.{align_of, cells_from, copies, first_nodes, forms_of, item_at, mapping_rules, is_given, node_product, nodes_of, nodes_right, number_of_nodes, one_to_three, sizes_or_row, template_lowers}
+use Rattle.xmp_parts.specs.Parts.{EachMade, IsAligned, IsArray, IsGrid, IsHome, IsMapOver, IsOver, IsTemplate, Made, held_points, kind_of, targets, targets_from, widths_in}
 use Rattle.xmp_mapping_rules.specs.MappingRules.{shadow_of}
 use Rattle.xmp_names.specs.declared.mappings.NodesLine.{NodesLine}
 use Rattle.xmp_parts.specs.Narrow.{is_count}
@@ -112,7 +112,7 @@ module _ (w : World) (p : ProgParts) (k : ℕ) (array : Array) (made : made_arra
       let ws : length (widths_in array.extents (shadow_of w k)) ≡ length array.extents = widths_length array.extents forms a.points (shadow_of w k) (shadow_of_array w k array a h at e) in
       record {
         template = ap (slice_get p.templates) n ∙ (f ∙ ap (λ x. Some x) (sym r.template));
-        extents = map_extents t array.extents a.points (widths_in array.extents (shadow_of w k)) m r ws few ∙ sym is;
+        extents = map_extents t array.extents (held_points (template_lowers w a.template) 0 a.points) (widths_in array.extents (shadow_of w k)) m r ws few ∙ sym is;
       }
 
   aligned_passes : (o : Option Align) (x : Home) → align_of w k ≡ o → IsAligned w p.templates k array.extents o x → HomeFits p made x
@@ -186,9 +186,9 @@ row_nodes (Some m) n h = sym h
 
 -- The number of nodes is the product of the sizes of the nodes array.
 pub nodes_counted : (w : World) → mapping_rules w ≡ [] → number_of_nodes w ≡ node_product (nodes_of w)
-nodes_counted w h = go (slice_get w.mappings.nodes 0) refl
+nodes_counted w h = go (item_at w.mappings.nodes (first_nodes w)) refl
   where
-    go : (o : Option NodesLine) → slice_get w.mappings.nodes 0 ≡ o → unwrap_or w.given (node_product (sizes_or_row (given_or_one w) o)) ≡ node_product (sizes_or_row (given_or_one w) o)
+    go : (o : Option NodesLine) → item_at w.mappings.nodes (first_nodes w) ≡ o → unwrap_or w.given (node_product (sizes_or_row (given_or_one w) o)) ≡ node_product (sizes_or_row (given_or_one w) o)
     go None e = row_nodes w.given (product (given_or_one w ∷ [])) (one_row (given_or_one w))
     go (Some l) e =
         let sizes : List ℤ = line_sizes (given_or_one w) l in

@@ -25,9 +25,9 @@ use Rattle.xmp_names.specs.Rules.{unless}
 use Rattle.xmp_names.specs.Expressions.{is_function, may_name}
 use Rattle.xmp_names.specs.Walk as walk
 use Rattle.xmp_names.specs.Walk.{Step, Gave, Run, a_scalar, an_int_scalar, a_template, name_of, of_kind, directive_at}
-use Rattle.xmp_names.specs.Lists.{listed, inner}
+use Rattle.xmp_names.specs.Lists.{listed, notation, parts}
 use Rattle.xmp_directives.specs.Directives as directives
-use Rattle.xmp_directives.specs.Directives.{slot_or_zero, made_of_point, operation_of}
+use Rattle.xmp_directives.specs.Directives.{slot_or_zero, operation_of}
 use Rattle.xmp_parts.proofs.Unbroken.{right_none, holds}
 use Rattle.xmp_fits.proofs.GoodWorlds.{Own, Good}
 use Rattle.xmp_fits.proofs.GoodSteps.{onward_stays, begins_get, true_name}
@@ -170,25 +170,29 @@ line_holds own line = record {
       let g0 : Good own u = d.good own g in
       opened (walk.if_there directives.name_list line.names u) _ (λ x v. v.broken ≡ [] → LineGood v x) (λ names v1 e1.
       opened (name_of a_template line.template v1) _ (λ x v. v.broken ≡ [] → LineGood v x) (λ template v2 e2.
-      opened (walk.each directives.point_of (inner line.points) v2) _ (λ x v. v.broken ≡ [] → LineGood v x) (λ points v3 e3.
-      opened (directives.match_template template (length points) line.template.at v3) _ (λ x v. v.broken ≡ [] → LineGood v x) (λ x v4 e4.
-      opened (directives.reductions_of [] line.reductions v4) _ (λ x v. v.broken ≡ [] → LineGood v x) (λ reductions v5 e5. λ none.
+      opened (walk.each directives.point_of (parts line.points) v2) _ (λ x v. v.broken ≡ [] → LineGood v x) (λ points v3 e3.
+      opened (directives.match_template template (notation line.points) (length points) line.template.at v3) _ (λ x v. v.broken ≡ [] → LineGood v x) (λ x v4 e4.
+      opened (directives.lowers_of template v4) _ (λ x v. v.broken ≡ [] → LineGood v x) (λ lowers v6 e6.
+      opened (directives.reductions_of [] line.reductions v6) _ (λ x v. v.broken ≡ [] → LineGood v x) (λ reductions v5 e5. λ none.
       let l1 = later_at (walk.if_there directives.name_list line.names) u names v1 (kept_runs.if_there going (kept.name_list going) line.names).kept e1 in
       let l2 = later_at (name_of a_template line.template) v1 template v2 (kept_steps.name_of going a_template line.template).kept e2 in
-      let l3 = later_at (walk.each directives.point_of (inner line.points)) v2 points v3 (kept_runs.each going (kept.point_of going) (inner line.points)).kept e3 in
-      let l4 = later_at (directives.match_template template (length points) line.template.at) v3 x v4 (kept_lines.match_template going template (length points) line.template.at).kept e4 in
-      let l5 = later_at (directives.reductions_of [] line.reductions) v4 reductions v5 (kept.reductions_kept going [] line.reductions) e5 in
-      let n4 = unbroken_before v4 v5 l5.onward.later none in
+      let l3 = later_at (walk.each directives.point_of (parts line.points)) v2 points v3 (kept_runs.each going (kept.point_of going) (parts line.points)).kept e3 in
+      let l4 = later_at (directives.match_template template (notation line.points) (length points) line.template.at) v3 x v4 (kept_lines.match_template going template (notation line.points) (length points) line.template.at).kept e4 in
+      let l6 = later_at (directives.lowers_of template) v4 lowers v6 (kept_lines.lowers_kept going template) e6 in
+      let l5 = later_at (directives.reductions_of [] line.reductions) v6 reductions v5 (kept.reductions_kept going [] line.reductions) e5 in
+      let n6 = unbroken_before v6 v5 l5.onward.later none in
+      let n4 = unbroken_before v4 v6 l6.onward.later n6 in
       let n3 = unbroken_before v3 v4 l4.onward.later n4 in
       let n2 = unbroken_before v2 v3 l3.onward.later n3 in
       let n1 = unbroken_before v1 v2 l2.onward.later n2 in
       let n0 = unbroken_before u v1 l1.onward.later n1 in
       let g2 : Good own v2 = l2.good own (l1.good own g0) in
-      let g4 : Good own v4 = l4.good own (l3.good own g2) in
-      let l : Goes u v5 = goes_trans l1 (goes_trans l2 (goes_trans l3 (goes_trans l4 l5))) in
+      let g6 : Good own v6 = l6.good own (l4.good own (l3.good own g2)) in
+      let l46 : Goes v3 v5 = goes_trans l4 (goes_trans l6 l5) in
+      let l : Goes u v5 = goes_trans l1 (goes_trans l2 (goes_trans l3 l46)) in
       record {
         none = none_stays u v5 l ((directive_holds own line.line.word).at w g n0);
-        points = all_go PointGood point_stays v3 v5 (goes_trans l4 l5) points (fact_at own (λ w v all. AllByRecursion (PointGood v) all) (walk.each directives.point_of (inner line.points)) v2 v3 points (each_holds own PointGood point_stays (kept.point_of going) (point_holds own) (inner line.points)) g2 e3 n3);
-        reductions = ends_at (λ all v. v.broken ≡ [] → AllByRecursion (ReductionGood v) all) (directives.reductions_of [] line.reductions v4) reductions v5 (reductions_from own v4 [] line.reductions g4 tt) e5 none;
-      })))));
+        points = all_go PointGood point_stays v3 v5 l46 points (fact_at own (λ w v all. AllByRecursion (PointGood v) all) (walk.each directives.point_of (parts line.points)) v2 v3 points (each_holds own PointGood point_stays (kept.point_of going) (point_holds own) (parts line.points)) g2 e3 n3);
+        reductions = ends_at (λ all v. v.broken ≡ [] → AllByRecursion (ReductionGood v) all) (directives.reductions_of [] line.reductions v6) reductions v5 (reductions_from own v6 [] line.reductions g6 tt) e5 none;
+      }))))));
 }

@@ -14,6 +14,7 @@ use Rattle.xmp_syntax.specs.declared.parts.Name as named
 use Rattle.xmp_syntax.specs.declared.parts.CommaList.{CommaList}
 use Rattle.xmp_syntax.specs.declared.directive.DirectiveLine.{DirectiveLine}
 use Rattle.xmp_syntax.specs.declared.directive.Sections.{Sections}
+use Rattle.xmp_syntax.specs.declared.directive.NodesSet.{NodesSet}
 use Rattle.xmp_syntax.specs.declared.statement.Plain.{Plain}
 use Rattle.xmp_syntax.specs.declared.statement.Plain.TheVariants as plain
 use Rattle.xmp_syntax.specs.declared.expression.Expr.{Expr}
@@ -102,7 +103,7 @@ module _ (own : Own) where
   barrier_holds : (line : DirectiveLine) → Holds own (λ w v x. StmtGood v x) (directives.barrier_of line)
   barrier_holds line = record { at = λ w g none. barrier_good (directed line.word w) line.word ((directive_holds own line.word).at w g none) }
 
-  bcast_holds : (line : DirectiveLine) (names : CommaList named.Name) (from : Sections) → Holds own (λ w v x. StmtGood v x) (directives.bcast_of line names from)
+  bcast_holds : (line : DirectiveLine) (names : CommaList named.Name) (from : NodesSet) → Holds own (λ w v x. StmtGood v x) (directives.bcast_of line names from)
   bcast_holds line names from = record {
     at = λ w g.
         let u : World = directed line.word w in

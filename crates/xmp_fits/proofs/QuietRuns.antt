@@ -23,8 +23,8 @@ quiet = record {
   same = goes_refl;
   then = goes_trans;
   mapped = λ w m d bs hm hb. record { arrays = refl; coarray = refl };
-  nodes = λ at n sizes. record { at = λ w. record { arrays = refl; coarray = refl } };
-  template = λ at n sizes. record { at = λ w. record { arrays = refl; coarray = refl } };
+  nodes = λ l n. record { at = λ w. record { arrays = refl; coarray = refl } };
+  template = λ at n written dims. record { at = λ w. record { arrays = refl; coarray = refl } };
 }
 
 pub quiet_scalars : OfScalars Goes

@@ -7,6 +7,8 @@ use Rattle.xmp_num.specs.declared.types.Ty.{Ty}
 use Rattle.xmp_syntax.specs.declared.parts.Name as named
 use Rattle.xmp_names.specs.declared.names.Array.{Array}
 use Rattle.xmp_names.specs.declared.mappings.Mappings.{Mappings}
+use Rattle.xmp_names.specs.declared.mappings.NodesLine.{NodesLine}
+use Rattle.xmp_names.specs.declared.mappings.Notation.{Notation}
 use Rattle.xmp_names.specs.declared.rules.Broken.{Broken}
 use Rattle.xmp_names.specs.declared.world.World.{World}
 use Rattle.xmp_names.specs.Walk as walk
@@ -49,8 +51,8 @@ pub record Respected (K : World → World → Type 0) : Type 0 where
   pub same : (w : World) → K w w
   pub then : {a b c : World} → K a b → K b c → K a c
   pub mapped : (w : World) (m : Mappings) (d : ℕ) (bs : List Broken) → LaterMappings w.mappings m → Begins w.broken bs → K w (record w { mappings = m; deepest = d; broken = bs })
-  pub nodes : (at : Place) (n : named.Name) (sizes : Option (List ℤ)) → Keeps K (lines.nodes_line at n sizes)
-  pub template : (at : Place) (n : named.Name) (sizes : List ℤ) → Keeps K (lines.template_line at n sizes)
+  pub nodes : (l : NodesLine) (n : named.Name) → Keeps K (lines.nodes_line l n)
+  pub template : (at : Place) (n : named.Name) (written : Notation) (dims : List (ℤ × ℤ)) → Keeps K (lines.template_line at n written dims)
 
 -- A relation that the declaration of a scalar respects.
 abbrev pub OfScalars : (World → World → Type 0) → Type 0

@@ -1,6 +1,6 @@
 -- Statements and directives with no statement inside respect a relation that the single steps respect.
 use Rattle.std.proofs.Common.{◌++◌, ◌∷◌, [], ℕ, List, Bool, true, false, Option, Some, None, length, map}
-use Rattle.std.specs.Prelude.{⊤, ℤ, pos, not, ◌&&◌, ◌||◌, ◌==◌, slice_get, drop}
+use Rattle.std.specs.Prelude.{⊤, ℤ, not, ◌&&◌, ◌||◌, ◌==◌, slice_get, drop}
 use Rattle.std.specs.Option.{unwrap_or}
 use Rattle.std.specs.List.{list_all}
 use Rattle.xmp_base.specs.declared.place.Place.{Place}
@@ -31,6 +31,9 @@ use Rattle.xmp_syntax.specs.declared.directive.Point.TheVariants as point
 use Rattle.xmp_syntax.specs.declared.directive.Section.{Section}
 use Rattle.xmp_syntax.specs.declared.directive.Section.TheVariants as section
 use Rattle.xmp_syntax.specs.declared.directive.Sections.{Sections}
+use Rattle.xmp_syntax.specs.declared.directive.Piece.{Piece}
+use Rattle.xmp_syntax.specs.declared.directive.Piece.TheVariants as piece
+use Rattle.xmp_syntax.specs.declared.directive.NodesSet.{NodesSet}
 use Rattle.xmp_syntax.specs.declared.directive.Reduction.{Reduction}
 use Rattle.xmp_syntax.specs.declared.directive.LoopLine.{LoopLine}
 use Rattle.xmp_syntax.specs.declared.directive.TaskLine.{TaskLine}
@@ -51,18 +54,19 @@ use Rattle.xmp_names.specs.declared.typed.Operand.{Operand}
 use Rattle.xmp_names.specs.Walk.{first_place, is_known, is_main, a_scalar, an_int_scalar, an_array, a_nodes, a_template}
 use Rattle.xmp_names.specs.Expressions.{is_nothing}
 use Rattle.xmp_names.specs.Formats.{fits_format, is_scan_format}
-use Rattle.xmp_names.specs.Lists.{listed, inner}
+use Rattle.xmp_names.specs.declared.mappings.Notation.{Notation}
+use Rattle.xmp_names.specs.Lists.{listed, inner, parts, notation}
 use Rattle.xmp_walk.specs.Statements as statements
 use Rattle.xmp_walk.specs.Statements.{set, compound_of, one, call_statement, target_of, target_name, is_scalar_target, index_of, first_part}
 use Rattle.xmp_directives.specs.Directives as directives
-use Rattle.xmp_directives.specs.Directives.{slot_or_zero, signed, names_or, slots_of_points, operation_of, Nest, loop_right, is_indexed, made_loop, sizes_in, ranges, is_one, ranges_right, box_of, share, unwritten, first_extent, no_side, sections_match}
+use Rattle.xmp_directives.specs.Directives.{slot_or_zero, signed, names_or, slots_of_points, operation_of, Nest, loop_right, is_indexed, made_loop, nodes_from, sizes_in, ranges, is_one, ranges_right, box_of, share, unwritten, first_extent, no_side, sections_match}
 use Rattle.xmp_names.specs.Sizes.{given_or_one, extents_in}
 use Rattle.xmp_walk.specs.Program as program
 use Rattle.xmp_names.specs.declared.world.World.{World}
 use Rattle.xmp_fits.proofs.Laters.{begins_refl, begins_with}
 use Rattle.xmp_fits.proofs.Respected.{Keeps, Respected, OfScalars, Going, ◌>>=◌, known, pure, each, if_there}
 use Rattle.xmp_fits.proofs.RespectedSteps.{judge, asked, region_of, typed, typed_reference, typed_call, typed_all, constant, declare_scalar, meaning_of, name_of, directive_at, not_in_function}
-use Rattle.xmp_fits.proofs.RespectedLines.{offset_of, match_template}
+use Rattle.xmp_fits.proofs.RespectedLines.{offset_of, lowers_of, match_nodes, match_template}
 
 module _ {K : World → World → Type 0} (R : Respected K) where
   -- ---- assignments, calls, `return`, `printf`, `scanf`, `xmp_sync_all`
@@ -211,48 +215,52 @@ module _ {K : World → World → Type 0} (R : Respected K) where
     _ ← directive_at R line.line.word
     names ← if_there R name_list line.names
     template ← name_of R a_template line.template
-    points ← each R point_of (inner line.points)
-    _ ← match_template R template (length points) line.template.at
+    points ← each R point_of (parts line.points)
+    _ ← match_template R template (notation line.points) (length points) line.template.at
+    lowers ← lowers_of R template
     reductions ← reductions_of [] line.reductions
-    pure R (record { template = template; points = points; names = names_or names (slots_of_points points); reductions = reductions })
+    pure R (record { template = template; lowers = lowers; points = points; names = names_or names (slots_of_points points); reductions = reductions })
 
   pub line_kept : (line : LoopLine) → Keeps K (directives.loop_line line)
   line_kept line = (loop_line line).kept
 
   abbrev pub judged_loop : Place → LoopParts → Nest → Going R made.Stmt
-  judged_loop word parts nest = do
-    _ ← judge R (loop_right parts.names parts.points nest.0) M7 word
-    _ ← use_template parts.template word (map is_indexed parts.points)
-    pure R (made_loop (unwrap_or parts.template 0) parts.points nest parts.reductions word)
+  judged_loop word l nest = do
+    _ ← judge R (loop_right l.names l.points nest.0) M7 word
+    _ ← use_template l.template word (map is_indexed l.points)
+    pure R (made_loop l nest word)
 
-  pub loop_kept : (word : Place) (parts : LoopParts) (nest : Nest) → Keeps K (directives.judged_loop word parts nest)
-  loop_kept word parts nest = (judged_loop word parts nest).kept
+  pub loop_kept : (word : Place) (l : LoopParts) (nest : Nest) → Keeps K (directives.judged_loop word l nest)
+  loop_kept word l nest = (judged_loop word l nest).kept
 
   -- ---- sets of nodes
 
-  pub count_kept : (x : Option (Place × Expr)) → Keeps K (directives.count_of x)
-  count_kept None = (pure R (pos 1)).kept
-  count_kept (Some x) = (constant R x.1).kept
+  abbrev pub second_of : Option (Place × Expr) → Going R (Option ℤ)
+  second_of x = if_there R (λ y. constant R y.1) x
 
-  pub set_part_kept : (x : Section) → Keeps K (directives.set_part x)
-  set_part_kept (section.All at) = (pure R None).kept
-  set_part_kept (section.Numbers first many step) = (do
-    a ← constant R first
-    n ← record { run = directives.count_of many; kept = count_kept many }
-    pure R (Some (a, n))).kept
+  pub piece_kept : (written : Notation) (x : Piece) → Keeps K (directives.piece_of written x)
+  piece_kept written (piece.All at) = (pure R None).kept
+  piece_kept written (piece.Numbers first second) = (do
+    b ← constant R first
+    x ← second_of second
+    pure R (Some (nodes_from written b x))).kept
 
   pub sizes_kept : (k : Option ℕ) → Keeps K (directives.nodes_sizes k)
   sizes_kept None = (pure R []).kept
   sizes_kept (Some k) = (asked R (λ w. sizes_in (given_or_one w) (slice_get w.mappings.nodes k))).kept
 
-  abbrev pub set_of : Bool → Place → Sections → Going R NodeSet
+  abbrev pub judged_set : Bool → Place → Option ℕ → List (Option (ℤ × ℤ)) → Going R NodeSet
+  judged_set one_node word number pieces = do
+    sizes ← record { run = directives.nodes_sizes number; kept = sizes_kept number }
+    _ ← judge R (ranges_right sizes (ranges sizes pieces) && (not one_node || is_one (ranges sizes pieces))) M8 word
+    pure R (box_of sizes (ranges sizes pieces))
+
+  abbrev pub set_of : Bool → Place → NodesSet → Going R NodeSet
   set_of one_node word x = do
     number ← name_of R a_nodes x.name
-    sizes ← record { run = directives.nodes_sizes number; kept = sizes_kept number }
-    parts ← each R (λ s. record { run = directives.set_part s; kept = set_part_kept s }) (inner x.sections)
-    _ ← judge R (is_nothing parts || (length parts == length sizes)) N3 x.name.at
-    _ ← judge R (ranges_right sizes (ranges sizes parts) && (not one_node || is_one (ranges sizes parts))) M8 word
-    pure R (box_of sizes (ranges sizes parts))
+    pieces ← each R (λ s. record { run = directives.piece_of (notation x.pieces) s; kept = piece_kept (notation x.pieces) s }) (parts x.pieces)
+    _ ← match_nodes R number (notation x.pieces) (length pieces) x.name.at
+    judged_set one_node word number pieces
 
   abbrev pub task_line : List NodeSet → TaskLine → Going R NodeSet
   task_line before line = do
@@ -277,7 +285,7 @@ module _ {K : World → World → Type 0} (R : Respected K) where
     _ ← directive_at R line.word
     pure R (s.Plain (p.Barrier line.word))
 
-  abbrev pub bcast_of : DirectiveLine → CommaList named.Name → Sections → Going R made.Stmt
+  abbrev pub bcast_of : DirectiveLine → CommaList named.Name → NodesSet → Going R made.Stmt
   bcast_of line names from = do
     _ ← directive_at R line.word
     variables ← each R scalar_name (listed names)

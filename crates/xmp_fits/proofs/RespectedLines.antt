@@ -1,6 +1,6 @@
 -- Declarations and parts of mapping lines respect a relation that the single steps respect.
 use Rattle.std.proofs.Common.{◌++◌, ◌∷◌, [], ℕ, List, Bool, Option, Some, None, length, map}
-use Rattle.std.specs.Prelude.{⊤, ℤ, pos, ◌&&◌, ◌==◌, slice_get, is_some, nat_le}
+use Rattle.std.specs.Prelude.{⊤, ℤ, pos, ◌&&◌, ◌||◌, ◌==◌, slice_get, is_some, nat_le}
 use Rattle.std.specs.List.{list_all}
 use Rattle.xmp_base.specs.declared.place.Place.{Place}
 use Rattle.xmp_num.specs.declared.types.Ty.{Ty}
@@ -25,12 +25,13 @@ use Rattle.xmp_walk.specs.Declarations as declarations
 use Rattle.xmp_names.specs.Lists.{listed, inner}
 use Rattle.xmp_walk.specs.Declarations.{type_of, extent_of, extent_right}
 use Rattle.xmp_directives.specs.Directives as directives
-use Rattle.xmp_directives.specs.Directives.{signed, dimensions}
+use Rattle.xmp_names.specs.declared.mappings.Notation.{Notation}
+use Rattle.xmp_directives.specs.Directives.{signed, lowers_in, nodes_take, template_takes}
 use Rattle.xmp_names.specs.Sizes.{limited, extents_in}
 use Rattle.xmp_directives.specs.MappingLines as lines
 use Rattle.xmp_directives.specs.MappingLines.{Dummies, has_dummy, line_of}
 use Rattle.xmp_fits.proofs.Respected.{Keeps, Respected, OfScalars, Going, ◌>>=◌, pure, each, then_keeps}
-use Rattle.xmp_fits.proofs.RespectedSteps.{judged, typed, typed_constant, constant, declare_scalar}
+use Rattle.xmp_fits.proofs.RespectedSteps.{asked, judged, typed, typed_constant, constant, declare_scalar}
 
 -- ---- declarations
 
@@ -96,12 +97,26 @@ module _ {K : World → World → Type 0} (R : Respected K) where
   abbrev pub offset_of : Option (Placed Mark × Expr) → Going R ℤ
   offset_of x = record { run = directives.offset_of x; kept = offset_kept x }
 
-  pub template_matched : (t : Option ℕ) (count : ℕ) (at : Place) → Keeps K (directives.match_template t count at)
-  template_matched None count at = (pure R tt).kept
-  template_matched (Some k) count at = (judged R (λ w. count == dimensions (slice_get w.mappings.templates k)) N3 at).kept
+  pub template_matched : (t : Option ℕ) (written : Notation) (count : ℕ) (at : Place) → Keeps K (directives.match_template t written count at)
+  template_matched None written count at = (pure R tt).kept
+  template_matched (Some k) written count at = (judged R (λ w. template_takes written count (slice_get w.mappings.templates k)) N3 at).kept
 
-  abbrev pub match_template : Option ℕ → ℕ → Place → Going R ⊤
-  match_template t count at = record { run = directives.match_template t count at; kept = template_matched t count at }
+  abbrev pub match_template : Option ℕ → Notation → ℕ → Place → Going R ⊤
+  match_template t written count at = record { run = directives.match_template t written count at; kept = template_matched t written count at }
+
+  pub lowers_kept : (t : Option ℕ) → Keeps K (directives.lowers_of t)
+  lowers_kept None = (pure R []).kept
+  lowers_kept (Some k) = (asked R (λ w. lowers_in (slice_get w.mappings.templates k))).kept
+
+  abbrev pub lowers_of : Option ℕ → Going R (List ℤ)
+  lowers_of t = record { run = directives.lowers_of t; kept = lowers_kept t }
+
+  pub nodes_matched : (k : Option ℕ) (written : Notation) (count : ℕ) (at : Place) → Keeps K (directives.match_nodes k written count at)
+  nodes_matched None written count at = (pure R tt).kept
+  nodes_matched (Some k) written count at = (judged R (λ w. (count == 0) || nodes_take written count (slice_get w.mappings.nodes k)) N3 at).kept
+
+  abbrev pub match_nodes : Option ℕ → Notation → ℕ → Place → Going R ⊤
+  match_nodes k written count at = record { run = directives.match_nodes k written count at; kept = nodes_matched k written count at }
 
   pub array_matched : (a : Option ℕ) (count : ℕ) (at : Place) → Keeps K (lines.match_array a count at)
   array_matched None count at = (pure R tt).kept

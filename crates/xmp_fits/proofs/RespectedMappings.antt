@@ -1,9 +1,12 @@
 -- The lines of mapping directives respect a relation that the single steps respect.
-use Rattle.std.proofs.Common.{◌++◌, ◌∷◌, [], ℕ, ◌+◌, List, Bool, false, Option, Some, None, length, map}
+use Rattle.std.proofs.Common.{◌++◌, ◌∷◌, [], ℕ, ◌+◌, List, Bool, true, false, Option, Some, None, length, map}
 use Rattle.std.specs.Prelude.{⊤, ℤ, pos, not}
 use Rattle.xmp_base.specs.declared.place.Place.{Place}
 use Rattle.xmp_syntax.specs.declared.parts.Name as named
 use Rattle.xmp_syntax.specs.declared.parts.Inside.{Inside}
+use Rattle.xmp_syntax.specs.declared.parts.Several.{Several}
+use Rattle.xmp_syntax.specs.declared.parts.Several.TheVariants as several
+use Rattle.xmp_syntax.specs.declared.parts.Single.{Single}
 use Rattle.xmp_syntax.specs.declared.expression.Expr.{Expr}
 use Rattle.xmp_syntax.specs.declared.directive.DistForm.{DistForm}
 use Rattle.xmp_syntax.specs.declared.directive.DistForm.TheVariants as dist
@@ -11,37 +14,56 @@ use Rattle.xmp_syntax.specs.declared.directive.AlignDimension.{AlignDimension}
 use Rattle.xmp_syntax.specs.declared.directive.AlignDimension.TheVariants as dimension
 use Rattle.xmp_syntax.specs.declared.directive.Point.{Point}
 use Rattle.xmp_syntax.specs.declared.directive.Point.TheVariants as point
+use Rattle.xmp_syntax.specs.declared.directive.DirectiveLine.{DirectiveLine}
+use Rattle.xmp_syntax.specs.declared.directive.NodesSet.{NodesSet}
 use Rattle.xmp_syntax.specs.declared.directive.Mapping.{Mapping}
 use Rattle.xmp_syntax.specs.declared.directive.Mapping.TheVariants as mapping
 use Rattle.xmp_scopes.specs.Names as scope
 use Rattle.xmp_names.specs.declared.names.Meaning.{Meaning}
+use Rattle.xmp_names.specs.declared.mappings.NodesLine.{NodesLine}
+use Rattle.xmp_names.specs.declared.mappings.Notation.{Notation}
 use Rattle.xmp_names.specs.declared.mappings.Form.{Form}
 use Rattle.xmp_names.specs.declared.mappings.Form.TheVariants as form
 use Rattle.xmp_names.specs.declared.mappings.AlignPoint.{AlignPoint}
 use Rattle.xmp_names.specs.declared.mappings.AlignPoint.TheVariants as ap_of
 use Rattle.xmp_names.specs.declared.rules.Rule.TheVariants.{N1, N2, N3}
 use Rattle.xmp_names.specs.Walk.{an_array, a_nodes, a_template}
-use Rattle.xmp_names.specs.Lists.{listed, inner}
-use Rattle.xmp_directives.specs.Directives.{dimensions}
+use Rattle.xmp_names.specs.Lists.{listed, inner, parts, notation, only, only_notation}
 use Rattle.xmp_directives.specs.MappingLines as lines
-use Rattle.xmp_directives.specs.MappingLines.{Dummies, has_dummy, line_of}
+use Rattle.xmp_directives.specs.MappingLines.{Dummies, bounds_of, has_dummy, line_of}
 use Rattle.xmp_names.specs.declared.world.World.{World}
 use Rattle.xmp_fits.proofs.Laters.{begins_refl, begins_with}
 use Rattle.xmp_fits.proofs.Respected.{Keeps, Respected, Going, ◌>>=◌, pure, each, then_keeps}
 use Rattle.xmp_fits.proofs.RespectedSteps.{judge, constant, meaning_of, name_of, directive_at, stands_outermost}
 use Rattle.xmp_fits.proofs.RespectedLines.{offset_of, match_template, match_array}
+use Rattle.xmp_fits.proofs.RespectedDirectives.{second_of, set_of}
 
 module _ {K : World → World → Type 0} (R : Respected K) where
   -- ---- nodes and templates
 
-  abbrev pub nodes_line : Place → named.Name → Option (List ℤ) → Going R ⊤
-  nodes_line at n sizes = record { run = lines.nodes_line at n sizes; kept = R.nodes at n sizes }
+  abbrev pub nodes_line : NodesLine → named.Name → Going R ⊤
+  nodes_line l n = record { run = lines.nodes_line l n; kept = R.nodes l n }
 
-  abbrev pub template_line : Place → named.Name → List ℤ → Going R ⊤
-  template_line at n sizes = record { run = lines.template_line at n sizes; kept = R.template at n sizes }
+  abbrev pub template_line : Place → named.Name → Notation → List (ℤ × ℤ) → Going R ⊤
+  template_line at n written dims = record { run = lines.template_line at n written dims; kept = R.template at n written dims }
 
-  abbrev pub constants : List (Inside Expr) → Going R (List ℤ)
-  constants xs = each R (constant R) (inner xs)
+  abbrev pub sized : Expr → Going R (ℤ × ℤ)
+  sized x = do
+    n ← constant R x
+    pure R (pos 0, n)
+
+  abbrev pub ranged : Expr × Option (Place × Expr) → Going R (ℤ × ℤ)
+  ranged x = do
+    a ← constant R x.0
+    b ← second_of R x.1
+    pure R (bounds_of a b)
+
+  pub dimensions_kept : (x : Several Expr (Expr × Option (Place × Expr))) → Keeps K (lines.template_dimensions x)
+  dimensions_kept (several.Brackets xs) = (each R sized (inner xs)).kept
+  dimensions_kept (several.Parens x) = (each R ranged (listed x.item)).kept
+
+  abbrev pub template_dimensions : Several Expr (Expr × Option (Place × Expr)) → Going R (List (ℤ × ℤ))
+  template_dimensions x = record { run = lines.template_dimensions x; kept = dimensions_kept x }
 
   -- ---- distribute
 
@@ -76,11 +98,11 @@ module _ {K : World → World → Type 0} (R : Respected K) where
   abbrev pub keep_distribution : Place → Option ℕ → List Form → Going R ⊤
   keep_distribution at t forms = record { run = lines.keep_distribution at t forms; kept = distribution_kept at t forms }
 
-  abbrev pub distribute_line : Place → named.Name → List (Inside DistForm) → named.Name → Going R ⊤
+  abbrev pub distribute_line : Place → named.Name → Several DistForm DistForm → named.Name → Going R ⊤
   distribute_line at t forms onto = do
     template ← name_of R a_template t
-    kept ← each R form_of (inner forms)
-    _ ← match_template R template (length kept) t.at
+    kept ← each R form_of (parts forms)
+    _ ← match_template R template (notation forms) (length kept) t.at
     _ ← name_of R a_nodes onto
     keep_distribution at template kept
 
@@ -138,19 +160,19 @@ module _ {K : World → World → Type 0} (R : Respected K) where
   abbrev pub keep_align : Place → Option ℕ → Option ℕ → List Bool → List AlignPoint → Going R ⊤
   keep_align at a t dummies points = record { run = lines.keep_align at a t dummies points; kept = align_kept at a t dummies points }
 
-  abbrev pub aligned_points : List (Inside AlignDimension) → named.Name → List (Inside Point) → Going R (Option ℕ × List AlignPoint)
+  abbrev pub aligned_points : List (Inside AlignDimension) → named.Name → Several Point Point → Going R (Option ℕ × List AlignPoint)
   aligned_points dimensions t points = do
     known ← dummies_from 0 [] (inner dimensions)
     template ← name_of R a_template t
-    kept ← each R (align_point known) (inner points)
+    kept ← each R (align_point known) (parts points)
     pure R (template, kept)
 
-  abbrev pub align_line : Place → named.Name → List (Inside AlignDimension) → named.Name → List (Inside Point) → Going R ⊤
+  abbrev pub align_line : Place → named.Name → List (Inside AlignDimension) → named.Name → Several Point Point → Going R ⊤
   align_line at a dimensions t points = do
     array ← name_of R an_array a
     _ ← match_array R array (length dimensions) a.at
     onto ← aligned_points dimensions t points
-    _ ← match_template R onto.0 (length onto.1) t.at
+    _ ← match_template R onto.0 (notation points) (length onto.1) t.at
     keep_align at array onto.0 (map has_dummy (inner dimensions)) onto.1
 
   -- ---- shadow
@@ -188,14 +210,27 @@ module _ {K : World → World → Type 0} (R : Respected K) where
 
   -- ---- all of them
 
+  abbrev pub nodes_with_sizes : DirectiveLine → named.Name → Several Expr Expr → Going R ⊤
+  nodes_with_sizes line n sizes = do
+    values ← each R (constant R) (parts sizes)
+    nodes_line (record { at = line.word; notation = notation sizes; sizes = Some values; part = false }) n
+
+  abbrev pub nodes_part : DirectiveLine → named.Name → Single Expr → NodesSet → Going R ⊤
+  nodes_part line n size set = do
+    value ← constant R (only size)
+    _ ← set_of R false line.word set
+    nodes_line (record { at = line.word; notation = only_notation size; sizes = Some (value ∷ []); part = true }) n
+
+  abbrev pub template_with_sizes : DirectiveLine → named.Name → Several Expr (Expr × Option (Place × Expr)) → Going R ⊤
+  template_with_sizes line n sizes = do
+    dims ← template_dimensions sizes
+    template_line line.word n (notation sizes) dims
+
   abbrev pub mapping_line : Mapping → Going R ⊤
-  mapping_line (mapping.Nodes line n sizes) = do
-    values ← constants sizes
-    nodes_line line.word n (Some values)
-  mapping_line (mapping.NodesStar line n star) = nodes_line line.word n None
-  mapping_line (mapping.Template line n sizes) = do
-    values ← constants sizes
-    template_line line.word n values
+  mapping_line (mapping.Nodes line n sizes) = nodes_with_sizes line n sizes
+  mapping_line (mapping.NodesStar line n star) = nodes_line (record { at = line.word; notation = only_notation star; sizes = None; part = false }) n
+  mapping_line (mapping.NodesPart line n size at set) = nodes_part line n size set
+  mapping_line (mapping.Template line n sizes) = template_with_sizes line n sizes
   mapping_line (mapping.Distribute line t forms at onto) = distribute_line line.word t forms onto
   mapping_line (mapping.Align line a dims at t points) = align_line line.word a dims t points
   mapping_line (mapping.Shadow line a widths) = shadow_line line.word a widths
@@ -209,6 +244,7 @@ module _ {K : World → World → Type 0} (R : Respected K) where
   pub mapping_kept : (x : Mapping) → Keeps K (lines.mapping_of x)
   mapping_kept (mapping.Nodes line n sizes) = (mapping_of (mapping.Nodes line n sizes)).kept
   mapping_kept (mapping.NodesStar line n star) = (mapping_of (mapping.NodesStar line n star)).kept
+  mapping_kept (mapping.NodesPart line n size at set) = (mapping_of (mapping.NodesPart line n size at set)).kept
   mapping_kept (mapping.Template line n sizes) = (mapping_of (mapping.Template line n sizes)).kept
   mapping_kept (mapping.Distribute line t forms at onto) = (mapping_of (mapping.Distribute line t forms at onto)).kept
   mapping_kept (mapping.Align line a dims at t points) = (mapping_of (mapping.Align line a dims at t points)).kept

@@ -1,5 +1,5 @@
 -- Runs of the walk after which the names mean the same scalars as before: the single steps do but the declaration of a scalar.
-use Rattle.std.proofs.Common.{◌≡◌, refl, ◌∙◌, map, sym, ap, subst, ◌⊎◌, inl, inr, ◌++◌, ◌∷◌, [], ℕ, Bool, true, false, List, Option, Some, None, length}
+use Rattle.std.proofs.Common.{◌≡◌, refl, ◌∙◌, map, sym, ap, subst, ◌⊎◌, inl, inr, ◌++◌, ◌∷◌, [], ℕ, Bool, true, false, List, Some, None, length}
 use Rattle.std.specs.List.{list_all}
 use Rattle.std.specs.Prelude.{⊤, ℤ, ◌&&◌, nat_le, not, ◌||◌, is_some, if◌then◌else◌}
 use Rattle.std.specs.Option.{option_or}
@@ -8,6 +8,8 @@ use Rattle.xmp_base.specs.declared.place.Place.{Place}
 use Rattle.xmp_num.specs.declared.types.Ty.{Ty}
 use Rattle.xmp_syntax.specs.declared.parts.Name as named
 use Rattle.xmp_scopes.specs.Names as scope
+use Rattle.xmp_names.specs.declared.mappings.NodesLine.{NodesLine}
+use Rattle.xmp_names.specs.declared.mappings.Notation.{Notation}
 use Rattle.xmp_names.specs.declared.names.Region.{Region}
 use Rattle.xmp_names.specs.declared.names.Meaning.{Meaning}
 use Rattle.xmp_names.specs.declared.names.Meaning.TheVariants.{Scalar, Array, Nodes, Template}
@@ -97,17 +99,17 @@ same_declared w n x xs ts m d bs none = record { seen = λ slot s. by slot (seen
     by slot (inl h) = absurd (no_scalar x slot h.0 none h.1)
     by slot (inr h) = h
 
-nodes_same : (at : Place) (n : named.Name) (sizes : Option (List ℤ)) → Keeps Same (lines.nodes_line at n sizes)
-nodes_same at n sizes = record {
+nodes_same : (l : NodesLine) (n : named.Name) → Keeps Same (lines.nodes_line l n)
+nodes_same l n = record {
   at = λ w.
-      same_declared w n.text (Nodes (length w.mappings.nodes)) w.names.arrays w.scalars (record w.mappings { nodes = w.mappings.nodes ++ record { at = at; sizes = sizes } ∷ [] }) w.deepest
+      same_declared w n.text (Nodes (length w.mappings.nodes)) w.names.arrays w.scalars (record w.mappings { nodes = w.mappings.nodes ++ l ∷ [] }) w.deepest
       (w.broken ++ unless (not (scope.is_declared_here n.text w.names.scopes || is_reserved n.text)) N2 n.at) tt;
 }
 
-template_same : (at : Place) (n : named.Name) (sizes : List ℤ) → Keeps Same (lines.template_line at n sizes)
-template_same at n sizes = record {
+template_same : (at : Place) (n : named.Name) (written : Notation) (dims : List (ℤ × ℤ)) → Keeps Same (lines.template_line at n written dims)
+template_same at n written dims = record {
   at = λ w.
-      same_declared w n.text (Template (length w.mappings.templates)) w.names.arrays w.scalars (record w.mappings { templates = w.mappings.templates ++ record { at = at; sizes = sizes } ∷ [] }) w.deepest
+      same_declared w n.text (Template (length w.mappings.templates)) w.names.arrays w.scalars (record w.mappings { templates = w.mappings.templates ++ record { at = at; notation = written; lowers = map (λ d. d.0) dims; sizes = map (λ d. d.1) dims } ∷ [] }) w.deepest
       (w.broken ++ unless (not (scope.is_declared_here n.text w.names.scopes || is_reserved n.text)) N2 n.at) tt;
 }
 

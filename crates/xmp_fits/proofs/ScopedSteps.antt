@@ -1,6 +1,6 @@
 -- The scalars of all statements, by the induction over the statements of a tree.
 use Rattle.std.proofs.Common.{◌≡◌, ◌∙◌, sym, ap, refl, subst, ◌++◌, ◌∷◌, [], ℕ, ℤ, ◌+◌, ◌≤◌, Bool, true, List, Option, Some, None, length, length-append, map, arith}
-use Rattle.std.specs.Prelude.{⊤, pos, ◌||◌, not, ◌==◌, is_some, slice_get}
+use Rattle.std.specs.Prelude.{⊤, pos, ◌||◌, not, is_some, slice_get}
 use Rattle.std.specs.List.{flat_map, AllByRecursion}
 use Rattle.std.specs.Option.{unwrap_or}
 use Rattle.std.proofs.lemmas.List.{append-nil}
@@ -45,10 +45,11 @@ use Rattle.xmp_names.specs.Rules.{unless, greater}
 use Rattle.xmp_names.specs.Expressions.{expr_of, reference_of}
 use Rattle.xmp_names.specs.Walk as walk
 use Rattle.xmp_names.specs.Walk.{Step, Gave, Run, and_then, an_int_scalar, a_template}
-use Rattle.xmp_names.specs.Lists.{listed, inner}
+use Rattle.xmp_names.specs.declared.mappings.Notation.{Notation}
+use Rattle.xmp_names.specs.Lists.{listed, inner, notation, parts}
 use Rattle.xmp_walk.specs.Declarations.{local_declarator, declare_array}
 use Rattle.xmp_walk.specs.Statements.{simple_of, return_of, first_of, first_part, index_of}
-use Rattle.xmp_directives.specs.Directives.{signed, scalar_name, task_line, offset_of, index_name, point_of, made_of_point, slot_of_point, slots_of_points, names_or, name_list, operation_of, reduction_name, reductions_of, dimensions, match_template, Nest, nest_of, loop_right, is_indexed, use_template, made_loop, loop_line, judged_loop}
+use Rattle.xmp_directives.specs.Directives.{signed, scalar_name, task_line, offset_of, index_name, point_of, made_points, slot_of_point, slots_of_points, names_or, name_list, operation_of, reduction_name, reductions_of, lowers_of, match_template, template_takes, Nest, nest_of, loop_right, is_indexed, use_template, made_loop, loop_line, judged_loop}
 use Rattle.xmp_names.specs.Sizes.{limited}
 use Rattle.xmp_directives.specs.MappingLines.{mapping_of}
 use Rattle.xmp_walk.specs.Program.{plain_of}
@@ -179,9 +180,13 @@ module _ (p : ProgParts) where
     point_looks (point.Index n offset) = looks_then env (Seen env) PointSees (index_name n) _ (index_looks n) (λ slot.
         looks_end env (λ _. ⊤) (λ o. Seen env slot → PointSees o) (offset_of offset) (λ c. Some (slot, c)) (offset_looks offset) (λ c h k. (k, tt)))
 
-    template_looks : (t : Option ℕ) (count : ℕ) (at : Place) → Looks env (λ _. ⊤) (match_template t count at)
-    template_looks None count at = looks_pure env (λ _. ⊤) tt tt
-    template_looks (Some k) count at = looks_judged env (λ w. count == dimensions (slice_get w.mappings.templates k)) N3 at
+    template_looks : (t : Option ℕ) (written : Notation) (count : ℕ) (at : Place) → Looks env (λ _. ⊤) (match_template t written count at)
+    template_looks None written count at = looks_pure env (λ _. ⊤) tt tt
+    template_looks (Some k) written count at = looks_judged env (λ w. template_takes written count (slice_get w.mappings.templates k)) N3 at
+
+    lowers_look : (t : Option ℕ) → Looks env (λ (lowers : List ℤ). ⊤) (lowers_of t)
+    lowers_look None = looks_pure env (λ _. ⊤) [] tt
+    lowers_look (Some k) = record { at = λ w e. record { names = e; scalars = refl; holds = λ n. (n, tt) } }
 
     abbrev VariableSees : made_reduction.Reduction → Type 0
     VariableSees r = Seen env r.variable.number
@@ -212,34 +217,35 @@ module _ (p : ProgParts) where
     line_looks l = looks_next env (λ _. ⊤) LineSees (walk.directive_at l.line.word) _ (looks_directive env l.line.word) (λ _.
         looks_next env _ LineSees (walk.if_there name_list l.names) _ (looks_there env (AllByRecursion (Seen env)) name_list (λ x. looks_each env (Seen env) index_name index_looks (listed x.item)) l.names) (λ names.
         looks_next env _ LineSees (walk.name_of a_template l.template) _ (looks_name env a_template l.template) (λ template.
-        looks_then env (AllByRecursion PointSees) LineSees (walk.each point_of (inner l.points)) _ (looks_each env PointSees point_of point_looks (inner l.points)) (λ points.
-        looks_next env (λ _. ⊤) (λ y. AllByRecursion PointSees points → LineSees y) (match_template template (length points) l.template.at) _ (template_looks template (length points) l.template.at) (λ _.
+        looks_then env (AllByRecursion PointSees) LineSees (walk.each point_of (parts l.points)) _ (looks_each env PointSees point_of point_looks (parts l.points)) (λ points.
+        looks_next env (λ _. ⊤) (λ y. AllByRecursion PointSees points → LineSees y) (match_template template (notation l.points) (length points) l.template.at) _ (template_looks template (notation l.points) (length points) l.template.at) (λ _.
+        looks_next env (λ _. ⊤) (λ y. AllByRecursion PointSees points → LineSees y) (lowers_of template) _ (lowers_look template) (λ lowers.
         looks_end env (λ xs. AllByRecursion VariableSees [] → AllByRecursion VariableSees xs) (λ y. AllByRecursion PointSees points → LineSees y) (reductions_of [] l.reductions)
-        (λ reductions. record { template = template; points = points; names = names_or names (slots_of_points points); reductions = reductions })
-        (reductions_looks [] l.reductions) (λ reductions h k. record { points = all_points points k; reductions = all_variables reductions (h tt) }))))))
+        (λ reductions. record { template = template; lowers = lowers; points = points; names = names_or names (slots_of_points points); reductions = reductions })
+        (reductions_looks [] l.reductions) (λ reductions h k. record { points = all_points points k; reductions = all_variables reductions (h tt) })))))))
 
     use_looks : (t : Option ℕ) (at : Place) (indexed : List Bool) → Looks env (λ _. ⊤) (use_template t at indexed)
     use_looks None at indexed = looks_pure env (λ _. ⊤) tt tt
     use_looks (Some k) at indexed = record { at = λ w e. record { names = e; scalars = refl; holds = λ n. (n, tt) } }
 
-    judged_looks : (word : Place) (parts : LoopParts) (nest : Nest) → Looks env (λ y. y ≡ made_loop (unwrap_or parts.template 0) parts.points nest parts.reductions word) (judged_loop word parts nest)
-    judged_looks word parts nest = looks_next env _ (λ y. y ≡ made_loop (unwrap_or parts.template 0) parts.points nest parts.reductions word) (walk.judge (loop_right parts.names parts.points nest.0) M7 word) _
+    judged_looks : (word : Place) (parts : LoopParts) (nest : Nest) → Looks env (λ y. y ≡ made_loop parts nest word) (judged_loop word parts nest)
+    judged_looks word parts nest = looks_next env _ (λ y. y ≡ made_loop parts nest word) (walk.judge (loop_right parts.names parts.points nest.0) M7 word) _
         (looks_judge env (loop_right parts.names parts.points nest.0) M7 word) (λ _.
-        looks_end env (λ _. ⊤) (λ y. y ≡ made_loop (unwrap_or parts.template 0) parts.points nest parts.reductions word) (use_template parts.template word (map is_indexed parts.points)) (λ _. made_loop (unwrap_or parts.template 0) parts.points nest parts.reductions word)
+        looks_end env (λ _. ⊤) (λ y. y ≡ made_loop parts nest word) (use_template parts.template word (map is_indexed parts.points)) (λ _. made_loop parts nest word)
         (use_looks parts.template word (map is_indexed parts.points)) (λ _ h. refl))
 
   -- ---- the loop directive
 
-  made_points : (xs : List (Option (ℕ × ℤ))) → flat_map slots_of_point (map made_of_point xs) ≡ slots_of_points xs
-  made_points [] = refl
-  made_points (None ∷ xs) = made_points xs
-  made_points (Some x ∷ xs) = ap (λ l. x.0 ∷ l) (made_points xs)
+  slots_made : (lowers : List ℤ) (k : ℕ) (xs : List (Option (ℕ × ℤ))) → flat_map slots_of_point (made_points lowers k xs) ≡ slots_of_points xs
+  slots_made lowers k [] = refl
+  slots_made lowers k (None ∷ xs) = slots_made lowers (k + 1) xs
+  slots_made lowers k (Some x ∷ xs) = ap (λ l. x.0 ∷ l) (slots_made lowers (k + 1) xs)
 
-  directive_fits : (w v u t : World) (k : ℕ) (parts : LoopParts) (n : ℕ) (x : made.Stmt) (at : Place) → Same w v → length w.scalars ≤ length v.scalars → LineSees w.names parts → Fits p v u x → Same u t → length u.scalars ≤ length t.scalars →
-      Fits p w t (made_loop k parts.points (nest_of n x) parts.reductions at)
-  directive_fits w v u t k parts n x at i l see f j m =
+  directive_fits : (w v u t : World) (parts : LoopParts) (n : ℕ) (x : made.Stmt) (at : Place) → Same w v → length w.scalars ≤ length v.scalars → LineSees w.names parts → Fits p v u x → Same u t → length u.scalars ≤ length t.scalars →
+      Fits p w t (made_loop parts (nest_of n x) at)
+  directive_fits w v u t parts n x at i l see f j m =
       let nest : Nest = nest_of n x in
-      let d : LoopDirective = record { template = k; points = map made_of_point parts.points; nest = nest.0; reductions = parts.reductions; at = at } in
+      let d : LoopDirective = record { template = unwrap_or parts.template 0; points = made_points parts.lowers 0 parts.points; nest = nest.0; reductions = parts.reductions; at = at } in
       let g = nest_fits p n x in
       let a : ℕ = length w.scalars in
       let b : ℕ = length v.scalars in
@@ -253,18 +259,18 @@ module _ (p : ProgParts) where
             let variables : List ℕ = map (λ r. r.variable.number) parts.reductions in
             forms_of.loop_right p may d nest.1 known
             (may_both p may known (points ++ (indices_of nest.0 ++ variables)) (slots_of_terms (flat_map (terms_of_head p) nest.0))
-            (may_both p may known points (indices_of nest.0 ++ variables) (subst (May p may known) (sym (made_points parts.points)) (allow_all p may known w.names (slots_of_points parts.points) h see.points))
+            (may_both p may known points (indices_of nest.0 ++ variables) (subst (May p may known) (sym (slots_made parts.lowers 0 parts.points)) (allow_all p may known w.names (slots_of_points parts.points) h see.points))
             (may_both p may known (indices_of nest.0) variables r.0 (allow_all p may known w.names variables h see.reductions))) r.1) r.2;
       }
 
   loop_ends : (w v u : World) (word : Place) (parts : LoopParts) (x : made.Stmt) → Same w v → length w.scalars ≤ length v.scalars → LineSees w.names parts → Fits p v u x →
       Unbroken (Fits p w) (judged_loop word parts (nest_of (length parts.names) x) u)
   loop_ends w v u word parts x i l see f =
-      ends_map (λ y t. Found u.names (λ y. y ≡ made_loop (unwrap_or parts.template 0) parts.points (nest_of (length parts.names) x) parts.reductions word) u t y) (λ y t. t.broken ≡ [] → Fits p w t y)
+      ends_map (λ y t. Found u.names (λ y. y ≡ made_loop parts (nest_of (length parts.names) x) word) u t y) (λ y t. t.broken ≡ [] → Fits p w t y)
       (judged_loop word parts (nest_of (length parts.names) x) u) ((judged_looks u.names word parts (nest_of (length parts.names) x)).at u refl)
       (λ y t g n.
       let m : length t.scalars ≡ length u.scalars = ap length g.scalars in
-      subst (λ z. Fits p w t z) (sym (g.holds n).1) (directive_fits w v u t (unwrap_or parts.template 0) parts (length parts.names) x word i l see f (same_names u t g.names) (omega (arith, m))))
+      subst (λ z. Fits p w t z) (sym (g.holds n).1) (directive_fits w v u t parts (length parts.names) x word i l see f (same_names u t g.names) (omega (arith, m))))
 
   -- ---- declarators
 

@@ -1,6 +1,6 @@
 -- The steps of sets of nodes, of `bcast` and of tasks: where no rule breaks, what they make fits.
 use Rattle.std.proofs.Common.{◌≡◌, ◌<◌, ◌∙◌, sym, ap, refl, subst, ◌++◌, ◌∷◌, [], ◌&&◌, ◌||◌, ℕ, ℤ, Bool, true, false, not, List, Option, length}
-use Rattle.std.specs.Prelude.{slice_get, ◌==◌}
+use Rattle.std.specs.Prelude.{⊤, slice_get}
 use Rattle.std.specs.List.{list_all, AllByRecursion}
 use Rattle.xmp_base.specs.declared.place.Place.{Place}
 use Rattle.xmp_map.specs.declared.grid.NodeSet.{NodeSet}
@@ -13,19 +13,18 @@ use Rattle.xmp_prog.specs.NodeSets.{is_node_set, is_one_node, sets_apart}
 use Rattle.xmp_prog.specs.Numbers.{pairwise}
 use Rattle.xmp_prog.specs.Statements.{Walked, WalkedTask, statements_of, walk_step, walk_task, writes_of}
 use Rattle.xmp_syntax.specs.declared.directive.DirectiveLine.{DirectiveLine}
-use Rattle.xmp_syntax.specs.declared.directive.Section.{Section}
-use Rattle.xmp_syntax.specs.declared.directive.Sections.{Sections}
+use Rattle.xmp_syntax.specs.declared.directive.Piece.{Piece}
+use Rattle.xmp_syntax.specs.declared.directive.NodesSet.{NodesSet}
 use Rattle.xmp_syntax.specs.declared.directive.TaskLine.{TaskLine}
 use Rattle.xmp_syntax.specs.declared.parts.CommaList.{CommaList}
 use Rattle.xmp_syntax.specs.declared.parts.Name as named
-use Rattle.xmp_names.specs.declared.rules.Broken.{Broken}
-use Rattle.xmp_names.specs.declared.rules.Rule.TheVariants.{N3, M8, M9}
+use Rattle.xmp_names.specs.declared.rules.Rule.TheVariants.{M8, M9}
 use Rattle.xmp_names.specs.declared.world.World.{World}
 use Rattle.xmp_names.specs.Rules.{unless}
-use Rattle.xmp_names.specs.Lists.{inner, listed}
-use Rattle.xmp_directives.specs.Directives.{bcast_of, box_of, is_one, lone_task, made_task, nodes_sizes, ranges, ranges_right, scalar_name, set_of, set_part, share, sizes_in, task_line, tasks_in, tasks_of}
+use Rattle.xmp_names.specs.declared.mappings.Notation.{Notation}
+use Rattle.xmp_names.specs.Lists.{listed, notation, parts}
+use Rattle.xmp_directives.specs.Directives.{bcast_of, box_of, is_one, lone_task, made_task, match_nodes, nodes_sizes, piece_of, ranges, ranges_right, scalar_name, set_of, share, sizes_in, task_line, tasks_in, tasks_of}
 use Rattle.xmp_names.specs.Sizes.{given_or_one}
-use Rattle.xmp_names.specs.Expressions.{is_nothing}
 use Rattle.xmp_mapping_rules.specs.MappingRules.{nodes_of}
 use Rattle.xmp_names.specs.Walk.{Gave, Run, a_nodes, each, name_of}
 use Rattle.xmp_fits.proofs.DirectivesPass.{DirectiveFits, Makes, StmtFits, StmtMade, TaskFits, plain_fits, sets_of, tasks_fit, walked_task}
@@ -36,6 +35,7 @@ use Rattle.xmp_fits.proofs.KeptRuns.{Goes, Kept, going}
 use Rattle.xmp_fits.proofs.Respected.{Ends}
 use Rattle.xmp_fits.proofs.RespectedSteps as kept_steps
 use Rattle.xmp_fits.proofs.RespectedDirectives as kept_directives
+use Rattle.xmp_fits.proofs.RespectedLines as kept_lines
 use Rattle.xmp_fits.proofs.Respected as kept
 use Rattle.xmp_fits.proofs.KeptStatements as kept_statements
 use Rattle.xmp_parts.proofs.Rows.{right_nodes}
@@ -69,39 +69,51 @@ box_fits p w one parts sizes e same h =
     asked true b o h = h
     asked false b o h = cc
 
-set_parts : (xs : List Section) → Kept (each set_part xs)
-set_parts xs = (kept.each going (λ x. record { run = set_part x; kept = kept_directives.set_part_kept going x }) xs).kept
+pieces_kept : (written : Notation) (xs : List Piece) → Kept (each (piece_of written) xs)
+pieces_kept written xs = (kept.each going (λ x. record { run = piece_of written x; kept = kept_directives.piece_kept going written x }) xs).kept
 
-pub set_made : (own : Own) (w : World) (one : Bool) (word : Place) (x : Sections) → Good own w → Ends (SetMade one) (set_of one word x w)
+pub set_made : (own : Own) (w : World) (one : Bool) (word : Place) (x : NodesSet) → Good own w → Ends (SetMade one) (set_of one word x w)
 set_made own w one word x g =
     opened (name_of a_nodes x.name w) _ (SetMade one) (λ number v e.
-    opened (nodes_sizes number v) _ (SetMade one) (λ sizes v2 e2.
-    opened (each set_part (inner x.sections) v2) _ (SetMade one) (λ parts v3 e3. λ p end.
-    at number sizes parts v v2 v3 e e2 e3 p end)))
+    opened (each (piece_of written) all v) _ (SetMade one) (λ pieces v2 e2.
+    opened (match_nodes number written (length pieces) x.name.at v2) _ (SetMade one) (λ y v3 e3.
+    opened (nodes_sizes number v3) _ (SetMade one) (λ sizes v4 e4. λ p end.
+    at number pieces y sizes v v2 v3 v4 e e2 e3 e4 p end))))
   where
-    at : (number : Option ℕ) (sizes : List ℤ) (parts : List (Option (ℤ × ℤ))) (v v2 v3 : World) → name_of a_nodes x.name w ≡ Gave number v → nodes_sizes number v ≡ Gave sizes v2 → each set_part (inner x.sections) v2 ≡ Gave parts v3 →
-        (p : ProgParts) → Ending (record v3 { broken = (v3.broken ++ unless (is_nothing parts || (length parts == length sizes)) N3 x.name.at) ++ unless (ranges_right sizes (ranges sizes parts) && (not one || is_one (ranges sizes parts))) M8 word }) p →
-        SetFits p one (box_of sizes (ranges sizes parts))
-    at number sizes parts v v2 v3 e e2 e3 p end =
-        let n3 : List Broken = unless (is_nothing parts || (length parts == length sizes)) N3 x.name.at in
-        let test : Bool = ranges_right sizes (ranges sizes parts) && (not one || is_one (ranges sizes parts)) in
-        let right : test ≡ true = judged_true (v3.broken ++ n3) test M8 word (no_broken _ p end) in
-        let end3 : Ending v3 p = before_judged v3 n3 p (before_judged (record v3 { broken = v3.broken ++ n3 }) (unless test M8 word) p end) in
-        let end2 : Ending v2 p = earlier v2 v3 p (later_at (each set_part (inner x.sections)) v2 parts v3 (set_parts (inner x.sections)) e3).onward.later end3 in
-        let end1 : Ending v p = earlier v v2 p (later_at (nodes_sizes number) v sizes v2 (kept_directives.sizes_kept going number) e2).onward.later end2 in
+    written : Notation
+    written = notation x.pieces
+
+    all : List Piece
+    all = parts x.pieces
+
+    at : (number : Option ℕ) (pieces : List (Option (ℤ × ℤ))) (y : ⊤) (sizes : List ℤ) (v v2 v3 v4 : World) → name_of a_nodes x.name w ≡ Gave number v → each (piece_of written) all v ≡ Gave pieces v2 →
+        match_nodes number written (length pieces) x.name.at v2 ≡ Gave y v3 → nodes_sizes number v3 ≡ Gave sizes v4 →
+        (p : ProgParts) → Ending (record v4 { broken = v4.broken ++ unless (ranges_right sizes (ranges sizes pieces) && (not one || is_one (ranges sizes pieces))) M8 word }) p →
+        SetFits p one (box_of sizes (ranges sizes pieces))
+    at number pieces y sizes v v2 v3 v4 e e2 e3 e4 p end =
+        let test : Bool = ranges_right sizes (ranges sizes pieces) && (not one || is_one (ranges sizes pieces)) in
+        let right : test ≡ true = judged_true v4.broken test M8 word (no_broken _ p end) in
+        let end4 : Ending v4 p = before_judged v4 (unless test M8 word) p end in
+        let end3 : Ending v3 p = earlier v3 v4 p (later_at (nodes_sizes number) v3 sizes v4 (kept_directives.sizes_kept going number) e4).onward.later end4 in
+        let l3 = later_at (match_nodes number written (length pieces) x.name.at) v2 y v3 (kept_lines.nodes_matched going number written (length pieces) x.name.at) e3 in
+        let end2 : Ending v2 p = earlier v2 v3 p l3.onward.later end3 in
+        let l2 = later_at (each (piece_of written) all) v pieces v2 (pieces_kept written all) e2 in
+        let end1 : Ending v p = earlier v v2 p l2.onward.later end2 in
         let found : Named a_nodes x.name w number = found_at a_nodes x.name w v number p e end1 in
         let k : Number (length w.mappings.nodes) number = nodes_number own x.name w number g found in
         let later = later_at (name_of a_nodes x.name) w number v (kept_steps.name_of going a_nodes x.name).kept e in
-        let there : k.number < length v.mappings.nodes = begins_length w.mappings.nodes v.mappings.nodes k.number later.onward.later.mappings.nodes k.below in
-        let read : Gave (sizes_in (given_or_one v) (slice_get v.mappings.nodes k.number)) v ≡ Gave sizes v2 = ap (λ o. nodes_sizes o v) (sym k.is) ∙ e2 in
-        box_fits p v one parts sizes end1 (sym (same_value read) ∙ sizes_at_end v p k.number end1 there) right
+        let there1 : k.number < length v.mappings.nodes = begins_length w.mappings.nodes v.mappings.nodes k.number later.onward.later.mappings.nodes k.below in
+        let there2 : k.number < length v2.mappings.nodes = begins_length v.mappings.nodes v2.mappings.nodes k.number l2.onward.later.mappings.nodes there1 in
+        let there : k.number < length v3.mappings.nodes = begins_length v2.mappings.nodes v3.mappings.nodes k.number l3.onward.later.mappings.nodes there2 in
+        let read : Gave (sizes_in (given_or_one v3) (slice_get v3.mappings.nodes k.number)) v3 ≡ Gave sizes v4 = ap (λ o. nodes_sizes o v3) (sym k.is) ∙ e4 in
+        box_fits p v3 one pieces sizes end3 (sym (same_value read) ∙ sizes_at_end v3 p k.number end3 there) right
 
-pub set_kept : (one : Bool) (word : Place) (x : Sections) → Kept (set_of one word x)
+pub set_kept : (one : Bool) (word : Place) (x : NodesSet) → Kept (set_of one word x)
 set_kept one word x = (kept_directives.set_of going one word x).kept
 
 -- ---- bcast
 
-pub bcast_made : (own : Own) (w : World) (line : DirectiveLine) (names : CommaList named.Name) (x : Sections) → Good own w → Ends StmtMade (bcast_of line names x w)
+pub bcast_made : (own : Own) (w : World) (line : DirectiveLine) (names : CommaList named.Name) (x : NodesSet) → Good own w → Ends StmtMade (bcast_of line names x w)
 bcast_made own w line names x g =
     let u : World = directed line.word w in
     let noted : Goes w u = goes_directed line.word w in

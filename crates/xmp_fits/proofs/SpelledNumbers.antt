@@ -10,6 +10,10 @@ use Rattle.xmp_lex.specs.declared.token.Mark.TheVariants as m
 use Rattle.xmp_lex.specs.declared.token.Reserved.TheVariants as w
 use Rattle.xmp_syntax.specs.declared.parts.Name.{Name}
 use Rattle.xmp_syntax.specs.declared.parts.Placed.{Placed}
+use Rattle.xmp_syntax.specs.declared.parts.Several.{Several}
+use Rattle.xmp_syntax.specs.declared.parts.Several.TheVariants as sev
+use Rattle.xmp_syntax.specs.declared.parts.Single.{Single}
+use Rattle.xmp_syntax.specs.declared.parts.Single.TheVariants as one
 use Rattle.xmp_syntax.specs.declared.parts.TypeWords.{TypeWords}
 use Rattle.xmp_syntax.specs.declared.parts.TypeWords.TheVariants as tw
 use Rattle.xmp_syntax.specs.declared.declaration.Declarator.{Declarator}
@@ -25,6 +29,9 @@ use Rattle.xmp_syntax.specs.declared.directive.Point.TheVariants as pt
 use Rattle.xmp_syntax.specs.declared.directive.Section.{Section}
 use Rattle.xmp_syntax.specs.declared.directive.Section.TheVariants as sc
 use Rattle.xmp_syntax.specs.declared.directive.Sections.{Sections}
+use Rattle.xmp_syntax.specs.declared.directive.Piece.{Piece}
+use Rattle.xmp_syntax.specs.declared.directive.Piece.TheVariants as pi
+use Rattle.xmp_syntax.specs.declared.directive.NodesSet.{NodesSet}
 use Rattle.xmp_syntax.specs.declared.directive.Mapping.{Mapping}
 use Rattle.xmp_syntax.specs.declared.directive.Mapping.TheVariants as mp
 use Rattle.xmp_syntax.specs.declared.directive.ReductionOperator.{ReductionOperator}
@@ -330,22 +337,45 @@ section_told (sc.Numbers x y z) r h =
 sections_told : (x : Sections) → Told (n.sections_lie x) (sp.sections x)
 sections_told x r h = dims_told sp.section n.section_lies section_told x.sections r h.1
 
-width_told : (x : made.Expr × Option (Place × made.Expr)) → Told (n.width_lies x) (sp.width x)
-width_told x r h =
+several_told : {A B : Type 0} (f : A → Text) (v : A → Bool) → ((x : A) → Told (v x) (f x)) → (g : B → Text) (w : B → Bool) → ((x : B) → Told (w x) (g x)) → (x : Several A B) → Told (n.several_lie v w x) (sp.several f g x)
+several_told f v k g w l (sev.Brackets xs) r h = dims_told f v k xs r h
+several_told f v k g w l (sev.Parens x) r h = let a = list_told g w l x.item (sp.sign m.CloseParen x.close r) h.1 in (a.0, a.1.1)
+
+single_told : (x : Single made.Expr) → Told (n.single_lies x) (sp.single expr x)
+single_told (one.Bracket x) r h = let a = expr_told x.item (sp.sign m.CloseBracket x.close r) h.1 in (a.0, a.1.1)
+single_told (one.Paren x) r h = parens_told x r h
+
+range_told : (x : made.Expr × Option (Place × made.Expr)) → Told (n.range_lies x) (sp.range x)
+range_told x r h =
     let a = expr_told x.0 (optional sp.after_colon x.1 r) h in
     let b = optional_told sp.after_colon n.second_lies colon_told x.1 r a.1 in
     (both_true (numbers_lie x.0) (there_lies n.second_lies x.1) a.0 b.0, b.1)
 
+piece_told : (x : Piece) → Told (n.piece_lies x) (sp.piece x)
+piece_told (pi.All p) r h = (refl, h.1)
+piece_told (pi.Numbers x y) r h = range_told (x, y) r h
+
+set_told : (x : NodesSet) → Told (n.set_lies x) (sp.nodes_set x)
+set_told x r h = several_told sp.piece n.piece_lies piece_told sp.piece n.piece_lies piece_told x.pieces r h.1
+
+points_told : (x : Several Point Point) → Told (n.several_lie n.point_lies n.point_lies x) (sp.several sp.point sp.point x)
+points_told = several_told sp.point n.point_lies point_told sp.point n.point_lies point_told
+
 mapping_told : (x : Mapping) → Told (n.mapping_lies x) (sp.spell_mapping x)
-mapping_told (mp.Nodes l x ds) r h = let a = exprs_told ds (t.Close at l.end ∷ r) h.1.1.1 in (a.0, a.1.1)
-mapping_told (mp.NodesStar l x s) r h = (refl, h.1.1.1.1.1.1.1)
-mapping_told (mp.Template l x ds) r h = let a = exprs_told ds (t.Close at l.end ∷ r) h.1.1.1 in (a.0, a.1.1)
+mapping_told (mp.Nodes l x ds) r h = let a = several_told expr numbers_lie expr_told expr numbers_lie expr_told ds (t.Close at l.end ∷ r) h.1.1.1 in (a.0, a.1.1)
+mapping_told (mp.NodesStar l x (one.Bracket s)) r h = (refl, h.1.1.1.1.1.1.1)
+mapping_told (mp.NodesStar l x (one.Paren s)) r h = (refl, h.1.1.1.1.1.1.1)
+mapping_told (mp.NodesPart l x size p y) r h =
+    let a = single_told size (sp.sign m.Assign p (sp.nodes_set y (t.Close at l.end ∷ r))) h.1.1.1 in
+    let b = set_told y (t.Close at l.end ∷ r) a.1.1 in
+    (both_true (n.single_lies size) (n.set_lies y) a.0 b.0, b.1.1)
+mapping_told (mp.Template l x ds) r h = let a = several_told expr numbers_lie expr_told sp.range n.range_lies range_told ds (t.Close at l.end ∷ r) h.1.1.1 in (a.0, a.1.1)
 mapping_told (mp.Distribute l x fs p o) r h =
-    let a = dims_told sp.dist_form n.form_lies form_told fs (sp.spelled (codes "onto") p (sp.name o (t.Close at l.end ∷ r))) h.1.1.1 in (a.0, a.1.1.1.1)
+    let a = several_told sp.dist_form n.form_lies form_told sp.dist_form n.form_lies form_told fs (sp.spelled (codes "onto") p (sp.name o (t.Close at l.end ∷ r))) h.1.1.1 in (a.0, a.1.1.1.1)
 mapping_told (mp.Align l x xs p o ps) r h =
-    let a = dims_told sp.align_dimension yes dimension_told xs (sp.spelled (codes "with") p (sp.name o (dims sp.point ps (t.Close at l.end ∷ r)))) h.1.1.1 in
-    let b = dims_told sp.point n.point_lies point_told ps (t.Close at l.end ∷ r) a.1.1.1 in (b.0, b.1.1)
-mapping_told (mp.Shadow l x ws) r h = let a = dims_told sp.width n.width_lies width_told ws (t.Close at l.end ∷ r) h.1.1.1 in (a.0, a.1.1)
+    let a = dims_told sp.align_dimension yes dimension_told xs (sp.spelled (codes "with") p (sp.name o (sp.several sp.point sp.point ps (t.Close at l.end ∷ r)))) h.1.1.1 in
+    let b = points_told ps (t.Close at l.end ∷ r) a.1.1.1 in (b.0, b.1.1)
+mapping_told (mp.Shadow l x ws) r h = let a = dims_told sp.range n.range_lies range_told ws (t.Close at l.end ∷ r) h.1.1.1 in (a.0, a.1.1)
 
 names_in_parens : (x : Inside (CommaList Name)) → Told true (sp.in_parens sp.names x)
 names_in_parens x r h = (refl, (names_told x.item (sp.sign m.CloseParen x.close r) h.1).1)
@@ -362,13 +392,13 @@ reduction_told x r h =
 loop_told : (x : LoopLine) → Told (n.loop_line_lies x) (sp.loop_line x)
 loop_told x r h =
     let z : List Token = t.Close at x.line.end ∷ r in
-    let a = optional_told (sp.in_parens sp.names) yes names_in_parens x.names (sp.spelled (codes "on") x.on (sp.name x.template (dims sp.point x.points (each sp.reduction x.reductions z)))) h.1.1 in
-    let b = dims_told sp.point n.point_lies point_told x.points (each sp.reduction x.reductions z) a.1.1.1 in
+    let a = optional_told (sp.in_parens sp.names) yes names_in_parens x.names (sp.spelled (codes "on") x.on (sp.name x.template (sp.several sp.point sp.point x.points (each sp.reduction x.reductions z)))) h.1.1 in
+    let b = points_told x.points (each sp.reduction x.reductions z) a.1.1.1 in
     let c = each_told sp.reduction yes reduction_told x.reductions z b.1 in
     (b.0, c.1.1)
 
 task_told : (x : TaskLine) → Told (n.task_line_lies x) (sp.task_line x)
-task_told x r h = let a = sections_told x.set (t.Close at x.line.end ∷ r) h.1.1.1 in (a.0, a.1.1)
+task_told x r h = let a = set_told x.set (t.Close at x.line.end ∷ r) h.1.1.1 in (a.0, a.1.1)
 
 -- ---- statements
 
@@ -410,8 +440,8 @@ plain_told (pl.Sync p x q) r h = let a = reference_told x.item.1 (sp.sign m.Clos
 plain_told (pl.Reflect l ns) r h = let a = names_in_parens ns (t.Close at l.end ∷ r) h.1.1 in (refl, a.1.1)
 plain_told (pl.Barrier l) r h = (refl, h.1.1.1)
 plain_told (pl.Bcast l ns p x) r h =
-    let a = names_in_parens ns (sp.spelled (codes "from") p (sp.sections x (t.Close at l.end ∷ r))) h.1.1 in
-    let b = sections_told x (t.Close at l.end ∷ r) a.1.1 in
+    let a = names_in_parens ns (sp.spelled (codes "from") p (sp.nodes_set x (t.Close at l.end ∷ r))) h.1.1 in
+    let b = set_told x (t.Close at l.end ∷ r) a.1.1 in
     (b.0, b.1.1)
 plain_told (pl.Gmove l x p y q) r h =
     let a = sections_told x (sp.sign m.Assign p (sp.sections y (sp.sign m.Semicolon q r))) h.1.1.1 in

@@ -1,5 +1,5 @@
 -- The instance of the induction for the tests of terms.
-use Rattle.std.proofs.Common.{◌≡◌, ◌∙◌, sym, ap, refl, subst, ◌++◌, ◌∷◌, [], ◌-◌, ℕ, ℤ, Bool, true, false, List, Option, Some, None, length, map}
+use Rattle.std.proofs.Common.{◌≡◌, ◌∙◌, sym, ap, refl, subst, ◌++◌, ◌∷◌, [], ◌+◌, ◌-◌, ℕ, ℤ, Bool, true, false, List, Option, Some, None, length, map}
 use Rattle.std.specs.Prelude.{pos, if◌then◌else◌}
 use Rattle.std.specs.List.{flat_map, AllByRecursion}
 use Rattle.std.specs.Option.{unwrap_or}
@@ -40,7 +40,7 @@ use Rattle.xmp_walk.specs.Counted.{is_counted, bound_of}
 use Rattle.xmp_names.specs.Rules.{unless}
 use Rattle.xmp_names.specs.declared.rules.Rule.TheVariants.{M7}
 use Rattle.xmp_directives.specs.Directives as directives
-use Rattle.xmp_directives.specs.Directives.{made_of_point, made_loop, made_task, nest_of}
+use Rattle.xmp_directives.specs.Directives.{made_points, made_loop, made_task, nest_of}
 use Rattle.xmp_parts.proofs.Unbroken.{left_none, left_true}
 use Rattle.xmp_fits.proofs.GoodWorlds.{Own}
 use Rattle.xmp_fits.proofs.GoodSteps.{Stays, onward_stays}
@@ -180,29 +180,29 @@ counted_good h v shape first test next body is target value read fit p r =
 
 -- ---- the loop directive
 
-point_slots : (v : World) (ps : List (Option (ℕ × ℤ))) → AllByRecursion (PointGood v) ps → (p : ProgParts) → Reached p v → AllByRecursion (λ n. is_slot p n ≡ true) (flat_map slots_of_point (map made_of_point ps))
-point_slots v [] h p r = tt
-point_slots v (None ∷ ps) h p r = point_slots v ps h.1 p r
-point_slots v (Some x ∷ ps) h p r = ((h.0 p r).0, point_slots v ps h.1 p r)
+point_slots : (v : World) (lowers : List ℤ) (k : ℕ) (ps : List (Option (ℕ × ℤ))) → AllByRecursion (PointGood v) ps → (p : ProgParts) → Reached p v → AllByRecursion (λ n. is_slot p n ≡ true) (flat_map slots_of_point (made_points lowers k ps))
+point_slots v lowers k [] h p r = tt
+point_slots v lowers k (None ∷ ps) h p r = point_slots v lowers (k + 1) ps h.1 p r
+point_slots v lowers k (Some x ∷ ps) h p r = ((h.0 p r).0, point_slots v lowers (k + 1) ps h.1 p r)
 
 reduction_slots : (v : World) (rs : List made_reduction.Reduction) → AllByRecursion (ReductionGood v) rs → (p : ProgParts) → Reached p v → AllByRecursion (λ n. is_slot p n ≡ true) (map (λ r. r.variable.number) rs)
 reduction_slots v [] h p r = tt
 reduction_slots v (x ∷ xs) h p r = ((h.0 p r).0, reduction_slots v xs h.1 p r)
 
-loop_here : (v : World) (template : ℕ) (parts : LoopParts) (n : ℕ) (x : made.Stmt) (at : Place) → LineGood v parts → StmtGood v x → StmtGood v (made_loop template parts.points (nest_of n x) parts.reductions at)
-loop_here v template parts n x at l fit p r =
+loop_here : (v : World) (parts : LoopParts) (n : ℕ) (x : made.Stmt) (at : Place) → LineGood v parts → StmtGood v x → StmtGood v (made_loop parts (nest_of n x) at)
+loop_here v parts n x at l fit p r =
     let inside : Bool = is_function v.names.region in
     let number : ℕ = length v.names.functions - 1 in
-    loop_passes p true inside number (record { template = template; points = map made_of_point parts.points; nest = (nest_of n x).0; reductions = parts.reductions; at = at }) (nest_of n x).1 l.none
-    (point_slots v parts.points l.points p r) (heads_pass p true inside number n x (fit p r)) (reduction_slots v parts.reductions l.reductions p r) (nest_passes (tests.StatementPasses p true inside number) n x (fit p r))
+    loop_passes p true inside number (record { template = unwrap_or parts.template 0; points = made_points parts.lowers 0 parts.points; nest = (nest_of n x).0; reductions = parts.reductions; at = at }) (nest_of n x).1 l.none
+    (point_slots v parts.lowers 0 parts.points l.points p r) (heads_pass p true inside number n x (fit p r)) (reduction_slots v parts.reductions l.reductions p r) (nest_passes (tests.StatementPasses p true inside number) n x (fit p r))
 
 loop_good : (word : Place) (v : World) (parts : LoopParts) (n : ℕ) (x : made.Stmt) → LineGood v parts → StmtGood v x → Unbroken StmtGood (directives.judged_loop word parts (nest_of n x) v)
 loop_good word v parts n x l fit =
     let test : Bool = directives.loop_right parts.names parts.points (nest_of n x).0 in
     let u : World = record v { broken = v.broken ++ unless test M7 word } in
-    carried StmtGood u (directives.use_template parts.template word (map directives.is_indexed parts.points) u) (λ _. made_loop (unwrap_or parts.template 0) parts.points (nest_of n x) parts.reductions word)
+    carried StmtGood u (directives.use_template parts.template word (map directives.is_indexed parts.points) u) (λ _. made_loop parts (nest_of n x) word)
     ((kept.use_kept going parts.template word (map directives.is_indexed parts.points)).at u)
-    (λ w a q. stmt_stays v w _ (onward_stays (goes_trans ((kept_steps.judge going test M7 word).kept.at v) q).onward) (loop_here v (unwrap_or parts.template 0) parts n x word l fit))
+    (λ w a q. stmt_stays v w _ (onward_stays (goes_trans ((kept_steps.judge going test M7 word).kept.at v) q).onward) (loop_here v parts n x word l fit))
 
 -- ---- tasks
 

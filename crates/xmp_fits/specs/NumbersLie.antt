@@ -13,6 +13,9 @@ use Rattle.xmp_syntax.specs.declared.directive.DistForm.{DistForm}
 use Rattle.xmp_syntax.specs.declared.directive.LoopLine.{LoopLine}
 use Rattle.xmp_syntax.specs.declared.directive.Mapping.TheVariants as mapping
 use Rattle.xmp_syntax.specs.declared.directive.Mapping.{Mapping}
+use Rattle.xmp_syntax.specs.declared.directive.NodesSet.{NodesSet}
+use Rattle.xmp_syntax.specs.declared.directive.Piece.TheVariants as piece
+use Rattle.xmp_syntax.specs.declared.directive.Piece.{Piece}
 use Rattle.xmp_syntax.specs.declared.directive.Point.TheVariants as point
 use Rattle.xmp_syntax.specs.declared.directive.Point.{Point}
 use Rattle.xmp_syntax.specs.declared.directive.Section.TheVariants as section
@@ -27,6 +30,10 @@ use Rattle.xmp_syntax.specs.declared.parts.Image.{Image}
 use Rattle.xmp_syntax.specs.declared.parts.Inside.{Inside}
 use Rattle.xmp_syntax.specs.declared.parts.Next.{Next}
 use Rattle.xmp_syntax.specs.declared.parts.Reference.{Reference}
+use Rattle.xmp_syntax.specs.declared.parts.Several.TheVariants as several
+use Rattle.xmp_syntax.specs.declared.parts.Several.{Several}
+use Rattle.xmp_syntax.specs.declared.parts.Single.TheVariants as single
+use Rattle.xmp_syntax.specs.declared.parts.Single.{Single}
 use Rattle.xmp_syntax.specs.declared.program.TopItem.TheVariants as top
 use Rattle.xmp_syntax.specs.declared.program.TopItem.{TopItem}
 use Rattle.xmp_syntax.specs.declared.program.Tree.{Tree}
@@ -96,12 +103,32 @@ there_lies f (Some x) = f x
 abbrev pub second_lies : Place × Expr → Bool
 second_lies x = numbers_lie x.1
 
+-- Parts in brackets, or all between one pair of parentheses; one part in either.
+abbrev pub several_lie : {A B : Type 0} → (A → Bool) → (B → Bool) → Several A B → Bool
+several_lie f g (several.Brackets xs) = list_all (λ d. f d.item) xs
+several_lie f g (several.Parens x) = list_all g (listed x.item)
+
+abbrev pub single_lies : Single Expr → Bool
+single_lies (single.Bracket x) = numbers_lie x.item
+single_lies (single.Paren x) = numbers_lie x.item
+
+-- One number, or two with a mark between them.
+abbrev pub range_lies : Expr × Option (Place × Expr) → Bool
+range_lies x = numbers_lie x.0 && there_lies second_lies x.1
+
 abbrev pub section_lies : Section → Bool
 section_lies (section.All at) = true
 section_lies (section.Numbers a n k) = numbers_lie a && (there_lies second_lies n && there_lies second_lies k)
 
 abbrev pub sections_lie : Sections → Bool
 sections_lie x = list_all (λ d. section_lies d.item) x.sections
+
+abbrev pub piece_lies : Piece → Bool
+piece_lies (piece.All at) = true
+piece_lies (piece.Numbers a b) = numbers_lie a && there_lies second_lies b
+
+abbrev pub set_lies : NodesSet → Bool
+set_lies x = several_lie piece_lies piece_lies x.pieces
 
 abbrev pub point_lies : Point → Bool
 point_lies (point.Star at) = true
@@ -113,16 +140,14 @@ form_lies (form.Block at) = true
 form_lies (form.Cyclic at width) = there_lies (λ w. numbers_lie w.item) width
 form_lies (form.Gblock at lengths) = list_all numbers_lie (listed lengths.item.item)
 
-abbrev pub width_lies : Expr × Option (Place × Expr) → Bool
-width_lies x = numbers_lie x.0 && there_lies second_lies x.1
-
 abbrev pub mapping_lies : Mapping → Bool
-mapping_lies (mapping.Nodes line n sizes) = subscripts_lie sizes
+mapping_lies (mapping.Nodes line n sizes) = several_lie numbers_lie numbers_lie sizes
 mapping_lies (mapping.NodesStar line n star) = true
-mapping_lies (mapping.Template line n sizes) = subscripts_lie sizes
-mapping_lies (mapping.Distribute line n forms onto nodes) = list_all (λ d. form_lies d.item) forms
-mapping_lies (mapping.Align line n dimensions with template points) = list_all (λ d. point_lies d.item) points
-mapping_lies (mapping.Shadow line n widths) = list_all (λ d. width_lies d.item) widths
+mapping_lies (mapping.NodesPart line n size equals set) = single_lies size && set_lies set
+mapping_lies (mapping.Template line n sizes) = several_lie numbers_lie range_lies sizes
+mapping_lies (mapping.Distribute line n forms onto nodes) = several_lie form_lies form_lies forms
+mapping_lies (mapping.Align line n dimensions with template points) = several_lie point_lies point_lies points
+mapping_lies (mapping.Shadow line n widths) = list_all (λ d. range_lies d.item) widths
 
 abbrev pub declarator_lies : Declarator → Bool
 declarator_lies (declarator.Scalar n value) = there_lies second_lies value
@@ -132,10 +157,10 @@ abbrev pub declaration_lies : Declaration → Bool
 declaration_lies d = list_all declarator_lies (listed d.items)
 
 abbrev pub loop_line_lies : LoopLine → Bool
-loop_line_lies l = list_all (λ d. point_lies d.item) l.points
+loop_line_lies l = several_lie point_lies point_lies l.points
 
 abbrev pub task_line_lies : TaskLine → Bool
-task_line_lies l = sections_lie l.set
+task_line_lies l = set_lies l.set
 
 abbrev pub simple_lies : Simple → Bool
 simple_lies (simple.Assign r op x) = reference_lies r && numbers_lie x
@@ -159,7 +184,7 @@ plain_lies (plain.Scan at x end) = reference_lies x.item.3
 plain_lies (plain.Sync at x end) = reference_lies x.item.1
 plain_lies (plain.Reflect line names) = true
 plain_lies (plain.Barrier line) = true
-plain_lies (plain.Bcast line names from_at set) = sections_lie set
+plain_lies (plain.Bcast line names from_at set) = set_lies set
 plain_lies (plain.Gmove line target equals source end) = sections_lie target && sections_lie source
 
 -- One level, with the same of the statements inside.
