@@ -13,6 +13,7 @@ use Rattle.xmp_syntax.specs.declared.parts.Placed.{Placed}
 use Rattle.xmp_syntax.specs.declared.parts.Format.{Format}
 use Rattle.xmp_syntax.specs.declared.parts.Next as after
 use Rattle.xmp_syntax.specs.declared.directive.Sections.{Sections}
+use Rattle.xmp_syntax.specs.declared.directive.NodesSet.{NodesSet}
 use Rattle.xmp_syntax.specs.declared.directive.Reduction.{Reduction}
 use Rattle.xmp_syntax.specs.declared.parts.Reference.{Reference}
 use Rattle.xmp_syntax.specs.declared.parts.TypeWords.TheVariants as tw
@@ -40,14 +41,14 @@ use Rattle.xmp_syntax.specs.Trees as tr
 use Rattle.std.proofs.lemmas.Bool.Decides.{nat_tests}
 use Rattle.xmp_syntax.specs.Trees.{Stmt, BlockItems, Tasks, Ref, Subscripts, Image, no_more, subscript, no_image, image}
 use Rattle.xmp_syntax.specs.View.{expr_view, ref_view, rest_view, call_view, subscripts_view, image_view, arguments_view}
-use Rattle.xmp_syntax.specs.Spell.{◌at◌, spell, expr, each, dims, name, names, optional, spell_ref, spell_subscripts, spell_image, spell_simple, for_first, for_head, spell_plain, spell_stmt, spell_items, spell_tasks, spell_mapping, spell_declaration, in_parens, sections, section, reduction, loop_line, task_line, point, print_list, type_words}
+use Rattle.xmp_syntax.specs.Spell.{◌at◌, spell, expr, each, dims, name, names, optional, spell_ref, spell_subscripts, spell_image, spell_simple, for_first, for_head, spell_plain, spell_stmt, spell_items, spell_tasks, spell_mapping, spell_declaration, in_parens, several, sections, section, nodes_set, reduction, loop_line, task_line, point, print_list, type_words}
 use Rattle.xmp_syntax.specs.Fits.{Fits, FitsRef, FitsExpr, If, FitsSimple, FitsFirst, FitsHead, FitsPlain, FitsStmt, FitsItems, FitsTasks, FitsSet, FitsLoopLine, FitsRest, FitsSections, FitsDeclaration, FitsMapping, FitsSomeDims, FitsPoint, FitsReduction, Each, takes_else}
 use Rattle.xmp_syntax.proofs.Done.{Next, fast, go, silent, by_part, Is, Not, choice_first, choice_second, many_stop, many_more, skip, take_token}
 use Rattle.xmp_syntax.proofs.TokenFacts.{Ends, EndsExpr, ends_paren, not_true}
 use Rattle.xmp_syntax.proofs.Exprs.{ExprReads, reads, subscripts_read, image_read, arguments_all, rest_reads, name_reads, name_reads_before, ref_first, not_first, in_parens_reads}
 use Rattle.xmp_syntax.proofs.Lists.{NonEmpty, leave_reads, names_read, dims_read}
 use Rattle.xmp_syntax.proofs.Statements.{Both, step_statement, simple_reads, reference_reads, reflect_reads, for_reads}
-use Rattle.xmp_syntax.proofs.Lines.{expr_reads, EndsPlain, declaration_reads, mapping_item_reads, set_reads, sections_read, point_reads, reductions_read}
+use Rattle.xmp_syntax.proofs.Lines.{expr_reads, EndsPlain, declaration_reads, mapping_item_reads, set_reads, sections_read, points_read, reductions_read}
 
 -- the rest of each, once its kind is known
 return_reads : (q : Place) (e : made.Expr) (z : Place) → FitsExpr e → (K : List Rule) (us : List Token) → Next K us
@@ -80,10 +81,10 @@ sync_reads : (q : Place) (x : Inside (Place × Reference made.Expr)) (z : Place)
     → Next (rule p.sync_statement ∷ K) (spell_plain (pl.Sync q x z) us)
 sync_reads q x z F K us n = fast 8 (λ E. go (reference_reads x.item.1 F _ (t.Mark m.CloseParen at x.close ∷ t.Mark m.Semicolon at z ∷ us) (refl, refl, refl, refl) (fast 2 (λ E. go n))))
 
-bcast_reads : (l : DirectiveLine) (ns : Inside (CommaList Name)) (q : Place) (x : Sections) → FitsSet x → (K : List Rule) (us : List Token) → Next K us
-    → Next (rule p.bcast ∷ K) (t.Name (codes "bcast") at l.word ∷ in_parens names ns (t.Name (codes "from") at q ∷ sections x (t.Close at l.end ∷ us)))
-bcast_reads l ns q x F K us n = fast 5 (λ E. go (silent 1 (λ E x xs. refl) (names_read ns.item _ (t.Mark m.CloseParen at ns.close ∷ t.Name (codes "from") at q ∷ sections x (t.Close at l.end ∷ us)) refl
-    (fast 3 (λ E. go (silent 1 (λ E x xs. refl) (set_reads x F (g.line_end ∷ K) (t.Close at l.end ∷ us) refl (fast 1 (λ E. go n)))))))))
+bcast_reads : (l : DirectiveLine) (ns : Inside (CommaList Name)) (q : Place) (x : NodesSet) → FitsSet x → (K : List Rule) (us : List Token) → Next K us
+    → Next (rule p.bcast ∷ K) (t.Name (codes "bcast") at l.word ∷ in_parens names ns (t.Name (codes "from") at q ∷ nodes_set x (t.Close at l.end ∷ us)))
+bcast_reads l ns q x F K us n = fast 5 (λ E. go (silent 1 (λ E x xs. refl) (names_read ns.item _ (t.Mark m.CloseParen at ns.close ∷ t.Name (codes "from") at q ∷ nodes_set x (t.Close at l.end ∷ us)) refl
+    (fast 3 (λ E. go (silent 1 (λ E x xs. refl) (set_reads x F (g.line_end ∷ K) (t.Close at l.end ∷ us) refl refl (fast 1 (λ E. go n)))))))))
 
 gmove_reads : (l : DirectiveLine) (a : Sections) (q : Place) (x : Sections) (z : Place) → FitsSections a → FitsSections x → (K : List Rule) (us : List Token) → Next K us
     → Next (rule p.gmove ∷ K) (t.Name (codes "gmove") at l.word ∷ t.Close at l.end ∷ sections a (t.Mark m.Assign at q ∷ sections x (t.Mark m.Semicolon at z ∷ us)))
@@ -138,6 +139,7 @@ stmt_inner (tr.tasks l o xs c) F r = (refl, refl)
 pub mapping_inner : (x : Mapping) (r : List Token) → Inner (spell_mapping x r)
 mapping_inner (mp.Nodes l v ds) r = (refl, refl)
 mapping_inner (mp.NodesStar l v x) r = (refl, refl)
+mapping_inner (mp.NodesPart l v x q y) r = (refl, refl)
 mapping_inner (mp.Template l v ds) r = (refl, refl)
 mapping_inner (mp.Distribute l v fs q o) r = (refl, refl)
 mapping_inner (mp.Align l v xs q o ps) r = (refl, refl)
@@ -244,7 +246,7 @@ loop_reads l h s F G S = record {
       let c = counted_reads s S _ us q (leave_reads K us (quiet_some (takes_else s) us q) n) in
       let b = for_reads h G _ (spell_stmt s us) c in
       let r : List Token = t.Close at l.line.end ∷ for_head h (spell_stmt s us) in
-      both_five K us (fast 5 (λ E. go (silent 1 (λ E x xs. refl) (loop_names l.names _ _ l.on l.template _ (silent 1 (λ E x xs. refl) (dims_read point (part p.point) FitsPoint point_reads l.points F.0 _ (each reduction l.reductions r) (first_reduction l.reductions r refl)
+      both_five K us (fast 5 (λ E. go (silent 1 (λ E x xs. refl) (loop_names l.names _ _ l.on l.template _ (silent 1 (λ E x xs. refl) (points_read l.points F.0 _ (each reduction l.reductions r) (first_reduction l.reductions r refl)
       (silent 1 (λ E x xs. refl) (reductions_read l.reductions F.1 _ r refl (fast 2 (λ E. go (silent 1 (λ E x xs. refl) b)))))))))));
 }
   where
@@ -252,13 +254,13 @@ loop_reads l h s F G S = record {
     first_reduction [] r k = k
     first_reduction (x ∷ xs) r k = refl
 
-    both_five : (K : List Rule) (us : List Token) → Next (rule p.loop ∷ K) (t.Name (codes "loop") at l.line.word ∷ optional (in_parens names) l.names (t.Name (codes "on") at l.on ∷ name l.template (dims point l.points (each reduction l.reductions (t.Close at l.line.end ∷ for_head h (spell_stmt s us)))))) → Both K (spell_stmt (tr.loop l h s) us)
+    both_five : (K : List Rule) (us : List Token) → Next (rule p.loop ∷ K) (t.Name (codes "loop") at l.line.word ∷ optional (in_parens names) l.names (t.Name (codes "on") at l.on ∷ name l.template (several point point l.points (each reduction l.reductions (t.Close at l.line.end ∷ for_head h (spell_stmt s us)))))) → Both K (spell_stmt (tr.loop l h s) us)
     both_five K us b = record { stmt = fast 5 (λ E. go b); item = fast 5 (λ E. go b) }
 
 -- a task directive, from its word on
 task_rest : (l : TaskLine) (s : Stmt) → FitsSet l.set → StmtReads s → (K : List Rule) (us : List Token) → Quiet (takes_else s) us → Next K us
-    → Next (rule p.task ∷ K) (t.Name (codes "task") at l.line.word ∷ t.Name (codes "on") at l.on ∷ sections l.set (t.Close at l.line.end ∷ spell_stmt s us))
-task_rest l s F S K us q n = fast 7 (λ E. go (silent 1 (λ E x xs. refl) (set_reads l.set F _ (t.Close at l.line.end ∷ spell_stmt s us) refl (fast 2 (λ E. go (counted_reads s S K us q n))))))
+    → Next (rule p.task ∷ K) (t.Name (codes "task") at l.line.word ∷ t.Name (codes "on") at l.on ∷ nodes_set l.set (t.Close at l.line.end ∷ spell_stmt s us))
+task_rest l s F S K us q n = fast 7 (λ E. go (silent 1 (λ E x xs. refl) (set_reads l.set F _ (t.Close at l.line.end ∷ spell_stmt s us) refl refl (fast 2 (λ E. go (counted_reads s S K us q n))))))
 
 task_reads : (l : TaskLine) (s : Stmt) → FitsSet l.set → StmtReads s → StmtReads (tr.task l s)
 task_reads l s F S = record { all = λ K us q n. let b = task_rest l s F S K us q n in record { stmt = fast 5 (λ E. go b); item = fast 5 (λ E. go b) } }

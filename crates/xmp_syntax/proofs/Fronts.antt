@@ -79,6 +79,9 @@ all_dims r x = (in_bracket r x, any_dims r x)
 all_list : (r : Rule) → Fine r → Fine (g.list r)
 all_list r x = (x, λ k h. (comma, x))
 
+all_several : (q r : Rule) → Fine q → Fine r → Fine (g.several q r)
+all_several q r x y = (in_paren (g.list r) (all_list r y), all_dims q x)
+
 -- Expressions.
 number_ : Sample p.number
 number_ = by_rule p.number (t.Number (pos 0) ty.Int, refl)
@@ -146,26 +149,44 @@ parameter_ = by_rule p.parameter (type_, name_)
 names_ : Sample p.names
 names_ = by_rule p.names (all_list g.name name_)
 
-good_form : Fine (rule p.dist_form)
+good_form : Fine (rule p.how)
 good_form = (star, ((t.Name (codes "block"), refl), (((t.Name (codes "cyclic"), refl), (in_paren g.expr (expr_ false), tt)), ((t.Name (codes "gblock"), refl), in_paren (g.braces (g.list g.expr)) (in_brace (g.list g.expr) (all_list g.expr (expr_ false)))))))
 
-form_ : Sample p.dist_form
-form_ = by_rule p.dist_form good_form
+form_ : Sample p.how
+form_ = by_rule p.how good_form
 
-good_point : Fine (rule p.point)
-good_point = (star, (name_, (((t.Mark m.Plus, refl), level_ 1 false), tt)))
+good_align : Fine (rule p.align_dimension)
+good_align = (star, name_)
 
-point_ : Sample p.point
-point_ = by_rule p.point good_point
+good_point : Fine (rule p.place)
+good_point = (star, (name_, (((t.Mark m.Plus, refl), level_ 0 false), tt)))
+
+point_ : Sample p.place
+point_ = by_rule p.place good_point
+
+good_range : Fine (rule p.range)
+good_range = (expr_ true, ((colon, expr_ false), tt))
+
+range_ : Sample p.range
+range_ = by_rule p.range good_range
+
+good_piece : Fine (rule p.piece)
+good_piece = (colon, range_)
+
+piece_ : Sample p.piece
+piece_ = by_rule p.piece good_piece
+
+good_section : Fine (rule p.section)
+good_section = (colon, (expr_ true, ((colon, range_), tt)))
 
 good_set : Fine (rule p.set)
-good_set = (name_, λ k h. ((t.Mark m.OpenBracket, refl), ((colon, (expr_ true, ((colon, expr_ false), tt))), (t.Mark m.CloseBracket, refl))))
+good_set = (name_, (in_paren (g.list (part p.piece)) (all_list (part p.piece) piece_), any_dims (part p.piece) piece_))
 
 set_ : Sample p.set
 set_ = by_rule p.set good_set
 
 good_sections : Fine (rule p.sections)
-good_sections = (name_, λ k h. ((t.Mark m.OpenBracket, refl), ((colon, (expr_ true, ((colon, (expr_ true, ((colon, expr_ false), tt))), tt))), (t.Mark m.CloseBracket, refl))))
+good_sections = (name_, any_dims (part p.section) (by_rule p.section good_section))
 
 sections_ : Sample p.sections
 sections_ = by_rule p.sections good_sections
@@ -177,17 +198,29 @@ reduction_ : Sample p.reduction
 reduction_ = by_rule p.reduction good_reduction
 
 -- Mappings.
+good_end : Fine g.nodes_end
+good_end = (((assign, set_), tt), line_end)
+
+open_paren : Fine (tok plain (is_mark m.OpenParen))
+open_paren = (t.Mark m.OpenParen, refl)
+
+close_paren : Fine (tok plain (is_mark m.CloseParen))
+close_paren = (t.Mark m.CloseParen, refl)
+
+open_bracket : Fine (tok plain (is_mark m.OpenBracket))
+open_bracket = (t.Mark m.OpenBracket, refl)
+
+close_bracket : Fine (tok plain (is_mark m.CloseBracket))
+close_bracket = (t.Mark m.CloseBracket, refl)
+
+good_in_parens : Fine g.nodes_in_parens
+good_in_parens = (open_paren, ((star, (close_paren, line_end)), (expr_ false, (((λ k h. (comma, expr_ false)), (close_paren, line_end)), (close_paren, good_end)))))
+
+good_in_brackets : Fine g.nodes_in_brackets
+good_in_brackets = (open_bracket, ((star, (close_bracket, line_end)), (expr_ false, (close_bracket, ((all_dims g.expr (expr_ false), line_end), good_end)))))
+
 good_nodes : Fine (rule p.nodes)
-good_nodes = (
-  (t.Name (codes "nodes"), refl),
-  (
-    name_,
-    (
-      (t.Mark m.OpenBracket, refl),
-      ((star, ((t.Mark m.CloseBracket, refl), line_end)), (expr_ false, ((t.Mark m.CloseBracket, refl), (any_dims g.expr (expr_ false), line_end)))),
-    ),
-  ),
-)
+good_nodes = ((t.Name (codes "nodes"), refl), (name_, (good_in_parens, good_in_brackets)))
 
 good_mapping : Fine (rule p.mapping)
 good_mapping = (pragma_, (t.Name (codes "nodes"), by_rule p.nodes good_nodes))
@@ -233,7 +266,7 @@ good_task : Fine (rule p.task)
 good_task = (tt, (((t.Name (codes "task"), refl), ((t.Name (codes "on"), refl), (set_, (line_end, statement_)))), tt))
 
 good_loop : Fine (rule p.loop)
-good_loop = (tt, (((t.Name (codes "loop"), refl), ((in_paren (part p.names) names_, tt), ((t.Name (codes "on"), refl), (name_, (all_dims (part p.point) point_, ((λ k h. reduction_), (line_end, for_))))))), tt))
+good_loop = (tt, (((t.Name (codes "loop"), refl), ((in_paren (part p.names) names_, tt), ((t.Name (codes "on"), refl), (name_, (all_several (part p.place) (part p.place) point_ point_, ((λ k h. reduction_), (line_end, for_))))))), tt))
 
 -- Programs.
 good_function_rest : Fine (rule p.function_rest)
@@ -287,10 +320,10 @@ good p.directive = inr (pragma_, (t.Name (codes "barrier"), by_rule p.barrier go
 good p.mapping = inr good_mapping
 good p.line_in_block = inr (pragma_, (t.Name (codes "nodes"), by_rule p.nodes good_nodes))
 good p.nodes = inr good_nodes
-good p.template = inr ((t.Name (codes "template"), refl), (name_, (all_dims g.expr (expr_ false), line_end)))
-good p.distribute = inr ((t.Name (codes "distribute"), refl), (name_, (all_dims (part p.dist_form) form_, ((t.Name (codes "onto"), refl), (name_, line_end)))))
-good p.align = inr ((t.Name (codes "align"), refl), (name_, (all_dims (choice (is_mark m.Star) (g.sign m.Star) g.name) (star, name_), ((t.Name (codes "with"), refl), (name_, (all_dims (part p.point) point_, line_end))))))
-good p.shadow = inr ((t.Name (codes "shadow"), refl), (name_, (all_dims (g.expr_colon · g.optional (is_mark m.Colon) (g.sign m.Colon · g.expr)) (expr_ true, ((colon, expr_ false), tt)), line_end)))
+good p.template = inr ((t.Name (codes "template"), refl), (name_, (all_several g.expr (part p.range) (expr_ false) range_, line_end)))
+good p.distribute = inr ((t.Name (codes "distribute"), refl), (name_, (all_several (part p.how) (part p.how) form_ form_, ((t.Name (codes "onto"), refl), (name_, line_end)))))
+good p.align = inr ((t.Name (codes "align"), refl), (name_, (all_dims (part p.align_dimension) (by_rule p.align_dimension good_align), ((t.Name (codes "with"), refl), (name_, (all_several (part p.place) (part p.place) point_ point_, line_end))))))
+good p.shadow = inr ((t.Name (codes "shadow"), refl), (name_, (all_dims (part p.range) range_, line_end)))
 good p.loop = inr good_loop
 good p.reflect = inr ((t.Name (codes "reflect"), refl), (in_paren (part p.names) names_, line_end))
 good p.barrier = inr good_barrier
@@ -299,8 +332,12 @@ good p.gmove = inr ((t.Name (codes "gmove"), refl), (line_end, (sections_, (assi
 good p.task = inr good_task
 good p.tasks = inr (tt, (((t.Name (codes "tasks"), refl), (line_end, in_brace (many is_pragma (tok plain is_pragma · part p.task)) (λ k h. (pragma_, by_rule p.task good_task)))), tt))
 good p.names = inr (all_list g.name name_)
-good p.dist_form = inr good_form
-good p.point = inr good_point
+good p.how = inr good_form
+good p.align_dimension = inr good_align
+good p.place = inr good_point
+good p.range = inr good_range
+good p.piece = inr good_piece
+good p.section = inr good_section
 good p.set = inr good_set
 good p.sections = inr good_sections
 good p.reduction = inr good_reduction

@@ -26,13 +26,13 @@ use Rattle.xmp_syntax.specs.Trees as tr
 use Rattle.xmp_syntax.specs.Trees.{Stmt}
 use Rattle.xmp_syntax.specs.View.{ref_view, stmt_view, items_view, tasks_view}
 use Rattle.xmp_syntax.specs.Seen.{seen_if, seen_else, seen_while, seen_for, seen_loop, seen_task, seen_tasks, seen_block}
-use Rattle.xmp_syntax.specs.Spell.{◌at◌, expr, name, names, each, optional, in_parens, dims, point, sections, reduction, spell_ref, spell_mapping, spell_declaration, spell_simple, for_first, for_head, task_line, spell_stmt, spell_items, spell_tasks}
-use Rattle.xmp_syntax.specs.Fits.{FitsExpr, Each, If, FitsReduction, FitsMapping, FitsDeclaration, FitsSimple, FitsFirst, FitsHead, FitsPoint, FitsItems, FitsTasks, takes_else}
+use Rattle.xmp_syntax.specs.Spell.{◌at◌, expr, name, names, each, optional, in_parens, several, point, sections, nodes_set, reduction, spell_ref, spell_mapping, spell_declaration, spell_simple, for_first, for_head, task_line, spell_stmt, spell_items, spell_tasks}
+use Rattle.xmp_syntax.specs.Fits.{FitsExpr, Each, If, FitsReduction, FitsMapping, FitsDeclaration, FitsSimple, FitsFirst, FitsHead, FitsItems, FitsTasks, takes_else}
 use Rattle.xmp_syntax.proofs.Done.{Not}
 use Rattle.xmp_syntax.proofs.Made.{Many, stop, more}
 use Rattle.xmp_syntax.proofs.MadeParts.{Made, Of, Statement, StatementLine, MappingLine, Block, Item, For, Task, Fitting}
-use Rattle.xmp_syntax.proofs.MadeExprs.{Says, marked, worded, spelled, closed, named, wrapped, some_dims_made}
-use Rattle.xmp_syntax.proofs.MadeLines.{one_of}
+use Rattle.xmp_syntax.proofs.MadeExprs.{Says, marked, worded, spelled, closed, named, wrapped}
+use Rattle.xmp_syntax.proofs.MadeLines.{points_made, one_of}
 use Rattle.xmp_syntax.proofs.MadeStatements.{stmt_is, plain_is, never, pragma}
 
 counted : (r : Rule) (ts rest : List Token) → Says (g.counted r) ts rest → Says r ts rest
@@ -203,7 +203,7 @@ bcast_made ts rest k = λ q.
     let z = closed k.2.2.2.0 rest k.2.2.2.2 in
     plain_is (pl.Bcast (record { start = q; word = a.0; end = z.0 }) (record { «open» = v.0; item = v.4.0; close = v.1 }) f.0 x.0) x.1 (t.Pragma at q ∷ ts) rest
     (ap (λ l. t.Pragma at q ∷ l) (a.1 ∙ ap (λ l. t.Name (codes "bcast") at a.0 ∷ l) (v.3 ∙ ap (λ l. t.Mark m.OpenParen at v.0 ∷ l)
-    (v.4.1 ∙ ap (λ l. names v.4.0 (t.Mark m.CloseParen at v.1 ∷ l)) (f.1 ∙ ap (λ l. t.Name (codes "from") at f.0 ∷ l) (x.2 ∙ ap (sections x.0) z.1))))))
+    (v.4.1 ∙ ap (λ l. names v.4.0 (t.Mark m.CloseParen at v.1 ∷ l)) (f.1 ∙ ap (λ l. t.Name (codes "from") at f.0 ∷ l) (x.2 ∙ ap (nodes_set x.0) z.1))))))
 
 pub gmove_made : (ts rest : List Token) → Says (rule p.gmove) ts rest → StatementLine ts rest
 gmove_made ts rest k = λ q.
@@ -228,7 +228,7 @@ reductions_made ts rest (stop _) = ([], tt, refl)
 reductions_made ts rest (more _ mid _ x k) = let b = reductions_made mid rest k in (x.0 ∷ b.0, (x.1, b.1), x.2 ∙ ap (reduction x.0) b.2)
 
 abbrev loop_rule : Rule
-loop_rule = g.spelled (codes "loop") · g.optional (is_mark m.OpenParen) (g.parens (part p.names)) · g.spelled (codes "on") · g.name · g.dims (part p.point)
+loop_rule = g.spelled (codes "loop") · g.optional (is_mark m.OpenParen) (g.parens (part p.names)) · g.spelled (codes "on") · g.name · g.several (part p.place) (part p.place)
     · many (is_spelled (codes "reduction")) (part p.reduction) · g.line_end · part p.for_statement
 
 pub loop_made : (ts rest : List Token) → Says (rule p.loop) ts rest → StatementLine ts rest
@@ -240,14 +240,14 @@ loop_made ts rest c = λ q.
     let o = spelled (codes "on") k.2.0 j.0 j.1 in
     let n = named j.0 j.2.0 j.2.1 in
     let i = j.2.2 in
-    let x = some_dims_made point FitsPoint (part p.point) (λ ts rest k. k) j.2.0 i.0 i.1 in
+    let x = points_made j.2.0 i.0 i.1 in
     let y = reductions_made i.0 i.2.0 i.2.1 in
     let z = closed i.2.0 i.2.2.0 i.2.2.1 in
     let f = i.2.2.2 in
     let l : LoopLine = record { line = record { start = q; word = a.0; end = z.0 }; names = u.0; on = o.0; template = n.0; points = x.0; reductions = y.0 } in
     stmt_is (s.Loop l f.0 f.1) (tr.loop l f.0 (stmt_view f.1)) (seen_loop l f.0 f.1) ((x.1, y.1), f.2, f.3) (t.Pragma at q ∷ ts) rest f.4
     (ap (λ l. t.Pragma at q ∷ l) (a.1 ∙ ap (λ l. t.Name (codes "loop") at a.0 ∷ l) (u.2 ∙ ap (optional (in_parens names) u.0) (o.1 ∙ ap (λ l. t.Name (codes "on") at o.0 ∷ l)
-    (n.1 ∙ ap (name n.0) (x.2 ∙ ap (dims point x.0) (y.2 ∙ ap (each reduction y.0) (z.1 ∙ ap (λ l. t.Close at z.0 ∷ l) f.5))))))))
+    (n.1 ∙ ap (name n.0) (x.2 ∙ ap (several point point x.0) (y.2 ∙ ap (each reduction y.0) (z.1 ∙ ap (λ l. t.Close at z.0 ∷ l) f.5))))))))
 
 pub task_made : (ts rest : List Token) → Says (rule p.task) ts rest → Task ts rest
 task_made ts rest c = λ q.
@@ -263,7 +263,7 @@ task_made ts rest c = λ q.
       x.1,
       y.1,
       y.2,
-      ap (λ l. t.Pragma at q ∷ l) (a.1 ∙ ap (λ l. t.Name (codes "task") at a.0 ∷ l) (o.1 ∙ ap (λ l. t.Name (codes "on") at o.0 ∷ l) (x.2 ∙ ap (sections x.0) (z.1 ∙ ap (λ l. t.Close at z.0 ∷ l) y.3)))),
+      ap (λ l. t.Pragma at q ∷ l) (a.1 ∙ ap (λ l. t.Name (codes "task") at a.0 ∷ l) (o.1 ∙ ap (λ l. t.Name (codes "on") at o.0 ∷ l) (x.2 ∙ ap (nodes_set x.0) (z.1 ∙ ap (λ l. t.Close at z.0 ∷ l) y.3)))),
     )
 
 task_stmt : (ts rest : List Token) → Task ts rest → StatementLine ts rest

@@ -10,6 +10,8 @@ use Rattle.xmp_lex.specs.declared.token.Mark.TheVariants as m
 use Rattle.xmp_lex.specs.declared.token.Reserved.{Reserved}
 use Rattle.xmp_syntax.specs.declared.parts.Name.{Name}
 use Rattle.xmp_syntax.specs.declared.parts.Inside.{Inside}
+use Rattle.xmp_syntax.specs.declared.parts.Several.{Several}
+use Rattle.xmp_syntax.specs.declared.parts.Several.TheVariants as sev
 use Rattle.xmp_syntax.specs.declared.parts.Next as after
 use Rattle.xmp_syntax.specs.declared.parts.CommaList.{CommaList}
 use Rattle.xmp_syntax.specs.declared.parts.Link.{Link}
@@ -17,14 +19,14 @@ use Rattle.xmp_syntax.specs.declared.expression.Expr as made
 use Rattle.xmp_syntax.specs.declared.expression.Expr.TheVariants as e
 use Rattle.xmp_syntax.specs.Parts.{Part}
 use Rattle.xmp_syntax.specs.Parts as p
-use Rattle.xmp_syntax.specs.Reading.{plain, operator, Rule, tok, part, ◌·◌}
+use Rattle.xmp_syntax.specs.Reading.{plain, operator, Rule, tok, part, ◌·◌, choice}
 use Rattle.xmp_syntax.specs.Grammar as g
 use Rattle.xmp_syntax.specs.Grammar.{rule, is_mark, is_word, is_spelled, is_name, is_close, is_unary_mark, mark_binds, operand_of}
 use Rattle.xmp_syntax.specs.Trees.{Expr, number, read, call, parens, unary, cast, chain, conditional}
 use Rattle.xmp_syntax.specs.View.{expr_view, ref_view, subscripts_view, arguments_view, rest_view, links_view}
 use Rattle.xmp_syntax.specs.Seen.{seen_number, seen_parens, seen_unary, seen_cast, seen_chain, seen_conditional, seen_read, seen_call}
-use Rattle.xmp_syntax.specs.Spell.{◌at◌, spell, spell_subscripts, spell_rest, spell_links, type_word, expr, name, each, next, list, dims}
-use Rattle.xmp_syntax.specs.Fits.{Fits, FitsExpr, FitsRest, FitsLinks, level_of, Each, FitsList, FitsDims, FitsSomeDims}
+use Rattle.xmp_syntax.specs.Spell.{◌at◌, spell, spell_subscripts, spell_rest, spell_links, type_word, expr, name, each, next, list, dims, in_parens, several}
+use Rattle.xmp_syntax.specs.Fits.{Fits, FitsExpr, FitsRest, FitsLinks, level_of, Each, FitsList, FitsDims, FitsSomeDims, FitsSeveral, FitsAnySeveral}
 use Rattle.xmp_syntax.proofs.TokenKinds.{mark_token, word_token, spelled_token, close_token, name_token, number_token, type_token, unary_token, binary_token}
 use Rattle.xmp_syntax.proofs.Made.{Many, stop, more, Spelled}
 use Rattle.xmp_syntax.proofs.MadeParts.{Made, Of, Level}
@@ -86,6 +88,27 @@ module _ {A : Type 0} (f : A → List Token → List Token) (P : A → Type 0) (
       let a = item w.2 (t.Mark m.CloseBracket at w.1 ∷ s.0) w.4 in
       let b = dims_made s.0 rest s.2 in
       (record { «open» = w.0; item = a.0; close = w.1 } ∷ b.0, (tt, (a.1, b.1)), w.3 ∙ ap (λ l. t.Mark m.OpenBracket at w.0 ∷ l) (a.2 ∙ ap (λ l. f a.0 (t.Mark m.CloseBracket at w.1 ∷ l)) b.2))
+
+-- Each in brackets, or all between one pair of parentheses.
+module _ {A B : Type 0} (f : A → List Token → List Token) (P : A → Type 0) (q : Rule) (one : (ts rest : List Token) → Says q ts rest → Of f P ts rest)
+    (h : B → List Token → List Token) (Q : B → Type 0) (r : Rule) (other : (ts rest : List Token) → Says r ts rest → Of h Q ts rest) where
+  list_in_parens : (ts rest : List Token) → Says (g.parens (g.list r)) ts rest → (x : Inside (CommaList B)) × FitsList Q x.item × (ts ≡ in_parens (list h) x rest)
+  list_in_parens ts rest s =
+      let w = wrapped m.OpenParen m.CloseParen (g.list r) ts rest s in
+      let x = list_made h Q r other w.2 (t.Mark m.CloseParen at w.1 ∷ rest) w.4 in
+      (record { «open» = w.0; item = x.0; close = w.1 }, x.1, w.3 ∙ ap (λ l. t.Mark m.OpenParen at w.0 ∷ l) x.2)
+
+  pub several_made : (ts rest : List Token) → Says (g.several q r) ts rest → (x : Several A B) × FitsSeveral P Q x × (ts ≡ several f h x rest)
+  several_made ts rest s = elim s as (λ _. (x : Several A B) × FitsSeveral P Q x × (ts ≡ several f h x rest)) [
+    | inl a ↦ (let x = list_in_parens ts rest a in (sev.Parens x.0, x.1, x.2))
+    | inr b ↦ (let x = some_dims_made f P q one ts rest b.1 in (sev.Brackets x.0, x.1, x.2))
+  ]
+
+  pub any_several_made : (ts rest : List Token) → Says (choice (is_mark m.OpenParen) (g.parens (g.list r)) (g.any_dims q)) ts rest → (x : Several A B) × FitsAnySeveral P Q x × (ts ≡ several f h x rest)
+  any_several_made ts rest s = elim s as (λ _. (x : Several A B) × FitsAnySeveral P Q x × (ts ≡ several f h x rest)) [
+    | inl a ↦ (let x = list_in_parens ts rest a in (sev.Parens x.0, x.1, x.2))
+    | inr b ↦ (let x = dims_made f P q one ts rest b.1 in (sev.Brackets x.0, x.1, x.2))
+  ]
 
 -- Operands.
 level_is : (n : ℕ) (x : made.Expr) (v : Expr) → expr_view x ≡ v → level_of v ≤ n → Fits v → (ts rest : List Token) → ts ≡ spell v rest → Level n ts rest

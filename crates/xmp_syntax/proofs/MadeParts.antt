@@ -22,8 +22,8 @@ use Rattle.xmp_syntax.specs.Parts.{Part}
 use Rattle.xmp_syntax.specs.Parts as p
 use Rattle.xmp_syntax.specs.Grammar.{is_word}
 use Rattle.xmp_syntax.specs.View.{expr_view, ref_view, subscripts_view, image_view, arguments_view, stmt_view, items_view}
-use Rattle.xmp_syntax.specs.Spell.{◌at◌, each, name, names, expr, spell_ref, spell_subscripts, spell_image, spell_arguments, optional, in_parens, type_words, parameter, parameters, body, declarator, spell_declaration, dist_form, point, sections, spell_mapping, reduction, task_line, spell_simple, for_first, for_head, spell_stmt, spell_items, top_item}
-use Rattle.xmp_syntax.specs.Fits.{FitsExpr, FitsRef, FitsSubscripts, FitsImage, FitsArguments, level_of, Each, FitsDeclarator, FitsDeclaration, FitsForm, FitsPoint, FitsSet, FitsSections, FitsMapping, FitsReduction, FitsSimple, FitsFirst, FitsHead, FitsStmt, FitsItems, FitsTop, EndsInFunction, takes_else}
+use Rattle.xmp_syntax.specs.Spell.{◌at◌, each, name, names, expr, spell_ref, spell_subscripts, spell_image, spell_arguments, optional, in_parens, type_words, parameter, parameters, body, declarator, spell_declaration, dist_form, align_dimension, point, section, sections, range, piece, nodes_set, spell_mapping, reduction, task_line, spell_simple, for_first, for_head, spell_stmt, spell_items, top_item}
+use Rattle.xmp_syntax.specs.Fits.{FitsExpr, FitsRef, FitsSubscripts, FitsImage, FitsArguments, level_of, Each, FitsDeclarator, FitsDeclaration, FitsForm, FitsPoint, FitsRange, FitsPiece, FitsSection, FitsSet, FitsSections, FitsMapping, FitsReduction, FitsSimple, FitsFirst, FitsHead, FitsStmt, FitsItems, FitsTop, EndsInFunction, takes_else}
 use Rattle.xmp_syntax.proofs.Done.{Not}
 
 -- a part that fits
@@ -118,9 +118,13 @@ Made p.gmove ts rest = StatementLine ts rest
 Made p.task ts rest = Task ts rest
 Made p.tasks ts rest = StatementLine ts rest
 Made p.names ts rest = (x : CommaList Name) × (ts ≡ names x rest)
-Made p.dist_form ts rest = Of dist_form FitsForm ts rest
-Made p.point ts rest = Of point FitsPoint ts rest
-Made p.set ts rest = Of sections FitsSet ts rest
+Made p.how ts rest = Of dist_form FitsForm ts rest
+Made p.align_dimension ts rest = Of align_dimension Fitting ts rest
+Made p.place ts rest = Of point FitsPoint ts rest
+Made p.range ts rest = Of range FitsRange ts rest
+Made p.piece ts rest = Of piece FitsPiece ts rest
+Made p.section ts rest = Of section FitsSection ts rest
+Made p.set ts rest = Of nodes_set FitsSet ts rest
 Made p.sections ts rest = Of sections FitsSections ts rest
 Made p.reduction ts rest = Of reduction FitsReduction ts rest
 Made p.no_part ts rest = ⊥

@@ -26,7 +26,7 @@ use Rattle.xmp_syntax.specs.Fits.{FitsDeclarator, EndsInFunction}
 use Rattle.xmp_syntax.proofs.TokenKinds.{finish_token}
 use Rattle.xmp_syntax.proofs.MadeParts.{Made, Of, Fitting}
 use Rattle.xmp_syntax.proofs.MadeExprs.{Says, marked, worded, named, wrapped, list_made, more_made, number_made, named_made, unary_made, parens_made, level_made, expression_made, subscripts_made, image_made, arguments_made, ref_made}
-use Rattle.xmp_syntax.proofs.MadeLines.{type_made, parameter_made, rest_made, declarator_made, declaration_made, names_made, set_made, sections_made, point_made, form_made, reduction_made, template_made, shadow_made, distribute_made, align_line_made, nodes_made}
+use Rattle.xmp_syntax.proofs.MadeLines.{type_made, parameter_made, rest_made, declarator_made, declaration_made, names_made, range_made, piece_made, section_made, set_made, sections_made, point_made, form_made, align_made, reduction_made, template_made, shadow_made, distribute_made, align_line_made, nodes_made}
 use Rattle.xmp_syntax.proofs.MadeStatements.{empty_made, simple_made, simple_statement_made, return_made, print_made, scan_made, sync_made}
 use Rattle.xmp_syntax.proofs.MadeBlocks.{while_made, if_made, first_made, for_made, block_made, statement_any, item_any, reflect_made, barrier_made, bcast_made, gmove_made, loop_made, task_made, tasks_made, directive_made, mapping_made, line_made}
 
@@ -134,8 +134,12 @@ make p.gmove = gmove_made
 make p.task = task_made
 make p.tasks = tasks_made
 make p.names = names_made
-make p.dist_form = form_made
-make p.point = point_made
+make p.how = form_made
+make p.align_dimension = align_made
+make p.place = point_made
+make p.range = range_made
+make p.piece = piece_made
+make p.section = section_made
 make p.set = set_made
 make p.sections = sections_made
 make p.reduction = reduction_made

@@ -138,6 +138,7 @@ same_condition x y F G r s e =
 pub mapping_class : (x : Mapping) (r : List Token) → sort (class (kinds (spell_mapping x r))) ≡ p.mapping
 mapping_class (mp.Nodes l v ds) r = refl
 mapping_class (mp.NodesStar l v x) r = refl
+mapping_class (mp.NodesPart l v x q y) r = refl
 mapping_class (mp.Template l v ds) r = refl
 mapping_class (mp.Distribute l v fs q o) r = refl
 mapping_class (mp.Align l v xs q o ps) r = refl

@@ -9,6 +9,10 @@ use Rattle.xmp_lex.specs.declared.token.Mark.TheVariants as m
 use Rattle.xmp_lex.specs.declared.token.Reserved.TheVariants as w
 use Rattle.xmp_syntax.specs.declared.parts.Name.{Name}
 use Rattle.xmp_syntax.specs.declared.parts.Inside.{Inside}
+use Rattle.xmp_syntax.specs.declared.parts.Several.{Several}
+use Rattle.xmp_syntax.specs.declared.parts.Several.TheVariants as sev
+use Rattle.xmp_syntax.specs.declared.parts.Single.{Single}
+use Rattle.xmp_syntax.specs.declared.parts.Single.TheVariants as one
 use Rattle.xmp_syntax.specs.declared.parts.Next as made_next
 use Rattle.xmp_syntax.specs.declared.parts.CommaList.{CommaList}
 use Rattle.xmp_syntax.specs.declared.parts.TypeWords.{TypeWords}
@@ -19,8 +23,8 @@ use Rattle.xmp_syntax.specs.declared.declaration.Declarator.TheVariants as d
 use Rattle.xmp_syntax.specs.declared.declaration.Declaration.{Declaration}
 use Rattle.xmp_syntax.specs.Grammar.{is_mark, is_word}
 use Rattle.xmp_syntax.specs.View.{expr_view}
-use Rattle.xmp_syntax.specs.Spell.{Text, ◌at◌, each, next, list, dims, expr, names, name, optional, value, coarray, declarator, type_words, spell_declaration}
-use Rattle.xmp_syntax.specs.Fits.{FitsExpr, FitsSecond, Each, If, FitsList, FitsDims, FitsDeclarator, FitsDeclaration}
+use Rattle.xmp_syntax.specs.Spell.{Text, ◌at◌, each, next, list, dims, several, single, expr, names, name, optional, value, coarray, declarator, type_words, spell_declaration}
+use Rattle.xmp_syntax.specs.Fits.{FitsExpr, FitsSecond, Each, If, FitsList, FitsDims, FitsAnySeveral, FitsSingle, FitsDeclarator, FitsDeclaration}
 use Rattle.xmp_syntax.specs.Shape as sh
 use Rattle.xmp_syntax.specs.Shape.{Shapes, token, ◌▸◌, shape, Outline, kinds}
 use Rattle.xmp_syntax.proofs.Backward.{expr_is}
@@ -67,8 +71,16 @@ module _ {A : Type 0} (f : A → Text) (h : A → Outline) (P : A → Type 0) (F
       let b = same_more x.more y.more F.1 G.1 r s w v n k a.1 in
       (λ q. a.0 (sh.each (sh.next h) x.more q) ∙ ap (h y.first) (b.0 q), b.1, λ i. let g = a.2 i in let j = b.2 g.1 in (list_is x y g.0 j.0, j.1))
 
-module _ {A : Type 0} (f : A → Text) (h : A → Outline) (P : A → Type 0)
-    (item : (x y : A) → P x → P y → (c b : Place) (r s : List Token) → kinds (f x (t.Mark m.CloseBracket at c ∷ r)) ≡ kinds (f y (t.Mark m.CloseBracket at b ∷ s)) → AlikeTo (t.Mark m.CloseBracket) f h x y c b r s) where
+-- what an item asks for of what follows: that it doesn't go on with an expression
+abbrev pub ItemAlike : {A : Type 0} → (A → Text) → (A → Outline) → (A → Type 0) → Type 0
+ItemAlike {A} f h P = (x y : A) → P x → P y → (r s : List Token) → EndsPlain r → EndsPlain s → kinds (f x r) ≡ kinds (f y s) → Alike f h x y r s
+
+module _ {A : Type 0} (f : A → Text) (h : A → Outline) (P : A → Type 0) (item : ItemAlike f h P) where
+  in_brackets_alike : (x y : Inside A) → P x.item → P y.item → (r s : List Token) → kinds (f x.item (t.Mark m.CloseBracket at x.close ∷ r)) ≡ kinds (f y.item (t.Mark m.CloseBracket at y.close ∷ s))
+      → AlikeTo (t.Mark m.CloseBracket) f h x.item y.item x.close y.close r s
+  in_brackets_alike x y F G r s e = closed (t.Mark m.CloseBracket) f h x.item y.item x.close y.close r s
+      (item x.item y.item F G (t.Mark m.CloseBracket at x.close ∷ r) (t.Mark m.CloseBracket at y.close ∷ s) ((refl, refl, refl, refl), refl) ((refl, refl, refl, refl), refl) e)
+
   pub same_dims : (xs ys : List (Inside A)) → FitsDims P xs → FitsDims P ys → (r s : List Token) → Not (is_mark m.OpenBracket) r → Not (is_mark m.OpenBracket) s
       → kinds (dims f xs r) ≡ kinds (dims f ys s) → Alike (dims f) (sh.dims h) xs ys r s
   same_dims [] [] F G r s n k e = (λ q. refl, e, λ h. (refl, h))
@@ -76,12 +88,45 @@ module _ {A : Type 0} (f : A → Text) (h : A → Outline) (P : A → Type 0)
   same_dims (x ∷ xs) [] F G r s n k e = absurd (no_first (is_mark m.OpenBracket) (t.Mark m.OpenBracket) s _ refl k (sym e))
   same_dims (x ∷ xs) (y ∷ ys) F G r s n k e =
       let z : kinds (f x.item (t.Mark m.CloseBracket at x.close ∷ dims f xs r)) ≡ kinds (f y.item (t.Mark m.CloseBracket at y.close ∷ dims f ys s)) = cc in
-      let a = item x.item y.item F.0 G.0 x.close y.close (dims f xs r) (dims f ys s) z in
+      let a = in_brackets_alike x y F.0 G.0 (dims f xs r) (dims f ys s) z in
       let b = same_dims xs ys F.1 G.1 r s n k a.1 in (
         λ q. ap (λ u. token (t.Mark m.OpenBracket) ▸ u) (a.0 (token (t.Mark m.CloseBracket) ▸ sh.dims h xs q) ∙ ap (λ u. h y.item (token (t.Mark m.CloseBracket) ▸ u)) (b.0 q)),
         b.1,
         λ i. let t = apart i in let g = a.2 t.2 in let j = b.2 g.2 in (more_is (inside_is x y t.1 g.0 g.1) j.0, j.1),
       )
+
+  in_parens_alike : (x y : Inside A) → P x.item → P y.item → (r s : List Token) → kinds (f x.item (t.Mark m.CloseParen at x.close ∷ r)) ≡ kinds (f y.item (t.Mark m.CloseParen at y.close ∷ s))
+      → AlikeTo (t.Mark m.CloseParen) f h x.item y.item x.close y.close r s
+  in_parens_alike x y F G r s e = closed (t.Mark m.CloseParen) f h x.item y.item x.close y.close r s
+      (item x.item y.item F G (t.Mark m.CloseParen at x.close ∷ r) (t.Mark m.CloseParen at y.close ∷ s) ((refl, refl, refl, refl), refl) ((refl, refl, refl, refl), refl) e)
+
+  pub same_single : (x y : Single A) → FitsSingle P x → FitsSingle P y → (r s : List Token) → kinds (single f x r) ≡ kinds (single f y s) → Alike (single f) (sh.single h) x y r s
+  same_single (one.Bracket x) (one.Bracket y) F G r s e =
+      let w = in_brackets_alike x y F G r s (cc) in
+      (λ q. ap (λ u. token (t.Mark m.OpenBracket) ▸ u) (w.0 (token (t.Mark m.CloseBracket) ▸ q)), w.1, λ i. let t = apart i in let j = w.2 t.2 in (ap one.Bracket (inside_is x y t.1 j.0 j.1), j.2))
+  same_single (one.Paren x) (one.Paren y) F G r s e =
+      let w = in_parens_alike x y F G r s (cc) in
+      (λ q. ap (λ u. token (t.Mark m.OpenParen) ▸ u) (w.0 (token (t.Mark m.CloseParen) ▸ q)), w.1, λ i. let t = apart i in let j = w.2 t.2 in (ap one.Paren (inside_is x y t.1 j.0 j.1), j.2))
+  same_single (one.Bracket x) (one.Paren y) F G r s e = cc
+  same_single (one.Paren x) (one.Bracket y) F G r s e = cc
+
+-- Items in brackets, or between parentheses.
+module _ {A B : Type 0} (f : A → Text) (h : A → Outline) (P : A → Type 0) (item : ItemAlike f h P) (g : B → Text) (k : B → Outline) (Q : B → Type 0) (other : ItemAlike g k Q) where
+  pub same_several : (x y : Several A B) → FitsAnySeveral P Q x → FitsAnySeveral P Q y → (r s : List Token) → Not (is_mark m.OpenParen) r → Not (is_mark m.OpenBracket) r → Not (is_mark m.OpenParen) s → Not (is_mark m.OpenBracket) s
+      → kinds (several f g x r) ≡ kinds (several f g y s) → Alike (several f g) (sh.several h k) x y r s
+  same_several (sev.Brackets xs) (sev.Brackets ys) F G r s a b c d e =
+      let w = same_dims f h P item xs ys F G r s b d e in (w.0, w.1, λ i. let j = w.2 i in (ap sev.Brackets j.0, j.1))
+  same_several (sev.Parens x) (sev.Parens y) F G r s a b c d e =
+      let w = same_list g k Q EndsPlain other (λ q vs. ((refl, refl, refl, refl), refl)) x.item y.item F G (t.Mark m.CloseParen at x.close ∷ r) (t.Mark m.CloseParen at y.close ∷ s)
+      ((refl, refl, refl, refl), refl) ((refl, refl, refl, refl), refl) refl refl (cc) in (
+        λ q. ap (λ u. token (t.Mark m.OpenParen) ▸ u) (w.0 (token (t.Mark m.CloseParen) ▸ q)),
+        (let z = w.1 in cc),
+        λ i. let t = apart i in let j = w.2 t.2 in let l = apart j.1 in (ap sev.Parens (inside_is x y t.1 j.0 l.1), l.2),
+      )
+  same_several (sev.Brackets []) (sev.Parens y) F G r s a b c d e = absurd (no_first (is_mark m.OpenParen) (t.Mark m.OpenParen) r _ refl a e)
+  same_several (sev.Brackets (x ∷ xs)) (sev.Parens y) F G r s a b c d e = cc
+  same_several (sev.Parens x) (sev.Brackets []) F G r s a b c d e = absurd (no_first (is_mark m.OpenParen) (t.Mark m.OpenParen) s _ refl c (sym e))
+  same_several (sev.Parens x) (sev.Brackets (y ∷ ys)) F G r s a b c d e = cc
 
 -- Expressions.
 pub same_colon : (c : Bool) (x y : made.Expr) → FitsExpr x → FitsExpr y → (r s : List Token) → EndsExpr c r → EndsExpr c s → kinds (expr x r) ≡ kinds (expr y s) → Alike expr sh.expr x y r s
@@ -91,11 +136,6 @@ same_colon c x y F G r s en em e =
 
 pub same_expr : (x y : made.Expr) → FitsExpr x → FitsExpr y → (r s : List Token) → EndsPlain r → EndsPlain s → kinds (expr x r) ≡ kinds (expr y s) → Alike expr sh.expr x y r s
 same_expr x y F G r s en em e = same_colon false x y F G r s en em e
-
-pub same_closed : (x y : made.Expr) → FitsExpr x → FitsExpr y → (c b : Place) (r s : List Token) → kinds (expr x (t.Mark m.CloseBracket at c ∷ r)) ≡ kinds (expr y (t.Mark m.CloseBracket at b ∷ s)) → AlikeTo (t.Mark m.CloseBracket) expr sh.expr x y c b r s
-same_closed x y F G c b r s e =
-    let w = same_expr x y F G (t.Mark m.CloseBracket at c ∷ r) (t.Mark m.CloseBracket at b ∷ s) ((refl, refl, refl, refl), refl) ((refl, refl, refl, refl), refl) e in
-    closed (t.Mark m.CloseBracket) expr sh.expr x y c b r s w
 
 -- names
 pub same_name : (x y : Name) → ⊤ → ⊤ → (r s : List Token) → ⊤ → ⊤ → kinds (name x r) ≡ kinds (name y s) → Alike name sh.name x y r s
@@ -148,7 +188,7 @@ same_declarator (d.Scalar n v) (d.Scalar n' v') F G r s w u e =
     )
 same_declarator (d.Array n ds c) (d.Array n' es c') F G r s w u e =
     let k : t.Name n.text ≡ t.Name n'.text = cc in
-    let a = same_dims expr sh.expr FitsExpr same_closed ds es F.1 G.1 (optional coarray c r) (optional coarray c' s) (coarray_first c r w.0) (coarray_first c' s u.0) (cc) in
+    let a = same_dims expr sh.expr FitsExpr same_expr ds es F.1 G.1 (optional coarray c r) (optional coarray c' s) (coarray_first c r w.0) (coarray_first c' s u.0) (cc) in
     let b = same_coarray c c' r s w.0 u.0 a.1 in (
       λ q. ap (λ z. token z ▸ sh.dims sh.expr ds (sh.optional sh.coarray c q)) k ∙ ap (λ z. token (t.Name n'.text) ▸ z) (a.0 (sh.optional sh.coarray c q) ∙ ap (sh.dims sh.expr es) (b.0 q)),
       b.1,

@@ -21,7 +21,7 @@ use Rattle.xmp_syntax.specs.Parts.{Part}
 use Rattle.xmp_syntax.specs.Parts as p
 use Rattle.xmp_syntax.specs.Grammar.{line_of, item_of}
 use Rattle.xmp_syntax.specs.View.{ref_view, rest_view}
-use Rattle.xmp_syntax.specs.Spell.{◌at◌, spell_rest, sections, spell_simple, spell_plain}
+use Rattle.xmp_syntax.specs.Spell.{◌at◌, spell_rest, sections, nodes_set, spell_simple, spell_plain}
 use Rattle.xmp_syntax.specs.Fits.{FitsSimple, FitsPlain}
 use Rattle.xmp_syntax.specs.Shape as sh
 use Rattle.xmp_syntax.specs.Shape.{Shapes, token, ◌▸◌, shape, rest_shape, kinds}
@@ -34,6 +34,7 @@ use Rattle.xmp_syntax.proofs.OneDirective.{same_sections, same_set, first_of, se
 use Rattle.xmp_syntax.specs.declared.parts.Format.{Format}
 use Rattle.xmp_syntax.specs.declared.parts.Next as after
 use Rattle.xmp_syntax.specs.declared.directive.Sections.{Sections}
+use Rattle.xmp_syntax.specs.declared.directive.NodesSet.{NodesSet}
 use Rattle.xmp_syntax.proofs.OneStmt.{same_simple, same_reference}
 
 -- The part that the first token tells, or in the line of a directive the second.
@@ -107,7 +108,7 @@ barrier_only : (P : Plain → Type 0) → ((l : DirectiveLine) → P (pl.Barrier
 barrier_only P f (pl.Barrier l) h = f l
 barrier_only P f _ h = cc
 
-bcast_only : (P : Plain → Type 0) → ((l : DirectiveLine) (ns : Inside (CommaList Name)) (a : Place) (x : Sections) → P (pl.Bcast l ns a x)) → (y : Plain) → plain_part y ≡ p.bcast → P y
+bcast_only : (P : Plain → Type 0) → ((l : DirectiveLine) (ns : Inside (CommaList Name)) (a : Place) (x : NodesSet) → P (pl.Bcast l ns a x)) → (y : Plain) → plain_part y ≡ p.bcast → P y
 bcast_only P f (pl.Bcast l ns a x) h = f l ns a x
 bcast_only P f _ h = cc
 
@@ -181,14 +182,14 @@ two_reflect l ns F r s l' ms G e =
 two_barrier : (l : DirectiveLine) → FitsPlain (pl.Barrier l) → (r s : List Token) → (l' : DirectiveLine) → SamePlain (pl.Barrier l) r s (pl.Barrier l')
 two_barrier l F r s l' G e = (λ q. refl, cc, λ h. let t = apart h in let o = apart t.2 in let n = apart o.2 in (ap pl.Barrier (line_is l l' t.1 o.1 n.1), n.2))
 
-two_bcast : (l : DirectiveLine) (ns : Inside (CommaList Name)) (a : Place) (x : Sections) → FitsPlain (pl.Bcast l ns a x) → (r s : List Token) → (l' : DirectiveLine) (ms : Inside (CommaList Name)) (b : Place) (y : Sections) → SamePlain (pl.Bcast l ns a x) r s (pl.Bcast l' ms b y)
+two_bcast : (l : DirectiveLine) (ns : Inside (CommaList Name)) (a : Place) (x : NodesSet) → FitsPlain (pl.Bcast l ns a x) → (r s : List Token) → (l' : DirectiveLine) (ms : Inside (CommaList Name)) (b : Place) (y : NodesSet) → SamePlain (pl.Bcast l ns a x) r s (pl.Bcast l' ms b y)
 two_bcast l ns a x F r s l' ms b y G e =
-    let u : List Token = t.Name (codes "from") at a ∷ sections x (t.Close at l.end ∷ r) in
-    let v : List Token = t.Name (codes "from") at b ∷ sections y (t.Close at l'.end ∷ s) in
+    let u : List Token = t.Name (codes "from") at a ∷ nodes_set x (t.Close at l.end ∷ r) in
+    let v : List Token = t.Name (codes "from") at b ∷ nodes_set y (t.Close at l'.end ∷ s) in
     let c = same_names ns.item ms.item (t.Mark m.CloseParen at ns.close ∷ u) (t.Mark m.CloseParen at ms.close ∷ v) refl refl (cc) in
-    let d = same_set x y F G (t.Close at l.end ∷ r) (t.Close at l'.end ∷ s) refl refl (let z = c.1 in cc) in (
+    let d = same_set x y F G (t.Close at l.end ∷ r) (t.Close at l'.end ∷ s) refl refl refl refl (let z = c.1 in cc) in (
       λ q. ap (λ z. token t.Pragma ▸ token (t.Name (codes "bcast")) ▸ token (t.Mark m.OpenParen) ▸ z)
-          (c.0 (token (t.Mark m.CloseParen) ▸ token (t.Name (codes "from")) ▸ sh.sections x (token t.Close ▸ q)) ∙ ap (λ z. sh.names ms.item (token (t.Mark m.CloseParen) ▸ token (t.Name (codes "from")) ▸ z)) (d.0 (token t.Close ▸ q))),
+          (c.0 (token (t.Mark m.CloseParen) ▸ token (t.Name (codes "from")) ▸ sh.nodes_set x (token t.Close ▸ q)) ∙ ap (λ z. sh.names ms.item (token (t.Mark m.CloseParen) ▸ token (t.Name (codes "from")) ▸ z)) (d.0 (token t.Close ▸ q))),
       (let z = d.1 in cc),
       λ h. let t = apart h in let o = apart t.2 in let i = apart o.2 in let g = c.2 i.2 in let j = apart g.1 in let k = apart j.2 in let f = d.2 k.2 in let n = apart f.1 in
           (ap (λ z. pl.Bcast z ns a x) (line_is l l' t.1 o.1 n.1) ∙ ap (λ z. pl.Bcast l' z a x) (inside_is ns ms i.1 g.0 j.1) ∙ ap (λ z. pl.Bcast l' ms z x) k.1 ∙ ap (pl.Bcast l' ms b) f.0, n.2),

@@ -25,7 +25,7 @@ use Rattle.xmp_syntax.specs.declared.statement.ForFirst.TheVariants as ff
 use Rattle.xmp_syntax.specs.declared.statement.ForHead.{ForHead}
 use Rattle.xmp_syntax.specs.Grammar.{is_mark, is_spelled, is_step_mark}
 use Rattle.xmp_syntax.specs.View.{expr_view, ref_view, call_view, arguments_view}
-use Rattle.xmp_syntax.specs.Spell.{◌at◌, spell, spell_ref, spell_arguments, each, dims, expr, names, name, optional, in_parens, point, reduction, reduction_operator, loop_line, task_line, spell_simple, for_first, for_head}
+use Rattle.xmp_syntax.specs.Spell.{◌at◌, spell, spell_ref, spell_arguments, each, several, expr, names, name, optional, in_parens, point, reduction, reduction_operator, loop_line, task_line, spell_simple, for_first, for_head}
 use Rattle.xmp_syntax.specs.Fits.{FitsRef, FitsExpr, If, FitsPoint, FitsSet, FitsLoopLine, FitsSimple, FitsFirst, FitsHead}
 use Rattle.xmp_syntax.specs.Shape as sh
 use Rattle.xmp_syntax.specs.Shape.{Shapes, token, ◌▸◌, shape, ref_shape, kinds}
@@ -36,8 +36,8 @@ use Rattle.xmp_syntax.proofs.Statements.{assign_ends, step_ends, ends_plain, no_
 use Rattle.xmp_syntax.proofs.OneExpr.{same_full, same_ref, no_first, first_kind}
 use Rattle.xmp_syntax.proofs.Backward.{reference_is, call_view_is}
 use Rattle.xmp_syntax.proofs.OneTokens.{apart, name_is, more_is, inside_is, triple_is, mark_is, line_is, reduction_is, loop_is, task_is, head_is}
-use Rattle.xmp_syntax.proofs.OneLine.{Alike, AlikeTo, same_dims, same_expr, same_names}
-use Rattle.xmp_syntax.proofs.OneDirective.{same_set, same_point, first_of}
+use Rattle.xmp_syntax.proofs.OneLine.{Alike, AlikeTo, same_expr, same_names}
+use Rattle.xmp_syntax.proofs.OneDirective.{same_set, same_points, first_of}
 
 -- Reductions and the line of a loop.
 abbrev operator_class : TokenKind → ℕ
@@ -85,20 +85,25 @@ reduction_first : (xs : List Reduction) (r : List Token) → Not (is_mark m.Open
 reduction_first [] r h = h
 reduction_first (x ∷ xs) r h = refl
 
+paren_free : (xs : List Reduction) (r : List Token) → Not (is_mark m.OpenParen) r → Not (is_mark m.OpenParen) (each reduction xs r)
+paren_free [] r h = h
+paren_free (x ∷ xs) r h = refl
+
 pub same_loop : (x y : LoopLine) → FitsLoopLine x → FitsLoopLine y → (r s : List Token) → kinds (loop_line x r) ≡ kinds (loop_line y s) → Alike loop_line sh.loop_line x y r s
 same_loop x y F G r s e =
     let r1 : List Token = each reduction x.reductions (t.Close at x.line.end ∷ r) in
     let s1 : List Token = each reduction y.reductions (t.Close at y.line.end ∷ s) in
-    let a = same_loop_names x.names y.names x.on y.on (name x.template (dims point x.points r1)) (name y.template (dims point y.points s1)) (cc) in
+    let a = same_loop_names x.names y.names x.on y.on (name x.template (several point point x.points r1)) (name y.template (several point point y.points s1)) (cc) in
     let k : t.Name x.template.text ≡ t.Name y.template.text = (let z = a.1 in cc) in
-    let b = same_dims point sh.point FitsPoint same_point x.points y.points F.0.1 G.0.1 r1 s1 (reduction_first x.reductions (t.Close at x.line.end ∷ r) refl) (reduction_first y.reductions (t.Close at y.line.end ∷ s) refl) (let z = a.1 in cc) in
+    let b = same_points x.points y.points F.0 G.0 r1 s1 (paren_free x.reductions (t.Close at x.line.end ∷ r) refl) (reduction_first x.reductions (t.Close at x.line.end ∷ r) refl)
+    (paren_free y.reductions (t.Close at y.line.end ∷ s) refl) (reduction_first y.reductions (t.Close at y.line.end ∷ s) refl) (let z = a.1 in cc) in
     let c = same_reductions x.reductions y.reductions (t.Close at x.line.end ∷ r) (t.Close at y.line.end ∷ s) refl refl b.1 in (
       λ q. let end : Shapes = token t.Close ▸ q in
           ap (λ z. token t.Pragma ▸ token (t.Name (codes "loop")) ▸ z)
-          (a.0 (token (t.Name (codes "on")) ▸ sh.name x.template (sh.dims sh.point x.points (sh.each sh.reduction x.reductions end)))
+          (a.0 (token (t.Name (codes "on")) ▸ sh.name x.template (sh.several sh.point sh.point x.points (sh.each sh.reduction x.reductions end)))
           ∙ ap (λ z. sh.optional (sh.in_parens sh.names) y.names (token (t.Name (codes "on")) ▸ z))
-          (ap (λ z. token z ▸ sh.dims sh.point x.points (sh.each sh.reduction x.reductions end)) k
-          ∙ ap (λ z. token (t.Name y.template.text) ▸ z) (b.0 (sh.each sh.reduction x.reductions end) ∙ ap (sh.dims sh.point y.points) (c.0 end)))),
+          (ap (λ z. token z ▸ sh.several sh.point sh.point x.points (sh.each sh.reduction x.reductions end)) k
+          ∙ ap (λ z. token (t.Name y.template.text) ▸ z) (b.0 (sh.each sh.reduction x.reductions end) ∙ ap (sh.several sh.point sh.point y.points) (c.0 end)))),
       (let z = c.1 in cc),
       λ h. let t = apart h in let i = apart t.2 in let g = a.2 i.2 in let n = apart g.2 in let u = b.2 n.2 in let v = c.2 u.1 in let l = apart v.1 in
           (loop_is x y (line_is x.line y.line t.1 i.1 l.1) g.0 g.1 (name_is x.template y.template n.0 n.1) u.0 v.0, l.2),
@@ -106,7 +111,7 @@ same_loop x y F G r s e =
 
 pub same_task_line : (x y : TaskLine) → FitsSet x.set → FitsSet y.set → (r s : List Token) → kinds (task_line x r) ≡ kinds (task_line y s) → Alike task_line sh.task_line x y r s
 same_task_line x y F G r s e =
-    let a = same_set x.set y.set F G (t.Close at x.line.end ∷ r) (t.Close at y.line.end ∷ s) refl refl (cc) in (
+    let a = same_set x.set y.set F G (t.Close at x.line.end ∷ r) (t.Close at y.line.end ∷ s) refl refl refl refl (cc) in (
       λ q. ap (λ z. token t.Pragma ▸ token (t.Name (codes "task")) ▸ token (t.Name (codes "on")) ▸ z) (a.0 (token t.Close ▸ q)),
       (let z = a.1 in cc),
       λ h. let t = apart h in let i = apart t.2 in let o = apart i.2 in let g = a.2 o.2 in let l = apart g.1 in (task_is x y (line_is x.line y.line t.1 i.1 l.1) o.1 g.0, l.2),

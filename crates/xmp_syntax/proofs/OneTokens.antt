@@ -13,6 +13,8 @@ use Rattle.xmp_syntax.specs.declared.parts.Format.{Format}
 use Rattle.xmp_syntax.specs.declared.parts.Next.{Next}
 use Rattle.xmp_syntax.specs.declared.parts.CommaList.{CommaList}
 use Rattle.xmp_syntax.specs.declared.parts.Inside.{Inside}
+use Rattle.xmp_syntax.specs.declared.parts.Several.{Several}
+use Rattle.xmp_syntax.specs.declared.parts.Single.{Single}
 use Rattle.xmp_syntax.specs.declared.parts.TypeWords.{TypeWords}
 use Rattle.xmp_syntax.specs.declared.declaration.Declarator.{Declarator}
 use Rattle.xmp_syntax.specs.declared.declaration.Declaration.{Declaration}
@@ -20,6 +22,8 @@ use Rattle.xmp_syntax.specs.declared.parts.Placed.{Placed}
 use Rattle.xmp_syntax.specs.declared.directive.DirectiveLine.{DirectiveLine}
 use Rattle.xmp_syntax.specs.declared.directive.Section.{Section}
 use Rattle.xmp_syntax.specs.declared.directive.Sections.{Sections}
+use Rattle.xmp_syntax.specs.declared.directive.Piece.{Piece}
+use Rattle.xmp_syntax.specs.declared.directive.NodesSet.{NodesSet}
 use Rattle.xmp_syntax.specs.declared.directive.DistForm.{DistForm}
 use Rattle.xmp_syntax.specs.declared.directive.AlignDimension.{AlignDimension}
 use Rattle.xmp_syntax.specs.declared.directive.Point.{Point}
@@ -154,10 +158,18 @@ line_is x y h i j =
     let g : Place → DirectiveLine = λ v. record { start = y.start; word = v; end = x.end } in
     let k : Place → DirectiveLine = λ v. record { start = y.start; word = y.word; end = v } in ap f h ∙ ap g i ∙ ap k j
 
-pub distribute_is : {l k : DirectiveLine} {n n' o o' : Name} {fs gs : List (Inside DistForm)} {p q : Place} → l ≡ k → n ≡ n' → fs ≡ gs → p ≡ q → o ≡ o' → mp.Distribute l n fs p o ≡ mp.Distribute k n' gs q o'
+pub set_is : (x y : NodesSet) → x.name ≡ y.name → x.pieces ≡ y.pieces → x ≡ y
+set_is x y h k =
+    let f : Name → NodesSet = λ v. record { name = v; pieces = x.pieces } in
+    let g : Several Piece Piece → NodesSet = λ v. record { name = y.name; pieces = v } in ap f h ∙ ap g k
+
+pub nodes_part_is : {l k : DirectiveLine} {n n' : Name} {x y : Single made.Expr} {p q : Place} {a b : NodesSet} → l ≡ k → n ≡ n' → x ≡ y → p ≡ q → a ≡ b → mp.NodesPart l n x p a ≡ mp.NodesPart k n' y q b
+nodes_part_is a b c d e = cc
+
+pub distribute_is : {l k : DirectiveLine} {n n' o o' : Name} {fs gs : Several DistForm DistForm} {p q : Place} → l ≡ k → n ≡ n' → fs ≡ gs → p ≡ q → o ≡ o' → mp.Distribute l n fs p o ≡ mp.Distribute k n' gs q o'
 distribute_is a b c d e = cc
 
-pub align_is : {l k : DirectiveLine} {n n' o o' : Name} {xs ys : List (Inside AlignDimension)} {ps qs : List (Inside Point)} {p q : Place} → l ≡ k → n ≡ n' → xs ≡ ys → p ≡ q → o ≡ o' → ps ≡ qs
+pub align_is : {l k : DirectiveLine} {n n' o o' : Name} {xs ys : List (Inside AlignDimension)} {ps qs : Several Point Point} {p q : Place} → l ≡ k → n ≡ n' → xs ≡ ys → p ≡ q → o ≡ o' → ps ≡ qs
     → mp.Align l n xs p o ps ≡ mp.Align k n' ys q o' qs
 align_is a b c d e f = cc
 
@@ -172,7 +184,7 @@ loop_is x y a b c d e f =
     let h2 : Option (Inside (CommaList Name)) → LoopLine = λ v. record { line = y.line; names = v; on = x.on; template = x.template; points = x.points; reductions = x.reductions } in
     let h3 : Place → LoopLine = λ v. record { line = y.line; names = y.names; on = v; template = x.template; points = x.points; reductions = x.reductions } in
     let h4 : Name → LoopLine = λ v. record { line = y.line; names = y.names; on = y.on; template = v; points = x.points; reductions = x.reductions } in
-    let h5 : List (Inside Point) → LoopLine = λ v. record { line = y.line; names = y.names; on = y.on; template = y.template; points = v; reductions = x.reductions } in
+    let h5 : Several Point Point → LoopLine = λ v. record { line = y.line; names = y.names; on = y.on; template = y.template; points = v; reductions = x.reductions } in
     let h6 : List Reduction → LoopLine = λ v. record { line = y.line; names = y.names; on = y.on; template = y.template; points = y.points; reductions = v } in
     ap h1 a ∙ ap h2 b ∙ ap h3 c ∙ ap h4 d ∙ ap h5 e ∙ ap h6 f
 
@@ -180,7 +192,7 @@ pub task_is : (x y : TaskLine) → x.line ≡ y.line → x.on ≡ y.on → x.set
 task_is x y a b c =
     let f : DirectiveLine → TaskLine = λ v. record { line = v; on = x.on; set = x.set } in
     let g : Place → TaskLine = λ v. record { line = y.line; on = v; set = x.set } in
-    let h : Sections → TaskLine = λ v. record { line = y.line; on = y.on; set = v } in ap f a ∙ ap g b ∙ ap h c
+    let h : NodesSet → TaskLine = λ v. record { line = y.line; on = y.on; set = v } in ap f a ∙ ap g b ∙ ap h c
 
 -- The head of a for.
 abbrev head : Place → Place → Option ForFirst → Place → Option made.Expr → Place → Option Simple → Place → ForHead

@@ -49,6 +49,7 @@ ended = record { from = λ E. record { depths = []; now = E; reads = here; front
 mapping_pragma : (x : Mapping) (r : List Token) → Is is_pragma (spell_mapping x r)
 mapping_pragma (mp.Nodes l v ds) r = refl
 mapping_pragma (mp.NodesStar l v x) r = refl
+mapping_pragma (mp.NodesPart l v x q y) r = refl
 mapping_pragma (mp.Template l v ds) r = refl
 mapping_pragma (mp.Distribute l v fs q o) r = refl
 mapping_pragma (mp.Align l v xs q o ps) r = refl
@@ -121,6 +122,7 @@ top_first (top.Mapping x) r = mapping_no_finish x r
     mapping_no_finish : (x : Mapping) (r : List Token) → Not is_finish (spell_mapping x r)
     mapping_no_finish (mp.Nodes l v ds) r = refl
     mapping_no_finish (mp.NodesStar l v x) r = refl
+    mapping_no_finish (mp.NodesPart l v x q y) r = refl
     mapping_no_finish (mp.Template l v ds) r = refl
     mapping_no_finish (mp.Distribute l v fs q o) r = refl
     mapping_no_finish (mp.Align l v xs q o ps) r = refl

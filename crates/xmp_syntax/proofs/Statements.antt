@@ -42,7 +42,7 @@ use Rattle.xmp_syntax.proofs.Done.{Next, fast, go, silent, by_part, Is, Not, cho
 use Rattle.xmp_syntax.proofs.TokenFacts.{Ends, EndsExpr, ends_paren, not_true}
 use Rattle.xmp_syntax.proofs.Exprs.{ExprReads, reads, subscripts_read, image_read, arguments_all, rest_reads, name_reads, name_reads_before, ref_first, not_first, in_parens_reads}
 use Rattle.xmp_syntax.proofs.Lists.{NonEmpty, leave_reads, names_read, dims_read}
-use Rattle.xmp_syntax.proofs.Lines.{expr_reads, EndsPlain, declaration_reads, mapping_item_reads, set_reads, sections_read, point_reads, reductions_read}
+use Rattle.xmp_syntax.proofs.Lines.{expr_reads, EndsPlain, declaration_reads, mapping_item_reads, set_reads, sections_read, reductions_read}
 
 -- an assignment or a step goes on with no reference
 pub assign_ends : (op : Mark) → is_assign_mark op ≡ true → (mark_code m.OpenParen == mark_code op ≡ false) × (mark_code m.OpenBracket == mark_code op ≡ false) × (nat_le 1 (mark_binds op) && nat_le (mark_binds op) 0 ≡ false) × (mark_code m.Colon == mark_code op ≡ false) × (is_step_mark op ≡ false)

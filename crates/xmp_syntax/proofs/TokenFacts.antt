@@ -10,7 +10,7 @@ use Rattle.xmp_lex.specs.declared.token.Mark.{Mark}
 use Rattle.xmp_lex.specs.declared.token.Mark.TheVariants as m
 use Rattle.xmp_syntax.specs.Parts as p
 use Rattle.xmp_syntax.specs.Reading.{Test}
-use Rattle.xmp_syntax.specs.Grammar.{is_mark, mark_code, mark_binds, binds, binary, is_type, is_unary_mark, operand_of}
+use Rattle.xmp_syntax.specs.Grammar.{is_mark, is_offset, mark_code, mark_binds, binds, binary, is_type, is_unary_mark, operand_of}
 use Rattle.xmp_syntax.specs.Spell.{◌at◌}
 use Rattle.xmp_syntax.proofs.Done.{Is, Not}
 
@@ -63,6 +63,13 @@ unary_part _ c e = cc
 -- an operator of a level or a tighter one
 abbrev pub within : ℕ → Test
 within n kind = nat_le 1 (binds kind) && nat_le (binds kind) n
+
+-- the sign of an offset is an operator
+pub not_offset : (kind : TokenKind) → within 10 kind ≡ false → is_offset kind ≡ false
+not_offset (t.Mark m.Plus) h = cc
+not_offset (t.Mark m.Minus) h = cc
+not_offset (t.Mark _) h = refl
+not_offset _ h = refl
 
 abbrev pub ColonFree : Bool → TokenKind → List Token → Type 0
 ColonFree false kind ts = is_mark m.Colon kind ≡ false

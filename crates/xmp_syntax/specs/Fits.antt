@@ -7,6 +7,10 @@ use Rattle.xmp_lex.specs.declared.token.Reserved.TheVariants as w
 use Rattle.xmp_syntax.specs.declared.parts.CommaList.{CommaList}
 use Rattle.xmp_syntax.specs.declared.parts.Next.{Next}
 use Rattle.xmp_syntax.specs.declared.parts.Inside.{Inside}
+use Rattle.xmp_syntax.specs.declared.parts.Several.{Several}
+use Rattle.xmp_syntax.specs.declared.parts.Several.TheVariants as sev
+use Rattle.xmp_syntax.specs.declared.parts.Single.{Single}
+use Rattle.xmp_syntax.specs.declared.parts.Single.TheVariants as one
 use Rattle.xmp_syntax.specs.declared.parts.Placed.{Placed}
 use Rattle.xmp_base.specs.declared.place.Place.{Place}
 use Rattle.xmp_syntax.specs.declared.expression.Expr as made
@@ -20,6 +24,9 @@ use Rattle.xmp_syntax.specs.declared.directive.Point.TheVariants as pt
 use Rattle.xmp_syntax.specs.declared.directive.Section.{Section}
 use Rattle.xmp_syntax.specs.declared.directive.Section.TheVariants as s
 use Rattle.xmp_syntax.specs.declared.directive.Sections.{Sections}
+use Rattle.xmp_syntax.specs.declared.directive.Piece.{Piece}
+use Rattle.xmp_syntax.specs.declared.directive.Piece.TheVariants as pi
+use Rattle.xmp_syntax.specs.declared.directive.NodesSet.{NodesSet}
 use Rattle.xmp_syntax.specs.declared.directive.Mapping.{Mapping}
 use Rattle.xmp_syntax.specs.declared.directive.Mapping.TheVariants as mp
 use Rattle.xmp_syntax.specs.declared.directive.ReductionOperator.{ReductionOperator}
@@ -116,6 +123,20 @@ NotEmpty (x ∷ xs) = ⊤
 abbrev pub FitsSomeDims : {A : Type 0} → (A → Type 0) → List (Inside A) → Type 0
 FitsSomeDims P xs = NotEmpty xs × FitsDims P xs
 
+-- each in brackets, or all between one pair of parentheses
+abbrev pub FitsSeveral : {A B : Type 0} → (A → Type 0) → (B → Type 0) → Several A B → Type 0
+FitsSeveral P Q (sev.Brackets xs) = FitsSomeDims P xs
+FitsSeveral P Q (sev.Parens x) = FitsList Q x.item
+
+-- the same, or none
+abbrev pub FitsAnySeveral : {A B : Type 0} → (A → Type 0) → (B → Type 0) → Several A B → Type 0
+FitsAnySeveral P Q (sev.Brackets xs) = FitsDims P xs
+FitsAnySeveral P Q (sev.Parens x) = FitsList Q x.item
+
+abbrev pub FitsSingle : {A : Type 0} → (A → Type 0) → Single A → Type 0
+FitsSingle P (one.Bracket x) = P x.item
+FitsSingle P (one.Paren x) = P x.item
+
 abbrev pub FitsSecond : Place × made.Expr → Type 0
 FitsSecond x = FitsExpr x.1
 
@@ -133,9 +154,9 @@ FitsForm (f.Block p) = ⊤
 FitsForm (f.Cyclic p x) = If (λ y. FitsExpr y.item) x
 FitsForm (f.Gblock p x) = FitsList FitsExpr x.item.item
 
--- an offset has the level of `* / %` or a tighter one
+-- what follows the sign of an offset is an operand, as that of `*`
 abbrev pub FitsOffset : Placed Mark × made.Expr → Type 0
-FitsOffset x = (is_offset_mark x.0.what ≡ true) × (level_of (expr_view x.1) ≤ 1) × FitsExpr x.1
+FitsOffset x = (is_offset_mark x.0.what ≡ true) × (level_of (expr_view x.1) ≤ 0) × FitsExpr x.1
 
 abbrev pub FitsPoint : Point → Type 0
 FitsPoint (pt.Star p) = ⊤
@@ -150,24 +171,24 @@ FitsSection (s.Numbers a (Some n) k) = FitsExpr a × FitsSecond n × If FitsSeco
 abbrev pub FitsSections : Sections → Type 0
 FitsSections x = FitsDims FitsSection x.sections
 
--- a set of nodes has no third number
-abbrev pub FitsSetSection : Section → Type 0
-FitsSetSection (s.All p) = ⊤
-FitsSetSection (s.Numbers a n k) = FitsExpr a × If FitsSecond n × (k ≡ None)
+abbrev pub FitsRange : made.Expr × Option (Place × made.Expr) → Type 0
+FitsRange x = FitsExpr x.0 × If FitsSecond x.1
 
-abbrev pub FitsSet : Sections → Type 0
-FitsSet x = FitsDims FitsSetSection x.sections
+abbrev pub FitsPiece : Piece → Type 0
+FitsPiece (pi.All p) = ⊤
+FitsPiece (pi.Numbers a n) = FitsRange (a, n)
 
-abbrev pub FitsWidth : made.Expr × Option (Place × made.Expr) → Type 0
-FitsWidth x = FitsExpr x.0 × If FitsSecond x.1
+abbrev pub FitsSet : NodesSet → Type 0
+FitsSet x = FitsAnySeveral FitsPiece FitsPiece x.pieces
 
 abbrev pub FitsMapping : Mapping → Type 0
-FitsMapping (mp.Nodes l n ds) = FitsSomeDims FitsExpr ds
+FitsMapping (mp.Nodes l n x) = FitsSeveral FitsExpr FitsExpr x
 FitsMapping (mp.NodesStar l n x) = ⊤
-FitsMapping (mp.Template l n ds) = FitsSomeDims FitsExpr ds
-FitsMapping (mp.Distribute l n fs p o) = FitsSomeDims FitsForm fs
-FitsMapping (mp.Align l n xs p o ps) = NotEmpty xs × FitsSomeDims FitsPoint ps
-FitsMapping (mp.Shadow l n ws) = FitsSomeDims FitsWidth ws
+FitsMapping (mp.NodesPart l n x p y) = FitsSingle FitsExpr x × FitsSet y
+FitsMapping (mp.Template l n x) = FitsSeveral FitsExpr FitsRange x
+FitsMapping (mp.Distribute l n x p o) = FitsSeveral FitsForm FitsForm x
+FitsMapping (mp.Align l n xs p o x) = NotEmpty xs × FitsSeveral FitsPoint FitsPoint x
+FitsMapping (mp.Shadow l n ws) = FitsSomeDims FitsRange ws
 
 abbrev pub FitsOperator : ReductionOperator → Type 0
 FitsOperator (ro.Mark x) = is_reduction_mark x.what ≡ true
@@ -178,7 +199,7 @@ abbrev pub FitsReduction : Reduction → Type 0
 FitsReduction x = FitsOperator x.list.item.0
 
 abbrev pub FitsLoopLine : LoopLine → Type 0
-FitsLoopLine x = FitsSomeDims FitsPoint x.points × Each FitsReduction x.reductions
+FitsLoopLine x = FitsSeveral FitsPoint FitsPoint x.points × Each FitsReduction x.reductions
 
 -- Statements.
 abbrev pub FitsSimple : Simple → Type 0

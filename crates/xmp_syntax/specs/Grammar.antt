@@ -259,6 +259,14 @@ any_dims r = many (is_mark m.OpenBracket) (brackets r)
 abbrev pub dims : Rule → Rule
 dims r = brackets r · any_dims r
 
+-- each in brackets, or all between one pair of parentheses
+abbrev pub several : Rule → Rule → Rule
+several q r = choice (is_mark m.OpenParen) (parens (list r)) (dims q)
+
+-- the same, or none
+abbrev pub any_several : Rule → Rule
+any_several r = choice (is_mark m.OpenParen) (parens (list r)) (any_dims r)
+
 -- an expression behind which no colon may stand but an image's
 abbrev pub expr : Rule
 expr = part (p.expression false)
@@ -331,8 +339,22 @@ item_of (t.Word w.Long) = p.declaration
 item_of t.Pragma = p.line_in_block
 item_of kind = statement_of kind
 
-abbrev pub subscripts_rule : Rule
-subscripts_rule = any_dims expr
+-- The end of a nodes line of one size: the set of nodes that it names, where there is one.
+abbrev pub nodes_end : Rule
+nodes_end = optional (is_mark m.Assign) (sign m.Assign · part p.set) · line_end
+
+-- The sizes of a nodes line behind its name, to the end of the line: `*`, or sizes, of which one alone may have a set behind it.
+abbrev pub nodes_in_parens : Rule
+nodes_in_parens = tok opening (is_mark m.OpenParen) · choice (is_mark m.Star)
+    (sign m.Star · tok closing (is_mark m.CloseParen) · line_end)
+    (expr · choice (is_mark m.Comma)
+    (many (is_mark m.Comma) (comma · expr) · tok closing (is_mark m.CloseParen) · line_end)
+    (tok closing (is_mark m.CloseParen) · nodes_end))
+
+abbrev pub nodes_in_brackets : Rule
+nodes_in_brackets = tok opening (is_mark m.OpenBracket) · choice (is_mark m.Star)
+    (sign m.Star · tok closing (is_mark m.CloseBracket) · line_end)
+    (expr · tok closing (is_mark m.CloseBracket) · choice (is_mark m.OpenBracket) (dims expr · line_end) nodes_end)
 
 -- The grammar.
 abbrev pub rule : Part → Rule
@@ -395,14 +417,12 @@ rule p.directive = tok plain is_pragma · by directive_of
 rule p.mapping = tok plain is_pragma · by mapping_of
 rule p.line_in_block = tok plain is_pragma · by line_of
 -- the rest of each, from its word on
-rule p.nodes = spelled (codes "nodes") · name · tok opening (is_mark m.OpenBracket) · choice (is_mark m.Star)
-    (sign m.Star · tok closing (is_mark m.CloseBracket) · line_end)
-    (expr · tok closing (is_mark m.CloseBracket) · any_dims expr · line_end)
-rule p.template = spelled (codes "template") · name · dims expr · line_end
-rule p.distribute = spelled (codes "distribute") · name · dims (part p.dist_form) · spelled (codes "onto") · name · line_end
-rule p.align = spelled (codes "align") · name · dims (choice (is_mark m.Star) (sign m.Star) name) · spelled (codes "with") · name · dims (part p.point) · line_end
-rule p.shadow = spelled (codes "shadow") · name · dims (expr_colon · optional (is_mark m.Colon) (sign m.Colon · expr)) · line_end
-rule p.loop = counted (spelled (codes "loop") · optional (is_mark m.OpenParen) (parens (part p.names)) · spelled (codes "on") · name · dims (part p.point)
+rule p.nodes = spelled (codes "nodes") · name · choice (is_mark m.OpenParen) nodes_in_parens nodes_in_brackets
+rule p.template = spelled (codes "template") · name · several expr (part p.range) · line_end
+rule p.distribute = spelled (codes "distribute") · name · several (part p.how) (part p.how) · spelled (codes "onto") · name · line_end
+rule p.align = spelled (codes "align") · name · dims (part p.align_dimension) · spelled (codes "with") · name · several (part p.place) (part p.place) · line_end
+rule p.shadow = spelled (codes "shadow") · name · dims (part p.range) · line_end
+rule p.loop = counted (spelled (codes "loop") · optional (is_mark m.OpenParen) (parens (part p.names)) · spelled (codes "on") · name · several (part p.place) (part p.place)
     · many (is_spelled (codes "reduction")) (part p.reduction) · line_end · part p.for_statement)
 rule p.reflect = spelled (codes "reflect") · parens (part p.names) · line_end
 rule p.barrier = spelled (codes "barrier") · line_end
@@ -411,13 +431,16 @@ rule p.gmove = spelled (codes "gmove") · line_end · part p.sections · sign m.
 rule p.task = counted (spelled (codes "task") · spelled (codes "on") · part p.set · line_end · part p.statement)
 rule p.tasks = counted (spelled (codes "tasks") · line_end · braces (many is_pragma (tok plain is_pragma · part p.task)))
 rule p.names = list name
-rule p.dist_form = choice (is_mark m.Star) (sign m.Star) (
+rule p.how = choice (is_mark m.Star) (sign m.Star) (
     choice (is_spelled (codes "block")) (spelled (codes "block")) (
     choice (is_spelled (codes "cyclic")) (spelled (codes "cyclic") · optional (is_mark m.OpenParen) (parens expr)) (
     spelled (codes "gblock") · parens (braces (list expr)))))
-rule p.point = choice (is_mark m.Star) (sign m.Star) (name · optional is_offset (tok operator is_offset · part (p.level 1 false)))
-rule p.set = name · any_dims (choice (is_mark m.Colon) (sign m.Colon) (expr_colon · optional (is_mark m.Colon) (sign m.Colon · expr)))
-rule p.sections = name · any_dims (choice (is_mark m.Colon) (sign m.Colon) (
-    expr_colon · optional (is_mark m.Colon) (sign m.Colon · expr_colon · optional (is_mark m.Colon) (sign m.Colon · expr))))
+rule p.align_dimension = choice (is_mark m.Star) (sign m.Star) name
+rule p.place = choice (is_mark m.Star) (sign m.Star) (name · optional is_offset (tok operator is_offset · part (p.level 0 false)))
+rule p.range = expr_colon · optional (is_mark m.Colon) (sign m.Colon · expr)
+rule p.piece = choice (is_mark m.Colon) (sign m.Colon) (part p.range)
+rule p.section = choice (is_mark m.Colon) (sign m.Colon) (expr_colon · optional (is_mark m.Colon) (sign m.Colon · part p.range))
+rule p.set = name · any_several (part p.piece)
+rule p.sections = name · any_dims (part p.section)
 rule p.reduction = spelled (codes "reduction") · parens (choice is_reduction (tok plain is_reduction) (tok plain is_max_or_min) · sign m.Colon · part p.names)
 rule p.no_part = tok plain (λ k. false)

@@ -54,8 +54,14 @@ pub data Part : Type 0 where
   task : Part
   tasks : Part
   names : Part
-  dist_form : Part
-  point : Part
+  -- one dimension each: how it is distributed, one of an array's, a place on a template, a bound or a width, a piece, a section
+  how : Part
+  align_dimension : Part
+  place : Part
+  range : Part
+  piece : Part
+  section : Part
+  -- a set of nodes, and a part of an array
   set : Part
   sections : Part
   reduction : Part

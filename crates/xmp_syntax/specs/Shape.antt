@@ -13,6 +13,10 @@ use Rattle.xmp_syntax.specs.declared.parts.Placed.{Placed}
 use Rattle.xmp_syntax.specs.declared.parts.CommaList.{CommaList}
 use Rattle.xmp_syntax.specs.declared.parts.Next.{Next}
 use Rattle.xmp_syntax.specs.declared.parts.Inside.{Inside}
+use Rattle.xmp_syntax.specs.declared.parts.Several.{Several}
+use Rattle.xmp_syntax.specs.declared.parts.Several.TheVariants as sev
+use Rattle.xmp_syntax.specs.declared.parts.Single.{Single}
+use Rattle.xmp_syntax.specs.declared.parts.Single.TheVariants as one
 use Rattle.xmp_syntax.specs.declared.parts.TypeWords.{TypeWords}
 use Rattle.xmp_syntax.specs.declared.parts.TypeWords.TheVariants as tw
 use Rattle.xmp_syntax.specs.Spell.{type_word}
@@ -30,6 +34,9 @@ use Rattle.xmp_syntax.specs.declared.directive.Point.TheVariants as pt
 use Rattle.xmp_syntax.specs.declared.directive.Section.{Section}
 use Rattle.xmp_syntax.specs.declared.directive.Section.TheVariants as s
 use Rattle.xmp_syntax.specs.declared.directive.Sections.{Sections}
+use Rattle.xmp_syntax.specs.declared.directive.Piece.{Piece}
+use Rattle.xmp_syntax.specs.declared.directive.Piece.TheVariants as pi
+use Rattle.xmp_syntax.specs.declared.directive.NodesSet.{NodesSet}
 use Rattle.xmp_syntax.specs.declared.directive.Mapping.{Mapping}
 use Rattle.xmp_syntax.specs.declared.directive.Mapping.TheVariants as mp
 use Rattle.xmp_syntax.specs.declared.directive.ReductionOperator.{ReductionOperator}
@@ -110,6 +117,14 @@ in_braces f = inside m.OpenBrace f m.CloseBrace
 
 abbrev pub dims : {A : Type 0} → (A → Outline) → List (Inside A) → Outline
 dims f = each (in_brackets f)
+
+abbrev pub several : {A B : Type 0} → (A → Outline) → (B → Outline) → Several A B → Outline
+several f g (sev.Brackets xs) r = dims f xs r
+several f g (sev.Parens x) r = in_parens (list g) x r
+
+abbrev pub single : {A : Type 0} → (A → Outline) → Single A → Outline
+single f (one.Bracket x) r = in_brackets f x r
+single f (one.Paren x) r = in_parens f x r
 
 abbrev pub type_words : TypeWords → Outline
 type_words (tw.Int p) r = word w.Int r
@@ -208,16 +223,24 @@ section (s.Numbers a n k) r = expr a (optional after_colon n (optional after_col
 abbrev pub sections : Sections → Outline
 sections x r = name x.name (dims section x.sections r)
 
-abbrev pub width : made.Expr × Option (Place × made.Expr) → Outline
-width x r = expr x.0 (optional after_colon x.1 r)
+abbrev pub range : made.Expr × Option (Place × made.Expr) → Outline
+range x r = expr x.0 (optional after_colon x.1 r)
+
+abbrev pub piece : Piece → Outline
+piece (pi.All p) r = sign m.Colon r
+piece (pi.Numbers a n) r = range (a, n) r
+
+abbrev pub nodes_set : NodesSet → Outline
+nodes_set x r = name x.name (several piece piece x.pieces r)
 
 abbrev pub mapping_shape : Mapping → Outline
-mapping_shape (mp.Nodes l n ds) = line (codes "nodes") (λ r. name n (dims expr ds r))
-mapping_shape (mp.NodesStar l n x) = line (codes "nodes") (λ r. name n (in_brackets star x r))
-mapping_shape (mp.Template l n ds) = line (codes "template") (λ r. name n (dims expr ds r))
-mapping_shape (mp.Distribute l n fs p o) = line (codes "distribute") (λ r. name n (dims dist_form fs (spelled (codes "onto") (name o r))))
-mapping_shape (mp.Align l n xs p o ps) = line (codes "align") (λ r. name n (dims align_dimension xs (spelled (codes "with") (name o (dims point ps r)))))
-mapping_shape (mp.Shadow l n ws) = line (codes "shadow") (λ r. name n (dims width ws r))
+mapping_shape (mp.Nodes l n x) = line (codes "nodes") (λ r. name n (several expr expr x r))
+mapping_shape (mp.NodesStar l n x) = line (codes "nodes") (λ r. name n (single star x r))
+mapping_shape (mp.NodesPart l n x p y) = line (codes "nodes") (λ r. name n (single expr x (sign m.Assign (nodes_set y r))))
+mapping_shape (mp.Template l n x) = line (codes "template") (λ r. name n (several expr range x r))
+mapping_shape (mp.Distribute l n x p o) = line (codes "distribute") (λ r. name n (several dist_form dist_form x (spelled (codes "onto") (name o r))))
+mapping_shape (mp.Align l n xs p o x) = line (codes "align") (λ r. name n (dims align_dimension xs (spelled (codes "with") (name o (several point point x r)))))
+mapping_shape (mp.Shadow l n ws) = line (codes "shadow") (λ r. name n (dims range ws r))
 
 abbrev pub reduction_operator : ReductionOperator → Outline
 reduction_operator (ro.Mark x) r = sign x.what r
@@ -231,10 +254,10 @@ abbrev pub reduction : Reduction → Outline
 reduction x r = spelled (codes "reduction") (in_parens reduction_list x.list r)
 
 abbrev pub loop_line : LoopLine → Outline
-loop_line x = line (codes "loop") (λ r. optional (in_parens names) x.names (spelled (codes "on") (name x.template (dims point x.points (each reduction x.reductions r)))))
+loop_line x = line (codes "loop") (λ r. optional (in_parens names) x.names (spelled (codes "on") (name x.template (several point point x.points (each reduction x.reductions r)))))
 
 abbrev pub task_line : TaskLine → Outline
-task_line x = line (codes "task") (λ r. spelled (codes "on") (sections x.set r))
+task_line x = line (codes "task") (λ r. spelled (codes "on") (nodes_set x.set r))
 
 -- Statements.
 abbrev pub simple_shape : Simple → Outline
@@ -262,7 +285,7 @@ plain_shape (pl.Scan p x q) r = word w.Scanf (in_parens (λ y z. format y.0 (sig
 plain_shape (pl.Sync p x q) r = word w.SyncAll (in_parens (λ y z. sign m.And (ref_shape (ref_view y.1) z)) x (sign m.Semicolon r))
 plain_shape (pl.Reflect l ns) r = line (codes "reflect") (in_parens names ns) r
 plain_shape (pl.Barrier l) r = line (codes "barrier") (λ z. z) r
-plain_shape (pl.Bcast l ns p x) r = line (codes "bcast") (λ z. in_parens names ns (spelled (codes "from") (sections x z))) r
+plain_shape (pl.Bcast l ns p x) r = line (codes "bcast") (λ z. in_parens names ns (spelled (codes "from") (nodes_set x z))) r
 plain_shape (pl.Gmove l a p x q) r = line (codes "gmove") (λ z. z) (sections a (sign m.Assign (sections x (sign m.Semicolon r))))
 
 abbrev mutual

@@ -16,6 +16,10 @@ use Rattle.xmp_syntax.specs.declared.parts.Placed.{Placed}
 use Rattle.xmp_syntax.specs.declared.parts.CommaList.{CommaList}
 use Rattle.xmp_syntax.specs.declared.parts.Next.{Next}
 use Rattle.xmp_syntax.specs.declared.parts.Inside.{Inside}
+use Rattle.xmp_syntax.specs.declared.parts.Several.{Several}
+use Rattle.xmp_syntax.specs.declared.parts.Several.TheVariants as sev
+use Rattle.xmp_syntax.specs.declared.parts.Single.{Single}
+use Rattle.xmp_syntax.specs.declared.parts.Single.TheVariants as one
 use Rattle.xmp_syntax.specs.declared.parts.TypeWords.{TypeWords}
 use Rattle.xmp_syntax.specs.declared.parts.TypeWords.TheVariants as tw
 use Rattle.xmp_syntax.specs.declared.expression.Expr as made
@@ -32,6 +36,9 @@ use Rattle.xmp_syntax.specs.declared.directive.Point.TheVariants as pt
 use Rattle.xmp_syntax.specs.declared.directive.Section.{Section}
 use Rattle.xmp_syntax.specs.declared.directive.Section.TheVariants as s
 use Rattle.xmp_syntax.specs.declared.directive.Sections.{Sections}
+use Rattle.xmp_syntax.specs.declared.directive.Piece.{Piece}
+use Rattle.xmp_syntax.specs.declared.directive.Piece.TheVariants as pi
+use Rattle.xmp_syntax.specs.declared.directive.NodesSet.{NodesSet}
 use Rattle.xmp_syntax.specs.declared.directive.Mapping.{Mapping}
 use Rattle.xmp_syntax.specs.declared.directive.Mapping.TheVariants as mp
 use Rattle.xmp_syntax.specs.declared.directive.ReductionOperator.{ReductionOperator}
@@ -111,6 +118,16 @@ in_braces f = inside m.OpenBrace f m.CloseBrace
 -- `{ "[" f "]" }`
 abbrev pub dims : {A : Type 0} → (A → Text) → List (Inside A) → Text
 dims f = each (in_brackets f)
+
+-- each in brackets, or all between one pair of parentheses
+abbrev pub several : {A B : Type 0} → (A → Text) → (B → Text) → Several A B → Text
+several f g (sev.Brackets xs) r = dims f xs r
+several f g (sev.Parens x) r = in_parens (list g) x r
+
+-- in brackets or in parentheses
+abbrev pub single : {A : Type 0} → (A → Text) → Single A → Text
+single f (one.Bracket x) r = in_brackets f x r
+single f (one.Paren x) r = in_parens f x r
 
 abbrev pub type_word : Ty → Reserved
 type_word ty.Int = w.Int
@@ -209,16 +226,25 @@ section (s.Numbers a n k) r = expr a (optional after_colon n (optional after_col
 abbrev pub sections : Sections → Text
 sections x r = name x.name (dims section x.sections r)
 
-abbrev pub width : made.Expr × Option (Place × made.Expr) → Text
-width x r = expr x.0 (optional after_colon x.1 r)
+-- a bound of a template, the widths of a shadow, the numbers of a piece: one, or two with a colon between them
+abbrev pub range : made.Expr × Option (Place × made.Expr) → Text
+range x r = expr x.0 (optional after_colon x.1 r)
+
+abbrev pub piece : Piece → Text
+piece (pi.All p) r = sign m.Colon p r
+piece (pi.Numbers a n) r = range (a, n) r
+
+abbrev pub nodes_set : NodesSet → Text
+nodes_set x r = name x.name (several piece piece x.pieces r)
 
 abbrev pub spell_mapping : Mapping → Text
-spell_mapping (mp.Nodes l n ds) = directive_line (codes "nodes") (λ r. name n (dims expr ds r)) l
-spell_mapping (mp.NodesStar l n x) = directive_line (codes "nodes") (λ r. name n (in_brackets (sign m.Star) x r)) l
-spell_mapping (mp.Template l n ds) = directive_line (codes "template") (λ r. name n (dims expr ds r)) l
-spell_mapping (mp.Distribute l n fs p o) = directive_line (codes "distribute") (λ r. name n (dims dist_form fs (spelled (codes "onto") p (name o r)))) l
-spell_mapping (mp.Align l n xs p o ps) = directive_line (codes "align") (λ r. name n (dims align_dimension xs (spelled (codes "with") p (name o (dims point ps r))))) l
-spell_mapping (mp.Shadow l n ws) = directive_line (codes "shadow") (λ r. name n (dims width ws r)) l
+spell_mapping (mp.Nodes l n x) = directive_line (codes "nodes") (λ r. name n (several expr expr x r)) l
+spell_mapping (mp.NodesStar l n x) = directive_line (codes "nodes") (λ r. name n (single (sign m.Star) x r)) l
+spell_mapping (mp.NodesPart l n x p y) = directive_line (codes "nodes") (λ r. name n (single expr x (sign m.Assign p (nodes_set y r)))) l
+spell_mapping (mp.Template l n x) = directive_line (codes "template") (λ r. name n (several expr range x r)) l
+spell_mapping (mp.Distribute l n x p o) = directive_line (codes "distribute") (λ r. name n (several dist_form dist_form x (spelled (codes "onto") p (name o r)))) l
+spell_mapping (mp.Align l n xs p o x) = directive_line (codes "align") (λ r. name n (dims align_dimension xs (spelled (codes "with") p (name o (several point point x r))))) l
+spell_mapping (mp.Shadow l n ws) = directive_line (codes "shadow") (λ r. name n (dims range ws r)) l
 
 abbrev pub reduction_operator : ReductionOperator → Text
 reduction_operator (ro.Mark x) r = sign x.what x.at r
@@ -232,10 +258,10 @@ abbrev pub reduction : Reduction → Text
 reduction x r = spelled (codes "reduction") x.word (in_parens reduction_list x.list r)
 
 abbrev pub loop_line : LoopLine → Text
-loop_line x = directive_line (codes "loop") (λ r. optional (in_parens names) x.names (spelled (codes "on") x.on (name x.template (dims point x.points (each reduction x.reductions r))))) x.line
+loop_line x = directive_line (codes "loop") (λ r. optional (in_parens names) x.names (spelled (codes "on") x.on (name x.template (several point point x.points (each reduction x.reductions r))))) x.line
 
 abbrev pub task_line : TaskLine → Text
-task_line x = directive_line (codes "task") (λ r. spelled (codes "on") x.on (sections x.set r)) x.line
+task_line x = directive_line (codes "task") (λ r. spelled (codes "on") x.on (nodes_set x.set r)) x.line
 
 -- Statements.
 abbrev pub spell_simple : Simple → Text
@@ -263,7 +289,7 @@ spell_plain (pl.Scan p x q) r = word w.Scanf p (in_parens (λ y z. format y.0 (s
 spell_plain (pl.Sync p x q) r = word w.SyncAll p (in_parens (λ y z. sign m.And y.0 (spell_ref (ref_view y.1) z)) x (sign m.Semicolon q r))
 spell_plain (pl.Reflect l ns) r = directive_line (codes "reflect") (in_parens names ns) l r
 spell_plain (pl.Barrier l) r = directive_line (codes "barrier") (λ z. z) l r
-spell_plain (pl.Bcast l ns p x) r = directive_line (codes "bcast") (λ z. in_parens names ns (spelled (codes "from") p (sections x z))) l r
+spell_plain (pl.Bcast l ns p x) r = directive_line (codes "bcast") (λ z. in_parens names ns (spelled (codes "from") p (nodes_set x z))) l r
 spell_plain (pl.Gmove l a p x q) r = directive_line (codes "gmove") (λ z. z) l (sections a (sign m.Assign p (sections x (sign m.Semicolon q r))))
 
 abbrev mutual

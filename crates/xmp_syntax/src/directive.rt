@@ -1,6 +1,6 @@
 // The lines of directives (XcalableMP 1.4, sections 4 to 6).
 use crate::expression::Expr;
-use crate::parts::{CommaList, Inside, Name, Placed};
+use crate::parts::{CommaList, Inside, Name, Placed, Several, Single};
 use sqlite_items::Items;
 use xmp_base::Place;
 use xmp_lex::Mark;
@@ -13,7 +13,7 @@ pub struct DirectiveLine {
     pub end: Place,
 }
 
-/// The form of a distribution, inside its brackets.
+/// How a dimension is distributed, inside its brackets or between commas.
 #[derive(Drop)]
 pub enum DistForm {
     /// `*`
@@ -32,37 +32,57 @@ pub enum AlignDimension {
     Dummy(Name),
 }
 
-/// A dimension of a template in an align or a loop, inside its brackets: `*`, or a name with an offset.
+/// A dimension of a template in an align or a loop: `*`, or a name with the sign and the operand of its offset.
 #[derive(Drop)]
 pub enum Point {
     Star(Place),
     Index(Name, Option<(Placed<Mark>, Expr)>),
 }
 
-/// A section, inside its brackets: `:` alone, or up to three numbers.
+/// A section of an array in a gmove, inside its brackets: `:` alone, or up to three numbers.
 #[derive(Drop)]
 pub enum Section {
     All(Place),
     Numbers(Expr, Option<(Place, Expr)>, Option<(Place, Expr)>),
 }
 
-/// A part of an array, or of a nodes array or template.
+/// A part of an array in a gmove.
 #[derive(Drop)]
 pub struct Sections {
     pub name: Name,
     pub sections: Items<Inside<Section>>,
 }
 
+/// A dimension of a set of nodes: `:` alone, or one number or two. In brackets `b:n` are the n nodes from b on,
+/// in parentheses `b:e` are the nodes b to e.
+#[derive(Drop)]
+pub enum Piece {
+    All(Place),
+    Numbers(Expr, Option<(Place, Expr)>),
+}
+
+/// A set of nodes: all of a nodes array, or a piece of each of its dimensions.
+#[derive(Drop)]
+pub struct NodesSet {
+    pub name: Name,
+    pub pieces: Several<Piece, Piece>,
+}
+
 #[derive(Drop)]
 pub enum Mapping {
-    Nodes(DirectiveLine, Name, Items<Inside<Expr>>),
-    /// `nodes NAME [*]`
-    NodesStar(DirectiveLine, Name, Inside<Place>),
-    Template(DirectiveLine, Name, Items<Inside<Expr>>),
-    /// The template, its forms, `onto` and the nodes array.
-    Distribute(DirectiveLine, Name, Items<Inside<DistForm>>, Place, Name),
+    /// The nodes array and its sizes.
+    Nodes(DirectiveLine, Name, Several<Expr, Expr>),
+    /// The nodes array with `*` as its one size.
+    NodesStar(DirectiveLine, Name, Single<Place>),
+    /// The nodes array, its one size, `=` and the set of nodes that it names.
+    NodesPart(DirectiveLine, Name, Single<Expr>, Place, NodesSet),
+    /// The template, with a size in each of its brackets, or its bounds in parentheses: one number `n` for 1 to n,
+    /// or two with `:` between them.
+    Template(DirectiveLine, Name, Several<Expr, (Expr, Option<(Place, Expr)>)>),
+    /// The template, how its dimensions are distributed, `onto` and the nodes array.
+    Distribute(DirectiveLine, Name, Several<DistForm, DistForm>, Place, Name),
     /// The array, its dimensions, `with`, the template and its points.
-    Align(DirectiveLine, Name, Items<Inside<AlignDimension>>, Place, Name, Items<Inside<Point>>),
+    Align(DirectiveLine, Name, Items<Inside<AlignDimension>>, Place, Name, Several<Point, Point>),
     /// The array, with one width or both widths of each dimension.
     Shadow(DirectiveLine, Name, Items<Inside<(Expr, Option<(Place, Expr)>)>>),
 }
@@ -88,7 +108,7 @@ pub struct LoopLine {
     pub names: Option<Inside<CommaList<Name>>>,
     pub on: Place,
     pub template: Name,
-    pub points: Items<Inside<Point>>,
+    pub points: Several<Point, Point>,
     pub reductions: Items<Reduction>,
 }
 
@@ -97,5 +117,5 @@ pub struct LoopLine {
 pub struct TaskLine {
     pub line: DirectiveLine,
     pub on: Place,
-    pub set: Sections,
+    pub set: NodesSet,
 }

@@ -14,7 +14,7 @@ mod statement;
 
 pub use declaration::{Declaration, Declarator};
 pub use directive::{
-    AlignDimension, DirectiveLine, DistForm, LoopLine, Mapping, Point, Reduction,
+    AlignDimension, DirectiveLine, DistForm, LoopLine, Mapping, NodesSet, Piece, Point, Reduction,
     ReductionOperator, Section, Sections, TaskLine,
 };
 pub use expression::Expr;
@@ -23,7 +23,8 @@ pub use laws::{
     one_deep_token, one_stuck_token, one_tree, same_tokens, shorter_begins,
 };
 pub use parts::{
-    Call, CommaList, Format, Image, Inside, Link, Name, Next, Placed, Reference, TypeWords,
+    Call, CommaList, Format, Image, Inside, Link, Name, Next, Placed, Reference, Several, Single,
+    TypeWords,
 };
 pub use program::{Function, Parameters, TopItem, Tree};
 pub use statement::{BlockItem, ForFirst, ForHead, Plain, Simple, Stmt};

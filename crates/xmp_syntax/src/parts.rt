@@ -46,6 +46,21 @@ pub struct Inside<T> {
     pub close: Place,
 }
 
+/// Several parts, either each in brackets of its own or all between one pair of parentheses with commas between them.
+/// `Brackets` of none are no tokens: a set of nodes without pieces. Parentheses have at least one part.
+#[derive(Drop)]
+pub enum Several<B, P> {
+    Brackets(Items<Inside<B>>),
+    Parens(Inside<CommaList<P>>),
+}
+
+/// One part, in brackets or in parentheses.
+#[derive(Drop)]
+pub enum Single<T> {
+    Bracket(Inside<T>),
+    Paren(Inside<T>),
+}
+
 /// `":" "[" expr "]"`
 #[derive(Drop)]
 pub struct Image<E> {

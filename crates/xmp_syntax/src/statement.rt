@@ -1,6 +1,6 @@
 // Statements and the directives among them.
 use crate::declaration::Declaration;
-use crate::directive::{DirectiveLine, LoopLine, Mapping, Sections, TaskLine};
+use crate::directive::{DirectiveLine, LoopLine, Mapping, NodesSet, Sections, TaskLine};
 use crate::expression::Expr;
 use crate::parts::{Call, CommaList, Format, Inside, Name, Next, Placed, Reference};
 use sqlite_items::{Boxed, Items};
@@ -55,7 +55,7 @@ pub enum Plain {
     Reflect(DirectiveLine, Inside<CommaList<Name>>),
     Barrier(DirectiveLine),
     /// The names, `from` and the set of nodes.
-    Bcast(DirectiveLine, Inside<CommaList<Name>>, Place, Sections),
+    Bcast(DirectiveLine, Inside<CommaList<Name>>, Place, NodesSet),
     /// The target, `=` and the source.
     Gmove(DirectiveLine, Sections, Place, Sections, Place),
 }
