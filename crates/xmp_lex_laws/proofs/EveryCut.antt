@@ -20,7 +20,8 @@ use Rattle.xmp_lex_laws.proofs.FormsFound.{PieceFound, stands, breaks, form_at}
 -- ---- one piece
 
 -- outside of `#` lines
-outside : (text : List ℕ) (x : LineState) → IsOutside x → x ≢ state.ignored → (x ≡ state.directive → ⊥) → 0 < length text → Decided ((x ≡ state.fresh) × (get_or text 0 0 ≡ 35)) → PieceFound text x
+outside : (text : List ℕ) (x : LineState) → IsOutside x → x ≢ state.ignored → (x ≡ state.directive → ⊥) → 0 < length text
+    → Decided ((x ≡ state.fresh) × (get_or text 0 0 ≡ 35)) → PieceFound text x
 outside text x o i d some h = by h (is_white (get_or text 0 0)) refl (comment_at text) where
   token_found : (x ≡ state.fresh → get_or text 0 0 ≢ 35) → TokenFound text → PieceFound text x
   token_found f (spelled n kind s l) = stands n ((0, kind) ∷ []) (behind_token x) (token x n kind i s) l
@@ -68,7 +69,8 @@ CutOrRefused text = ((tokens : List Token) × Cut text tokens) ⊎ ((rule : ℕ)
 one_beyond : (xs : List Token) → token_limit < length xs → (x : Token) × (slice_get xs token_limit ≡ Some x)
 one_beyond xs l = elim (slice_get_cases xs token_limit).1 [ inl w ↦ (w.0, w.2) | inr w ↦ (let v = w.0 in absurd (omega arith)) ]
 
-at_end : (text : List ℕ) (f : Front) → Cuts text f → length f.tokens ≤ token_limit → f.rest ≡ [] → (token_limit < length (last f)) ⊎ (length (last f) ≤ token_limit) → CutOrRefused text
+at_end : (text : List ℕ) (f : Front) → Cuts text f → length f.tokens ≤ token_limit → f.rest ≡ []
+    → (token_limit < length (last f)) ⊎ (length (last f) ≤ token_limit) → CutOrRefused text
 at_end text f c few e (inl l) = let b = one_beyond (last f) l in inr (5, b.0.at, too_many_last f b.0 c few e b.1)
 at_end text f c few e (inr l) = inl (last f, record { front = f; cuts = c; whole = e; tokens_are = refl; few = l })
 
@@ -82,7 +84,8 @@ module _ (text : List ℕ) where
     by (inl m) = let b = one_beyond (f.tokens ++ placed f.at f.rest out) m in inr (5, b.0.at, too_many f n out x b.0 c few some p b.1)
     by (inr m) = on (after f n out x) (piece f n out x c some p) m (omega (arith, length-drop n f.rest))
 
-  cut_from : (fuel : ℕ) (f : Front) → length f.rest ≤ fuel → Cuts text f → length f.tokens ≤ token_limit → (r : List ℕ) → f.rest ≡ r → CutOrRefused text
+  cut_from : (fuel : ℕ) (f : Front) → length f.rest ≤ fuel → Cuts text f → length f.tokens ≤ token_limit → (r : List ℕ) → f.rest ≡ r
+      → CutOrRefused text
   cut_from fuel f h c few [] e = at_end text f c few e (cases_lt token_limit (length (last f)))
   cut_from zero f h c few (b ∷ r) e = let z = ap length e in absurd (omega arith)
   cut_from (suc m) f h c few (b ∷ r) e =

@@ -15,7 +15,8 @@ Judged es = IsFine es ⊎ ((rule : ℕ) × (at : Place) × BreaksMacroRule es ru
 
 module _ (es : List Event) where
   -- an event that counts, behind events that break no rule
-  counted : (before after : List Event) (e : Event) → es ≡ before ++ e ∷ after → IsFine before → counts e ≡ true → Decided (length before ≡ token_limit)
+  counted : (before after : List Event) (e : Event) → es ≡ before ++ e ∷ after → IsFine before → counts e ≡ true
+      → Decided (length before ≡ token_limit)
       → (es ≡ (before ++ e ∷ []) ++ after → IsFine (before ++ e ∷ []) → Judged es) → Judged es
   counted before after e h f c (inl q) on = inr (2, place_of e, too_many before after e h c f q)
   counted before after e h f c (inr q) on = on (h ∙ sym (append_assoc before (e ∷ []) after)) (record {

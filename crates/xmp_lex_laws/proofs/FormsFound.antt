@@ -23,7 +23,8 @@ pub data PieceFound (text : List ℕ) (x : LineState) : Type 0 where
 module _ (text : List ℕ) where
   define_at : (m : ℕ) → LineHead text m (codes "define") → m ≤ length text → PieceFound text state.fresh
   define_at m h le = by (is_letter (get_or (drop m text) 0 0)) refl (run_at (drop m text)) where
-    named : is_letter (get_or (drop m text) 0 0) ≡ true → (k : ℕ) → IsRun (drop m text) k → Decided (get_or (drop m text) k 0 ≡ 40) → Decided ((r : Reserved) × (take k (drop m text) ≡ word_text r)) → PieceFound text state.fresh
+    named : is_letter (get_or (drop m text) 0 0) ≡ true → (k : ℕ) → IsRun (drop m text) k → Decided (get_or (drop m text) k 0 ≡ 40)
+        → Decided ((r : Reserved) × (take k (drop m text) ≡ word_text r)) → PieceFound text state.fresh
     named e k r (inl b) w = breaks 6 0 (bracket text (drop m text) m k (get_or (drop m text) k 0) h refl r refl b).0
     named e k r (inr b) (inl w) = breaks 6 0 (reserved text (drop m text) (take k (drop m text)) m k w.0 h refl r refl w.1).0
     named e k r (inr b) (inr f) =
@@ -38,7 +39,8 @@ module _ (text : List ℕ) where
   include_at m h le (inl e) = let z = include_found text (drop m text) m (get_or (drop m text) 0 0) h le refl refl e in stands m [] state.ignored z.0 z.2
   include_at m h le (inr f) = breaks 6 0 (no_include_found text (drop m text) m (get_or (drop m text) 0 0) h refl refl f).0
 
-  pragma_at : (n m : ℕ) → LineWord text n (codes "pragma") → LineHead text m (codes "pragma") → m ≤ length text → (k : ℕ) × IsRun (drop m text) k → PieceFound text state.fresh
+  pragma_at : (n m : ℕ) → LineWord text n (codes "pragma") → LineHead text m (codes "pragma") → m ≤ length text → (k : ℕ) × IsRun (drop m text) k
+      → PieceFound text state.fresh
   pragma_at n m v h le x = by (same_bytes (take x.0 (drop m text)) (codes "xmp")) where
     by : Decided (take x.0 (drop m text) ≡ codes "xmp") → PieceFound text state.fresh
     by (inl e) = let z = pragma_found text (drop m text) (take x.0 (drop m text)) m x.0 h le refl x.1 refl e in stands (m + x.0) _ state.directive z.0 z.2

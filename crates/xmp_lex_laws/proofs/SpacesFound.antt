@@ -53,7 +53,8 @@ splice_at text = by (cases_eq (get_or text 0 0) 92) (cases_eq (get_or text 1 0) 
   neither f g n (two _ a b e) = f b
   neither f g n (three _ a b d e) = g b d
 
-  by : Decided (get_or text 0 0 ≡ 92) → Decided (get_or text 1 0 ≡ 10) → Decided (get_or text 1 0 ≡ 13) → Decided (get_or text 2 0 ≡ 10) → SomeOrNone (Splice text)
+  by : Decided (get_or text 0 0 ≡ 92) → Decided (get_or text 1 0 ≡ 10) → Decided (get_or text 1 0 ≡ 13) → Decided (get_or text 2 0 ≡ 10)
+      → SomeOrNone (Splice text)
   by (inr a) b c d = inr (λ x. a (backslash text x.0 x.1))
   by (inl a) (inl b) c d = inl (2, two 2 a b refl)
   by (inl a) (inr b) (inl c) (inl d) = inl (3, three 3 a c d refl)
@@ -75,7 +76,8 @@ space_at text = by (comment_at text) where
   behind_comment n c h o true e = space (n + 1) (comment_splice n (n + 1) c e refl) (let f = spliced_fits text n e in omega arith) (omega arith)
   behind_comment n c h o false e = space n (comment n c e) h o
 
-  no_comment : (IsBlockStart text → ⊥) → (IsLineStart text → ⊥) → SomeOrNone (Splice text) → (b : Bool) → is_white (get_or text 0 0) ≡ b → Decided (get_or text 0 0 ≡ 10) → SpaceFound text
+  no_comment : (IsBlockStart text → ⊥) → (IsLineStart text → ⊥) → SomeOrNone (Splice text) → (b : Bool) → is_white (get_or text 0 0) ≡ b
+      → Decided (get_or text 0 0 ≡ 10) → SpaceFound text
   no_comment k l (inl x) b w f = space x.0 (splice x.0 x.1) (splice_fits text x.0 x.1) (splice_some text x.0 x.1)
   no_comment k l (inr j) true w (inr f) = space 1 (white 1 w f refl) (inside text 0 (λ e. zero_white (get_or text 0 0) w e)) (omega arith)
   no_comment k l (inr j) true w (inl e) = absent (no_space text k l (λ n s. j (n, s)) (λ v. e)) (λ o. k o.begins) k l

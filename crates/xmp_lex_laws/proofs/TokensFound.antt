@@ -86,19 +86,33 @@ word_at bytes = by (first (IsWord bytes) (λ k. same_bytes bytes (word_text (get
 abbrev IsBad : List ℕ → ℕ → Type 0
 IsBad run k = base_of run ≤ digit (get_or (digits_of run) k 0)
 
+-- the number that the digits of a run spell
+abbrev number_of : List ℕ → ℕ
+number_of run = value (base_of run) (digits_of run) (length (digits_of run))
+
+below : {a b : ℕ} → (a < b) ⊎ (b ≤ a) → Decided (b ≤ a)
+below (inl l) = inr (λ h. omega arith)
+below (inr h) = inl h
+
+above : (a b : ℕ) → (b ≤ a → ⊥) → a < b
+above a b f = elim (cases_lt a b) [ inl l ↦ l | inr h ↦ absurd (f h) ]
+
 pub number_at : (run : List ℕ) → SomeOrNone (IsNumber run)
-number_at run = by (cases_lt 0 (length (digits_of run))) (first (IsBad run) (λ k. bad (cases_lt (digit (get_or (digits_of run) k 0)) (base_of run))) (length (digits_of run))) (cases_lt (value (base_of run) (digits_of run) (length (digits_of run))) 9223372036854775808) where
-  bad : {a b : ℕ} → (a < b) ⊎ (b ≤ a) → Decided (b ≤ a)
-  bad (inl l) = inr (λ h. omega arith)
-  bad (inr h) = inl h
+number_at run = by (cases_lt 0 (length (digits_of run))) bad (cases_lt (number_of run) 9223372036854775808) where
+  bad : First (IsBad run) (length (digits_of run))
+  bad = first (IsBad run) (λ k. below (cases_lt (digit (get_or (digits_of run) k 0)) (base_of run))) (length (digits_of run))
 
-  good : (a b : ℕ) → (b ≤ a → ⊥) → a < b
-  good a b f = elim (cases_lt a b) [ inl l ↦ l | inr h ↦ absurd (f h) ]
-
-  by : (0 < length (digits_of run)) ⊎ (length (digits_of run) ≤ 0) → First (IsBad run) (length (digits_of run)) → (value (base_of run) (digits_of run) (length (digits_of run)) < 9223372036854775808) ⊎ (9223372036854775808 ≤ value (base_of run) (digits_of run) (length (digits_of run))) → SomeOrNone (IsNumber run)
+  by : (0 < length (digits_of run)) ⊎ (length (digits_of run) ≤ 0) → First (IsBad run) (length (digits_of run)) → (number_of run < 9223372036854775808) ⊎ (9223372036854775808 ≤ number_of run)
+      → SomeOrNone (IsNumber run)
   by (inr e) d v = inr (λ x. let s = x.1.some in omega arith)
   by (inl s) (found k h b f) v = inr (λ x. let e = x.1.value.each k h in omega arith)
-  by (inl s) (nowhere f) (inl v) = inl (value (base_of run) (digits_of run) (length (digits_of run)), record { some = s; value = record { each = λ k h. good (digit (get_or (digits_of run) k 0)) (base_of run) (f k h); is = refl; fits = v } })
+  by (inl s) (nowhere f) (inl v) = inl (
+    number_of run,
+    record {
+      some = s;
+      value = record { each = λ k h. above (digit (get_or (digits_of run) k 0)) (base_of run) (f k h); is = refl; fits = v };
+    },
+  )
   by (inl s) (nowhere f) (inr v) = inr (λ x. let e = x.1.value.is in let g = x.1.value.fits in omega arith)
 
 -- ---- marks
@@ -112,25 +126,28 @@ marks_at text = first (StandsAt text) (λ k. same_bytes (take (length (mark_text
 -- ---- texts
 
 text_at : (text : List ℕ) → get_or text 0 0 ≡ 34 → TokenFound text
-text_at text q = by (first_place (λ k. is_end (get_or (drop 1 text) k 0) (escaped (drop 1 text) k) ≡ true) (λ k. is_true (is_end (get_or (drop 1 text) k 0) (escaped (drop 1 text) k))) (drop 1 text)) where
-  no_value : (k : ℕ) (b : Bool) → escaped (drop 1 text) k ≡ b → (v : Option ℕ) → escape_value (get_or (drop 1 text) k 0) ≡ v → Decided (IsBadEscape (drop 1 text) k)
-  no_value k true e None f = inl (e, f)
-  no_value k true e (Some x) f = inr (λ h. let z = sym f ∙ h.1 in cc)
-  no_value k false e v f = inr (λ h. let z = sym e ∙ h.0 in cc)
+text_at text q =
+    by (first_place (λ k. is_end (get_or (drop 1 text) k 0) (escaped (drop 1 text) k) ≡ true) (λ k. is_true (is_end (get_or (drop 1 text) k 0) (escaped (drop 1 text) k)))
+    (drop 1 text)) where
+      no_value : (k : ℕ) (b : Bool) → escaped (drop 1 text) k ≡ b → (v : Option ℕ) → escape_value (get_or (drop 1 text) k 0) ≡ v
+          → Decided (IsBadEscape (drop 1 text) k)
+      no_value k true e None f = inl (e, f)
+      no_value k true e (Some x) f = inr (λ h. let z = sym f ∙ h.1 in cc)
+      no_value k false e v f = inr (λ h. let z = sym e ∙ h.0 in cc)
 
-  bad_at : (k : ℕ) → Decided (IsBadEscape (drop 1 text) k)
-  bad_at k = no_value k (escaped (drop 1 text) k) refl (escape_value (get_or (drop 1 text) k 0)) refl
+      bad_at : (k : ℕ) → Decided (IsBadEscape (drop 1 text) k)
+      bad_at k = no_value k (escaped (drop 1 text) k) refl (escape_value (get_or (drop 1 text) k 0)) refl
 
-  closed : (n : ℕ) → IsTextEnd (drop 1 text) n → get_or (drop 1 text) n 0 ≡ 34 → First (IsBadEscape (drop 1 text)) n → TokenFound text
-  closed n e c (found k h b f) = malformed 1 k (unknown_escape n k q e c h b f)
-  closed n e c (nowhere f) = spelled (n + 2) (t.Text (content (drop 1 text) n)) (quoted n (n + 2) q e c f refl) (omega arith)
+      closed : (n : ℕ) → IsTextEnd (drop 1 text) n → get_or (drop 1 text) n 0 ≡ 34 → First (IsBadEscape (drop 1 text)) n → TokenFound text
+      closed n e c (found k h b f) = malformed 1 k (unknown_escape n k q e c h b f)
+      closed n e c (nowhere f) = spelled (n + 2) (t.Text (content (drop 1 text) n)) (quoted n (n + 2) q e c f refl) (omega arith)
 
-  ends : (n : ℕ) → IsTextEnd (drop 1 text) n → Decided (get_or (drop 1 text) n 0 ≡ 34) → TokenFound text
-  ends n e (inl c) = closed n e c (first (IsBadEscape (drop 1 text)) bad_at n)
-  ends n e (inr c) = malformed 3 0 (p.unclosed n q e c)
+      ends : (n : ℕ) → IsTextEnd (drop 1 text) n → Decided (get_or (drop 1 text) n 0 ≡ 34) → TokenFound text
+      ends n e (inl c) = closed n e c (first (IsBadEscape (drop 1 text)) bad_at n)
+      ends n e (inr c) = malformed 3 0 (p.unclosed n q e c)
 
-  by : (n : ℕ) × IsTextEnd (drop 1 text) n → TokenFound text
-  by x = ends x.0 x.1 (cases_eq (get_or (drop 1 text) x.0 0) 34)
+      by : (n : ℕ) × IsTextEnd (drop 1 text) n → TokenFound text
+      by x = ends x.0 x.1 (cases_eq (get_or (drop 1 text) x.0 0) 34)
 
 -- ---- all
 
@@ -140,7 +157,8 @@ not_word b l d = or_false (is_letter b) (is_digit b) l d where
   or_false true y e f = cc
   or_false false y e f = f
 
-pub token_at : (text : List ℕ) → 0 < length text → is_white (get_or text 0 0) ≡ false → (IsBlockStart text → ⊥) → (IsLineStart text → ⊥) → TokenFound text
+pub token_at : (text : List ℕ) → 0 < length text → is_white (get_or text 0 0) ≡ false → (IsBlockStart text → ⊥) → (IsLineStart text → ⊥)
+    → TokenFound text
 token_at text some v k l = by (is_letter (get_or text 0 0)) refl (is_digit (get_or text 0 0)) refl (cases_eq (get_or text 0 0) 34) where
   named : is_letter (get_or text 0 0) ≡ true → (n : ℕ) → IsRun text n → Decided ((x : Reserved) × (take n text ≡ word_text x)) → TokenFound text
   named e n r (inl x) = let z = word_found text n x.0 e r x.1 in spelled n (t.Word x.0) z.0 z.2
@@ -152,7 +170,8 @@ token_at text some v k l = by (is_letter (get_or text 0 0)) refl (is_digit (get_
       spelled n _ z.0 z.2
   numbered d n r (inr f) = malformed 4 0 (no_number n d r (λ x h. f (x, h)))
 
-  marked : is_letter (get_or text 0 0) ≡ false → is_digit (get_or text 0 0) ≡ false → get_or text 0 0 ≢ 34 → First (StandsAt text) 43 → TokenFound text
+  marked : is_letter (get_or text 0 0) ≡ false → is_digit (get_or text 0 0) ≡ false → get_or text 0 0 ≢ 34 → First (StandsAt text) 43
+      → TokenFound text
   marked e d q (found i h b f) =
       let x = get_or table i m.Plus in
       let z = mark_found text x (length (mark_text x)) k l (is_mark text x (record { at = i; within = h; is = refl; here = b; before = f })) refl in

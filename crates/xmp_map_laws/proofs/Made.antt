@@ -11,13 +11,14 @@ use Rattle.xmp_map.specs.declared.grid.Grid.{Grid}
 use Rattle.xmp_map.specs.declared.spread_dim.SpreadDim.{SpreadDim}
 use Rattle.xmp_map.specs.declared.template.Template.{Template}
 use Rattle.xmp_map.specs.declared.aligned.Target.{Target}
+use Rattle.xmp_map.specs.declared.aligned.AlignedDim.{AlignedDim}
 use Rattle.xmp_map.specs.declared.array_map.ArrayMap.{ArrayMap}
 use Rattle.xmp_map.specs.declared.fault.MapError.{MapError}
 use Rattle.xmp_map.specs.declared.fault.MapError.TheVariants as fault
 use Rattle.xmp_map.specs.RowMajor.{product}
 use Rattle.xmp_map.specs.Nodes.{makes_grid, filled}
 use Rattle.xmp_map.specs.Spread.{is_whole, spread, spreads, lies_over, sizes_fit, chunk_fits, chunks_fit, template_fault}
-use Rattle.xmp_map.specs.Align.{aligned_dims, map_fault}
+use Rattle.xmp_map.specs.Align.{aligned_dims, is_unused, map_fault}
 use Rattle.xmp_map.proofs.SpreadLaws.{grid_at}
 
 -- ---- a grid
@@ -53,8 +54,13 @@ as_many_nodes (Cyclic w) n = grind (arith, nat_tests)
 as_many_nodes (Gblock ls) n = grind (arith, nat_tests)
 
 -- the dimension of this size and form on an axis of a grid
-on_axis : (g : Grid) (s : ℕ) (d : Dist) (k : ℕ) → length g.sizes ≡ 3 → k < 3 → is_extent s ≡ true → chunk_fits d s (slice_index g.sizes k) ≡ true → SpreadDim
-on_axis g s d k l h e c = record { dim = record { size = s; nodes = nodes_on d (slice_index g.sizes k); dist = d; valid = dim_right s (slice_index g.sizes k) d e (grid_at g k l h) c }; axis = k; small = h }
+on_axis : (g : Grid) (s : ℕ) (d : Dist) (k : ℕ) → length g.sizes ≡ 3 → k < 3 → is_extent s ≡ true → chunk_fits d s (slice_index g.sizes k) ≡ true
+    → SpreadDim
+on_axis g s d k l h e c = record {
+  dim = record { size = s; nodes = nodes_on d (slice_index g.sizes k); dist = d; valid = dim_right s (slice_index g.sizes k) d e (grid_at g k l h) c };
+  axis = k;
+  small = h;
+}
 
 -- ---- a template
 
@@ -103,7 +109,8 @@ three g s0 s1 s2 d0 d1 d2 l e0 e1 e2 c =
     }
 
 abbrev pub SomeTemplate : Grid → List ℕ → List Dist → Type 0
-SomeTemplate g sizes dists = (t : Template) × (t.grid ≡ g) × (t.dims ≡ length sizes) × (map (λ s. s.dim.size) t.spread ≡ filled 1 sizes) × (map (λ s. s.dim.dist) t.spread ≡ filled Whole dists)
+SomeTemplate g sizes dists =
+    (t : Template) × (t.grid ≡ g) × (t.dims ≡ length sizes) × (map (λ s. s.dim.size) t.spread ≡ filled 1 sizes) × (map (λ s. s.dim.dist) t.spread ≡ filled Whole dists)
 
 -- what is known where a template has no fault
 record Faultless (dims : ℕ) (grid sizes : List ℕ) (dists : List Dist) : Type 0 where
@@ -114,8 +121,10 @@ record Faultless (dims : ℕ) (grid sizes : List ℕ) (dists : List Dist) : Type
 
 faultless : (dims : ℕ) (grid sizes : List ℕ) (dists : List Dist) → template_fault dims grid sizes dists ≡ None → Faultless dims grid sizes dists
 faultless dims grid sizes dists h = by (sizes_fit sizes) refl (length dists == length sizes) refl (spreads dists == dims) refl (chunks_fit sizes dists grid 0) refl h where
-  by : (a : Bool) → sizes_fit sizes ≡ a → (b : Bool) → (length dists == length sizes) ≡ b → (c : Bool) → (spreads dists == dims) ≡ c → (d : Bool) → chunks_fit sizes dists grid 0 ≡ d
-      → (if a then (if b && c then (if d then None else Some fault.Chunk) else Some fault.Spread) else Some fault.Size) ≡ None → Faultless dims grid sizes dists
+  by : (a : Bool) → sizes_fit sizes ≡ a → (b : Bool) → (length dists == length sizes) ≡ b → (c : Bool) → (spreads dists == dims) ≡ c → (d : Bool)
+      → chunks_fit sizes dists grid 0 ≡ d
+      → (if a then (if b && c then (if d then None else Some fault.Chunk) else Some fault.Spread) else Some fault.Size) ≡ None
+      → Faultless dims grid sizes dists
   by true e true f true k true m q = record { sizes_right = e; as_many = eqb-true (length dists) (length sizes) f; on_grid = eqb-true (spreads dists) dims k; chunks = m }
   by true e true f true k false m q = cc
   by true e true f false k d m q = cc
@@ -129,7 +138,8 @@ whole_dims zero (x ∷ xs) = ap (λ b. is_whole x.dim.dist && b) (whole_dims zer
 whole_dims (suc n) (x ∷ xs) = whole_dims n xs
 
 -- a template of n dimensions, from its three
-assembled : (g : Grid) (n s0 s1 s2 : ℕ) (d0 d1 d2 : Dist) → Parts g s0 s1 s2 d0 d1 d2 → n ≤ 3 → list_all is_whole (drop n (d0 ∷ d1 ∷ d2 ∷ [])) ≡ true → spreads (d0 ∷ d1 ∷ d2 ∷ []) ≡ g.dims
+assembled : (g : Grid) (n s0 s1 s2 : ℕ) (d0 d1 d2 : Dist) → Parts g s0 s1 s2 d0 d1 d2 → n ≤ 3
+    → list_all is_whole (drop n (d0 ∷ d1 ∷ d2 ∷ [])) ≡ true → spreads (d0 ∷ d1 ∷ d2 ∷ []) ≡ g.dims
     → (t : Template) × (t.grid ≡ g) × (t.dims ≡ n) × (map (λ s. s.dim.size) t.spread ≡ s0 ∷ s1 ∷ s2 ∷ []) × (map (λ s. s.dim.dist) t.spread ≡ d0 ∷ d1 ∷ d2 ∷ [])
 assembled g n s0 s1 s2 d0 d1 d2 q h w c = (
   record {
@@ -194,7 +204,8 @@ by_shape g l (a ∷ b ∷ c ∷ []) (x ∷ y ∷ w ∷ []) f =
 by_shape g l (a ∷ b ∷ c ∷ []) (x ∷ y ∷ w ∷ u ∷ ds) f = let z = f.as_many in absurd (omega arith)
 by_shape g l (a ∷ b ∷ c ∷ d ∷ ss) ds f = absurd (too_many a b c d ss f.sizes_right)
 
-pub some_template : (g : Grid) (sizes : List ℕ) (dists : List Dist) → length g.sizes ≡ 3 → template_fault g.dims g.sizes sizes dists ≡ None → SomeTemplate g sizes dists
+pub some_template : (g : Grid) (sizes : List ℕ) (dists : List Dist) → length g.sizes ≡ 3 → template_fault g.dims g.sizes sizes dists ≡ None
+    → SomeTemplate g sizes dists
 some_template g sizes dists l h = by_shape g l sizes dists (faultless g.dims g.sizes sizes dists h)
 
 -- ---- a map
@@ -206,7 +217,15 @@ none_is : (o : Option MapError) → o ≡ None → is_none o ≡ true
 none_is None h = refl
 none_is (Some e) h = cc
 
-pub some_map : (t : Template) (extents : List ℕ) (targets : List Target) (widths : List (ℕ × ℕ)) → length targets ≡ length extents → length widths ≡ length extents → sizes_fit extents ≡ true
+-- a map of n dimensions, from its three
+of_three : (t : Template) (x y z : AlignedDim) (n : ℕ) → n ≤ 3 → list_all is_unused (drop n (x ∷ y ∷ z ∷ [])) ≡ true
+    → list_all (λ l. is_extent l.extent) (x ∷ y ∷ z ∷ []) ≡ true → product (x.extent ∷ y.extent ∷ z.extent ∷ []) ≤ cell_limit
+    → map_fault t.dims t.spread (x ∷ y ∷ z ∷ []) ≡ None → (m : ArrayMap) × (m.template ≡ t) × (m.dims ≡ n) × (m.aligned ≡ x ∷ y ∷ z ∷ [])
+of_three t x y z n h w e p f =
+    (record { template = t; aligned = x ∷ y ∷ z ∷ []; dims = n; most = h; rest = w; fits = none_is _ f; extents = e; small = p }, refl, refl, refl)
+
+pub some_map : (t : Template) (extents : List ℕ) (targets : List Target) (widths : List (ℕ × ℕ)) → length targets ≡ length extents
+    → length widths ≡ length extents → sizes_fit extents ≡ true
     → product extents ≤ cell_limit → map_fault t.dims t.spread (aligned_dims extents targets widths) ≡ None → SomeMap t extents targets widths
 unfolding product
 some_map t [] ts ws h k s p f = cc
@@ -214,7 +233,7 @@ some_map t (a ∷ []) [] ws h k s p f = absurd (omega arith)
 some_map t (a ∷ []) (x ∷ []) [] h k s p f = absurd (omega arith)
 some_map t (a ∷ []) (x ∷ []) (u ∷ []) h k s p f =
     let e = both (is_extent a) true s in
-    (record { template = t; aligned = aligned_dims (a ∷ []) (x ∷ []) (u ∷ []); dims = 1; most = omega arith; rest = refl; fits = none_is _ f; extents = from_both _ _ e.0 refl; small = omega arith }, refl, refl, refl)
+    of_three t _ _ _ 1 (omega arith) refl (from_both _ _ e.0 refl) (omega arith) f
 some_map t (a ∷ []) (x ∷ []) (u ∷ v ∷ ws) h k s p f = absurd (omega arith)
 some_map t (a ∷ []) (x ∷ y ∷ ts) ws h k s p f = absurd (omega arith)
 some_map t (a ∷ b ∷ []) [] ws h k s p f = absurd (omega arith)
@@ -224,7 +243,7 @@ some_map t (a ∷ b ∷ []) (x ∷ y ∷ []) (u ∷ []) h k s p f = absurd (omeg
 some_map t (a ∷ b ∷ []) (x ∷ y ∷ []) (u ∷ v ∷ []) h k s p f =
     let e = both (is_extent a) _ s in
     let d = both (is_extent b) true e.1 in
-    (record { template = t; aligned = aligned_dims (a ∷ b ∷ []) (x ∷ y ∷ []) (u ∷ v ∷ []); dims = 2; most = omega arith; rest = refl; fits = none_is _ f; extents = from_both _ _ e.0 (from_both _ _ d.0 refl); small = omega arith }, refl, refl, refl)
+    of_three t _ _ _ 2 (omega arith) refl (from_both _ _ e.0 (from_both _ _ d.0 refl)) (omega arith) f
 some_map t (a ∷ b ∷ []) (x ∷ y ∷ []) (u ∷ v ∷ w ∷ ws) h k s p f = absurd (omega arith)
 some_map t (a ∷ b ∷ []) (x ∷ y ∷ z ∷ ts) ws h k s p f = absurd (omega arith)
 some_map t (a ∷ b ∷ c ∷ []) [] ws h k s p f = absurd (omega arith)
@@ -237,7 +256,7 @@ some_map t (a ∷ b ∷ c ∷ []) (x ∷ y ∷ z ∷ []) (u ∷ v ∷ w ∷ []) 
     let e = both (is_extent a) _ s in
     let d = both (is_extent b) _ e.1 in
     let g = both (is_extent c) true d.1 in
-    (record { template = t; aligned = aligned_dims (a ∷ b ∷ c ∷ []) (x ∷ y ∷ z ∷ []) (u ∷ v ∷ w ∷ []); dims = 3; most = omega arith; rest = refl; fits = none_is _ f; extents = from_both _ _ e.0 (from_both _ _ d.0 (from_both _ _ g.0 refl)); small = omega arith }, refl, refl, refl)
+    of_three t _ _ _ 3 (omega arith) refl (from_both _ _ e.0 (from_both _ _ d.0 (from_both _ _ g.0 refl))) (omega arith) f
 some_map t (a ∷ b ∷ c ∷ []) (x ∷ y ∷ z ∷ []) (u ∷ v ∷ w ∷ q ∷ ws) h k s p f = absurd (omega arith)
 some_map t (a ∷ b ∷ c ∷ []) (x ∷ y ∷ z ∷ q ∷ ts) ws h k s p f = absurd (omega arith)
 some_map t (a ∷ b ∷ c ∷ d ∷ es) ts ws h k s p f = absurd (too_many a b c d es s)

@@ -55,7 +55,8 @@ bad_place ts left f = record { front = f.front; token = f.bad; after = f.after; 
 abbrev ParsedOrRefused : List Token → Type 0
 ParsedOrRefused ts = ((x : Tree) × IsProgram ts x) ⊎ ((r : Refusal) × Breaks ts r)
 
-parsed : (ts : List Token) → ((x : Tree) × IsProgram ts x) ⊎ ((left : ℕ) × FirstBad ts left) ⊎ ((left : ℕ) × TooDeep start program_rules ts left) → ParsedOrRefused ts
+parsed : (ts : List Token) → ((x : Tree) × IsProgram ts x) ⊎ ((left : ℕ) × FirstBad ts left) ⊎ ((left : ℕ) × TooDeep start program_rules ts left)
+    → ParsedOrRefused ts
 parsed ts (inl x) = inl x
 parsed ts (inr (inl b)) =
     inr (record { phase = phase.Syntax; rule = 1; at = b.1.bad.at }, record { phase = refl; left = b.0; place = bad_place ts b.0 b.1; rule = inl (refl, b.1) })
@@ -76,7 +77,8 @@ module _ (text : List ℕ) where
   behind_macros ts c (inl x) = inl (x.0, record { expanded = ts; comes = c; program = x.1 })
   behind_macros ts c (inr r) = inr (r.0, in_syntax ts c r.1)
 
-  behind_cut : (ts : List Token) → Cut text ts → ((us : List Token) × Expanded ts us) ⊎ ((rule : ℕ) × (at : Place) × BreaksMacros ts rule at) → TreeOrRefused text
+  behind_cut : (ts : List Token) → Cut text ts → ((us : List Token) × Expanded ts us) ⊎ ((rule : ℕ) × (at : Place) × BreaksMacros ts rule at)
+      → TreeOrRefused text
   behind_cut ts c (inl e) = behind_macros e.0 (record { tokens = ts; cut = c; expands = e.1 }) (every_finished_text e.0 (expanded_finished ts e.0 (cut_finished text ts c) e.1))
   behind_cut ts c (inr b) = inr (record { phase = phase.Macro; rule = b.0; at = b.1 }, in_macros ts c (refl, b.2))
 

@@ -68,7 +68,8 @@ two D p q r K t u ts es ds v false c h e =
       subst (λ (b : Bool). Tells D (cond b (opening ∷ plain ∷ []) [] ++ es)) (sym c) h,
     )
 
-right : (D : Depths) (K : List Rule) (ts : List Token) (es : List Effect) (ds : List ℕ) (v : State) → Tells D es → step rule (reading D K ts) ≡ goes ds v → Right (reading D K ts) es ds v
+right : (D : Depths) (K : List Rule) (ts : List Token) (es : List Effect) (ds : List ℕ) (v : State) → Tells D es
+    → step rule (reading D K ts) ≡ goes ds v → Right (reading D K ts) es ds v
 right D [] ts es ds v h e = cc
 right D (r ∷ K) [] es ds v h e = cc
 right D (nothing ∷ K) (t ∷ ts) es ds v h e = same (reading D (nothing ∷ K) (t ∷ ts)) es ds [] v _ e (refl, h)
@@ -100,8 +101,10 @@ reads s u _ _ h (onward {t = v} {es = es} {ds = as'} {ms = bs} e c) =
 begun : Tells start []
 begun = (refl, refl, λ n b. refl)
 
-pub depths_count : (K : List Rule) (ts : List Token) (ds : List ℕ) (u : State) → Reads rule (reading start K ts) ds u → Counts (reading start K ts) [] ds u
+pub depths_count : (K : List Rule) (ts : List Token) (ds : List ℕ) (u : State) → Reads rule (reading start K ts) ds u
+    → Counts (reading start K ts) [] ds u
 depths_count K ts ds u r = counted (reading start K ts) u [] ds begun r
 
-pub counts_are_depths : (K : List Rule) (ts : List Token) (ds : List ℕ) (u : State) → Counts (reading start K ts) [] ds u → Reads rule (reading start K ts) ds u
+pub counts_are_depths : (K : List Rule) (ts : List Token) (ds : List ℕ) (u : State) → Counts (reading start K ts) [] ds u
+    → Reads rule (reading start K ts) ds u
 counts_are_depths K ts ds u c = reads (reading start K ts) u [] ds begun c

@@ -29,7 +29,8 @@ same_depths : (ds es fs : List ℕ) → es ≡ ds ++ fs → length es ≤ length
 same_depths ds es [] q h w = subst (λ (l : List ℕ). All (λ d. d ≤ depth_limit) l) (sym (append-nil ds) ∙ sym q) w
 same_depths ds es (f ∷ fs) q h w = let z = ap length q in absurd (omega (arith, length-append ds (f ∷ fs)))
 
-all_shallow : (ts : List Token) (ds : List ℕ) (E : Depths) (M : List Rule) → Reads rule (reading start program_rules ts) ds (reading E M []) → All (λ d. d ≤ depth_limit) ds → IsShallow ts
+all_shallow : (ts : List Token) (ds : List ℕ) (E : Depths) (M : List Rule) → Reads rule (reading start program_rules ts) ds (reading E M [])
+    → All (λ d. d ≤ depth_limit) ds → IsShallow ts
 all_shallow ts ds E M r w es s q = by (one_way _ _ _ _ _ r q) where
   fewer : length es ≤ length ds
   fewer = let a : length ts ≡ length ds + 0 = counted _ _ ds r in let b : length ts ≡ length es + length (left_at s) = counted _ _ es q in omega arith
@@ -40,7 +41,8 @@ all_shallow ts ds E M r w es s q = by (one_way _ _ _ _ _ r q) where
 
 -- ---- the tree
 
-program_of : (ts : List Token) → IsFinished ts → (ds : List ℕ) (E : Depths) (M : List Rule) → Reads rule (reading start program_rules ts) ds (reading E M []) → All (λ d. d ≤ depth_limit) ds
+program_of : (ts : List Token) → IsFinished ts → (ds : List ℕ) (E : Depths) (M : List Rule)
+    → Reads rule (reading start program_rules ts) ds (reading E M []) → All (λ d. d ≤ depth_limit) ds
     → (x : Tree) × IsProgram ts x
 program_of ts i ds E M r w =
     let b : Begins start program_rules ts = record { depths = ds; now = E; left = M; reads = r } in

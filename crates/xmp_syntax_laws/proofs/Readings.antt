@@ -51,7 +51,8 @@ abbrev Judged : List Token → Type 0
 Judged us = (E : Depths) (M : List Rule) → Stack M → Low E M → Outcome E M us
 
 -- one token is read, which may be too deep
-behind_one : (D : Depths) (K : List Rule) (x : Token) (ts : List Token) (E : Depths) (M : List Rule) → step rule (reading D K (x ∷ ts)) ≡ goes (now E ∷ []) (reading E M ts)
+behind_one : (D : Depths) (K : List Rule) (x : Token) (ts : List Token) (E : Depths) (M : List Rule)
+    → step rule (reading D K (x ∷ ts)) ≡ goes (now E ∷ []) (reading E M ts)
     → (depth_limit < now E) ⊎ (now E ≤ depth_limit) → (now E ≤ depth_limit → Outcome E M ts) → Outcome D K (x ∷ ts)
 behind_one D K x ts E M e (inl h) on = deep (suc (length ts)) (deep_here D K x ts (now E) E M e h)
 behind_one D K x ts E M e (inr h) on = before D K (x ∷ ts) (now E ∷ []) E M ts e (one (now E) h) (on h)
@@ -84,7 +85,8 @@ by_step D K x ts l nearer fewer (takes_two y us E M q e s f g v w) =
     (behind_two D K x y us E M (subst (λ (vs : List Token). step rule (reading D K (x ∷ vs)) ≡ goes (now D ∷ now E ∷ []) (reading E M us)) q e) (v l) (cases_lt depth_limit (now E))
     (λ h. fewer us (let z = ap length q in omega arith) E M s (inl (w l h))))
 
-by_steps : (x : Token) (ts : List Token) → ((us : List Token) → length us ≤ length ts → Judged us) → (fuel : ℕ) (D : Depths) (K : List Rule) → all_steps K ≤ fuel
+by_steps : (x : Token) (ts : List Token) → ((us : List Token) → length us ≤ length ts → Judged us) → (fuel : ℕ) (D : Depths) (K : List Rule)
+    → all_steps K ≤ fuel
     → Stack K → Low D K → Outcome D K (x ∷ ts)
 by_steps x ts fewer zero D K h s l = by_step D K x ts l (λ E M m. absurd (omega arith)) fewer (step_of D K x ts s)
 by_steps x ts fewer (suc n) D K h s l = by_step D K x ts l (λ E M m r k. by_steps x ts fewer n E M (omega arith) r k) fewer (step_of D K x ts s)
@@ -100,7 +102,8 @@ comes_to_an_end ts = by_length (length ts) ts (omega arith)
 
 -- ---- the end of a text
 
-nothing_behind : (s u : State) (ds : List ℕ) → Reads rule s ds u → (D E : Depths) (M : List Rule) (ts : List Token) → s ≡ reading D [] ts → u ≡ reading E M [] → (ts ≡ []) × (M ≡ [])
+nothing_behind : (s u : State) (ds : List ℕ) → Reads rule s ds u → (D E : Depths) (M : List Rule) (ts : List Token) → s ≡ reading D [] ts
+    → u ≡ reading E M [] → (ts ≡ []) × (M ≡ [])
 nothing_behind s u ds here D E M ts p q = let z : reading D [] ts ≡ reading E M [] = sym p ∙ q in ((let a : ts ≡ [] = cc in a), (let a : [] ≡ M = cc in sym a))
 nothing_behind s u ds (onward {t = v} {ds = as'} {es = bs} e r) D E M ts p q = let z : halts ≡ goes as' v = sym (ap (step rule) p) ∙ e in cc
 
@@ -117,7 +120,8 @@ same_goes as' bs v w e = cc
 abbrev StackAt : State → Type 0
 StackAt (reading D K ts) = Stack K
 
-ends_one : (x : Token) (us rest : List Token) (E : Depths) (L M : List Rule) (F : Depths) (es : List ℕ) → Reads rule (reading E L us) es (reading F M []) → (x.kind ≡ t.Finish → L ≡ [])
+ends_one : (x : Token) (us rest : List Token) (E : Depths) (L M : List Rule) (F : Depths) (es : List ℕ)
+    → Reads rule (reading E L us) es (reading F M []) → (x.kind ≡ t.Finish → L ≡ [])
     → Ends (reading E L us) rest M → (ts : List Token) → x ∷ us ≡ ts ++ rest → IsFinished ts → (rest ≡ []) × (M ≡ [])
 ends_one x us rest E L M F es r f on [] q i = absurd i
 ends_one x us rest E L M F es r f on (y ∷ []) q i =
@@ -128,7 +132,8 @@ ends_one x us rest E L M F es r f on (y ∷ []) q i =
     (sym b ∙ w.0, w.1)
 ends_one x us rest E L M F es r f on (y ∷ z ∷ ts) q i = on (z ∷ ts) (cc) i
 
-ends_two : (x y : Token) (us vs rest : List Token) (M : List Rule) → us ≡ y ∷ vs → (x.kind ≡ t.Finish → ⊥) → (y.kind ≡ t.Finish → ⊥) → Whole vs rest M → Whole (x ∷ us) rest M
+ends_two : (x y : Token) (us vs rest : List Token) (M : List Rule) → us ≡ y ∷ vs → (x.kind ≡ t.Finish → ⊥) → (y.kind ≡ t.Finish → ⊥)
+    → Whole vs rest M → Whole (x ∷ us) rest M
 ends_two x y us vs rest M p f g on [] q i = absurd i
 ends_two x y us vs rest M p f g on (a ∷ []) q i = let z : x ≡ a = cc in absurd (f (ap (λ (z : Token). z.kind) z ∙ i))
 ends_two x y us vs rest M p f g on (a ∷ b ∷ []) q i =
@@ -138,7 +143,8 @@ ends_two x y us vs rest M p f g on (a ∷ b ∷ c ∷ ts) q i =
     let w : y ∷ vs ≡ b ∷ c ∷ ts ++ rest = sym p ∙ cc in
     on (c ∷ ts) (cc) i
 
-pub ends : (s u : State) (ds : List ℕ) → Reads rule s ds u → StackAt s → (F : Depths) (M : List Rule) → u ≡ reading F M [] → (rest : List Token) → Ends s rest M
+pub ends : (s u : State) (ds : List ℕ) → Reads rule s ds u → StackAt s → (F : Depths) (M : List Rule) → u ≡ reading F M [] → (rest : List Token)
+    → Ends s rest M
 ends s u ds here k F M q rest = at_end_of s (q) where
   none_left : (us : List Token) → us ≡ [] → Whole us rest M
   none_left us e [] w i = absurd i

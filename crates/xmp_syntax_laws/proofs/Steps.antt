@@ -74,7 +74,8 @@ not_empty false n k h = refl
 part_takes : (P : Part) (k : ℕ) → not (may_be_empty P) ≡ true → part_steps P k ≡ weight P
 part_takes P k h = not_empty (may_be_empty P) (weight P) k h
 
-of_either : (r s : Rule) (k : ℕ) (b : Bool) → takes r ≡ b → b || takes s ≡ true → (takes r ≡ true → steps (r · s) k ≡ steps (r · s) 0) → (takes s ≡ true → steps (r · s) k ≡ steps (r · s) 0)
+of_either : (r s : Rule) (k : ℕ) (b : Bool) → takes r ≡ b → b || takes s ≡ true → (takes r ≡ true → steps (r · s) k ≡ steps (r · s) 0)
+    → (takes s ≡ true → steps (r · s) k ≡ steps (r · s) 0)
     → steps (r · s) k ≡ steps (r · s) 0
 of_either r s k true e h f g = f e
 of_either r s k false e h f g = g h
@@ -181,17 +182,21 @@ pub data StepOf (D : Depths) (K : List Rule) (x : Token) (ts : List Token) : Typ
   silent : (E : Depths) (M : List Rule) → step rule (reading D K (x ∷ ts)) ≡ goes [] (reading E M (x ∷ ts)) → all_steps M < all_steps K → Stack M
       → (Low D K → Low E M) → StepOf D K x ts
   -- it reads the token; behind the end of a text no rule is left
-  takes_one : (E : Depths) (M : List Rule) → step rule (reading D K (x ∷ ts)) ≡ goes (now E ∷ []) (reading E M ts) → Stack M → (x.kind ≡ t.Finish → M ≡ [])
+  takes_one : (E : Depths) (M : List Rule) → step rule (reading D K (x ∷ ts)) ≡ goes (now E ∷ []) (reading E M ts) → Stack M
+      → (x.kind ≡ t.Finish → M ≡ [])
       → (Low D K → now E ≤ depth_limit → Shallow E) → StepOf D K x ts
   -- it reads two tokens, neither of them the end of a text
-  takes_two : (y : Token) (us : List Token) (E : Depths) (M : List Rule) → ts ≡ y ∷ us → step rule (reading D K (x ∷ ts)) ≡ goes (now D ∷ now E ∷ []) (reading E M us)
-      → Stack M → (x.kind ≡ t.Finish → ⊥) → (y.kind ≡ t.Finish → ⊥) → (Low D K → now D ≤ depth_limit) → (Low D K → now E ≤ depth_limit → Shallow E) → StepOf D K x ts
+  takes_two : (y : Token) (us : List Token) (E : Depths) (M : List Rule) → ts ≡ y ∷ us
+      → step rule (reading D K (x ∷ ts)) ≡ goes (now D ∷ now E ∷ []) (reading E M us)
+      → Stack M → (x.kind ≡ t.Finish → ⊥) → (y.kind ≡ t.Finish → ⊥) → (Low D K → now D ≤ depth_limit) → (Low D K → now E ≤ depth_limit → Shallow E)
+      → StepOf D K x ts
 
 none_left : (K : List Rule) → is_none K ≡ true → K ≡ []
 none_left [] h = refl
 none_left (r ∷ K) h = cc
 
-of_token : (e : Effect) (q : Test) (D : Depths) (K : List Rule) (x : Token) (ts : List Token) (b : Bool) → q x.kind ≡ b → Stack (tok e q ∷ K) → StepOf D (tok e q ∷ K) x ts
+of_token : (e : Effect) (q : Test) (D : Depths) (K : List Rule) (x : Token) (ts : List Token) (b : Bool) → q x.kind ≡ b → Stack (tok e q ∷ K)
+    → StepOf D (tok e q ∷ K) x ts
 of_token e q D K x ts true h s =
     takes_one (behind e D) K (ap (λ b. cond b (goes (now (behind e D) ∷ []) (reading (behind e D) K ts)) halts) h) s.2 finish (behind_token e q D K)
   where
@@ -208,13 +213,15 @@ of_token e q D K x ts false h s =
 part_on : (P : Part) (b : Bool) (K : List Rule) → is_program P ≡ is_none K → Stack K → Stack (rule P ∷ K)
 part_on P b K h s = let v = sound_part P in (subst (λ (b : Bool). Sound b (rule P)) h v.sound, starts_on (rule P) K v.starts, s)
 
-of_choice : (q : Test) (r u : Rule) (D : Depths) (K : List Rule) (x : Token) (ts : List Token) (b : Bool) → q x.kind ≡ b → Stack (choice q r u ∷ K) → StepOf D (choice q r u ∷ K) x ts
+of_choice : (q : Test) (r u : Rule) (D : Depths) (K : List Rule) (x : Token) (ts : List Token) (b : Bool) → q x.kind ≡ b → Stack (choice q r u ∷ K)
+    → StepOf D (choice q r u ∷ K) x ts
 of_choice q r u D K x ts true h s =
     silent D (r ∷ K) (ap (λ b. goes [] (reading D (cond b r u ∷ K) (x ∷ ts))) h) (omega arith) (s.0.0, starts_on r K s.0.2, s.2) (λ l. inl (settled D (choice q r u) K refl l))
 of_choice q r u D K x ts false h s =
     silent D (u ∷ K) (ap (λ b. goes [] (reading D (cond b r u ∷ K) (x ∷ ts))) h) (omega arith) (s.0.1, starts_on u K s.0.3, s.2) (λ l. inl (settled D (choice q r u) K refl l))
 
-of_many : (q : Test) (r : Rule) (D : Depths) (K : List Rule) (x : Token) (ts : List Token) (b : Bool) → q x.kind ≡ b → Stack (many q r ∷ K) → StepOf D (many q r ∷ K) x ts
+of_many : (q : Test) (r : Rule) (D : Depths) (K : List Rule) (x : Token) (ts : List Token) (b : Bool) → q x.kind ≡ b → Stack (many q r ∷ K)
+    → StepOf D (many q r ∷ K) x ts
 of_many q r D K x ts true h s =
     silent D (r ∷ many q r ∷ K) (ap (λ b. goes [] (reading D (cond b (r ∷ many q r ∷ K) K) (x ∷ ts))) h)
     (omega (arith, as_many r (all_steps (many q r ∷ K)) s.0.2)) (s.0.1, starts_on r (many q r ∷ K) s.0.3, s) (λ l. inl (settled D (many q r) K refl l))
@@ -224,7 +231,8 @@ of_many q r D K x ts false h s =
 now_low : (D : Depths) → Shallow D → now D ≤ depth_limit
 now_low (depths d b L) s = s.1
 
-of_pair : (q v : Test) (r : Rule) (D : Depths) (K : List Rule) (x y : Token) (ts : List Token) (b : Bool) → q x.kind && v y.kind ≡ b → Stack (pair q v r ∷ K) → StepOf D (pair q v r ∷ K) x (y ∷ ts)
+of_pair : (q v : Test) (r : Rule) (D : Depths) (K : List Rule) (x y : Token) (ts : List Token) (b : Bool) → q x.kind && v y.kind ≡ b
+    → Stack (pair q v r ∷ K) → StepOf D (pair q v r ∷ K) x (y ∷ ts)
 of_pair q v r D K x y ts true h s =
     let g = both (q x.kind) (v y.kind) h in
     takes_two y ts (behind opening D) (r ∷ K) refl (ap (λ b. pair_step b D r K x y ts) h) (subst (λ (b : Bool). Sound b r) (sym s.0.0) s.0.3, starts_on r K s.0.4, s.2)

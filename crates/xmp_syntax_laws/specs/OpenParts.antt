@@ -44,4 +44,5 @@ counts _ es = []
 -- The steps from one place to another, behind tokens of these effects, with the number of open parts at each token read.
 pub data Counts : State → List Effect → List ℕ → State → Type 0 where
   here : {s : State} {es : List Effect} → Counts s es [] s
-  onward : {s t u : State} {es : List Effect} {ds ms : List ℕ} → step rule s ≡ goes ds t → Counts t (passed s ++ es) ms u → Counts s es (counts s es ++ ms) u
+  onward : {s t u : State} {es : List Effect} {ds ms : List ℕ} → step rule s ≡ goes ds t → Counts t (passed s ++ es) ms u
+      → Counts s es (counts s es ++ ms) u
