@@ -1,8 +1,7 @@
 -- A tree in which no rule of names or mappings breaks has parts: its grid, its templates and the homes of its arrays are there.
-use Rattle.std.proofs.Common.{◌≡◌, ◌⊎◌, inl, inr, ◌+◌, ◌++◌, ◌∷◌, [], ℕ, zero, suc, ℤ, Bool, true, false, List, length, map, Option, None, Some, IsTrue, refl, sym, ap, ◌∙◌, subst, arith}
+use Rattle.std.proofs.Common.{◌≡◌, ◌⊎◌, inl, inr, ◌+◌, ◌∷◌, [], ℕ, suc, Bool, true, false, List, length, map, Option, None, Some, IsTrue, refl, sym, ap, ◌∙◌, subst, arith}
 use Rattle.std.specs.Prelude.{slice_get}
 use Rattle.xmp_base.specs.declared.refusal.Refusal.{Refusal}
-use Rattle.xmp_map.specs.declared.array_map.ArrayMap.{ArrayMap}
 use Rattle.xmp_map.specs.declared.grid.Grid.{Grid}
 use Rattle.xmp_map.specs.declared.template.Template.{Template}
 use Rattle.xmp_map.specs.Nodes.{filled}
@@ -15,22 +14,20 @@ use Rattle.xmp_prog.specs.declared.statements.Stmt.{Stmt}
 use Rattle.xmp_syntax.specs.declared.program.Tree.{Tree}
 use Rattle.xmp_names.specs.declared.names.Array.{Array}
 use Rattle.xmp_names.specs.declared.mappings.Align.{Align}
-use Rattle.xmp_names.specs.declared.mappings.AlignPoint.{AlignPoint}
-use Rattle.xmp_names.specs.declared.mappings.Form.{Form}
 use Rattle.xmp_names.specs.declared.mappings.TemplateLine.{TemplateLine}
 use Rattle.xmp_names.specs.declared.world.World.{World}
 use Rattle.xmp_names.specs.Walk.{Step, Gave}
 use Rattle.xmp_names.specs.Sizes.{natural}
-use Rattle.xmp_mapping_rules.specs.MappingRules.{mapping_rules, nodes_of, forms_of, template_sizes, template_sizes_in, align_of, shadow_of}
+use Rattle.xmp_mapping_rules.specs.MappingRules.{mapping_rules, nodes_of, forms_of, template_sizes_in, align_of}
 use Rattle.xmp_walk.specs.Program.{program_of, with_count, tops_of, start_world, coarray_top}
 use Rattle.std.specs.List.{list_any, enumerate_from}
 use Rattle.xmp_parts.proofs.VerdictLaws.{verdict_is, none_breaks}
 use Rattle.xmp_parts.specs.Narrow.{is_count}
 use Rattle.xmp_parts.specs.Parts.{IsGrid, IsOf, IsTemplate, made_form, IsMapOver, IsSpread, IsAligned, IsHome, IsArray, EachMade, kind_of, Made, MadeAfter, IsParts}
-use Rattle.xmp_parts.specs.Verdict.{IsVerdict, verdict, verdict_of, broken_in, broken_rules, world_after}
+use Rattle.xmp_parts.specs.Verdict.{IsVerdict, verdict, verdict_of, broken_in, world_after}
 use Rattle.xmp_parts.proofs.Rows.{right_nodes, makes}
 use Rattle.xmp_parts.proofs.FormsFit.{template_facts}
-use Rattle.xmp_parts.proofs.Accepted.{MapFits, map_facts}
+use Rattle.xmp_parts.proofs.Accepted.{map_facts}
 use Rattle.xmp_parts.proofs.Verdicts.{unbroken}
 use Rattle.std.proofs.lemmas.List.{length-map}
 
