@@ -2,7 +2,11 @@
 use Rattle.std.specs.Prelude.{◌≡◌, ℕ, List, [], ◌∷◌, Bool, cond, codes, Option, None, Some, Result, ⊤}
 use Rattle.xmp_lex.specs.declared.token.Token.{Token}
 use Rattle.xmp_lex.specs.declared.token.TokenKind.{TokenKind}
-use Rattle.xmp_lex.specs.declared.token.Mark.TheVariants as m
+use Rattle.xmp_lex.specs.declared.token.TokenKind.TheVariants as t
+use Rattle.xmp_lex.specs.declared.token.Mark.{Mark}
+use Rattle.xmp_base.specs.declared.place.Place.{Place}
+use Rattle.xmp_syntax.specs.declared.parts.Name.{Name}
+use Rattle.xmp_syntax.specs.Spell.{◌at◌, spelled, name}
 use Rattle.xmp_syntax.specs.Parts as p
 use Rattle.xmp_syntax.specs.Parts.{Part}
 use Rattle.xmp_syntax.specs.Reading.{Rule, State, tok, mark, closing, leave, ◌·◌}
@@ -68,20 +72,20 @@ Agree f g [] = ⊤
 Agree f g (t ∷ ts) = f t.kind ≡ g t.kind
 
 -- What is between an opening bracket and its closing one is read, and the closing one.
-abbrev pub Closes : {A : Type 0} → Rule → Depth → Reader → Result (A × Reader) Stop → Type 0
-Closes R outer r result = (s : State) (L : List (ℕ × ℕ)) (N : Rule) (K : List Rule) → Comes s (stands ((outer.now, outer.base) ∷ L) (R ∷ (tok closing (is_mark m.CloseBracket) · N) ∷ K) r) → After s L (N ∷ K) result
+abbrev pub Closes : {A : Type 0} → Rule → Mark → Depth → Reader → Result (A × Reader) Stop → Type 0
+Closes R x outer r result = (s : State) (L : List (ℕ × ℕ)) (N : Rule) (K : List Rule) → Comes s (stands ((outer.now, outer.base) ∷ L) (R ∷ (tok closing (is_mark x) · N) ∷ K) r) → After s L (N ∷ K) result
 
 -- What the rule has before another rule is read, up to that one.
 abbrev pub ReadsBefore : {A : Type 0} → (Rule → Rule) → Reader → Result (A × Reader) Stop → Type 0
 ReadsBefore R r result = (s : State) (L : List (ℕ × ℕ)) (N : Rule) (K : List Rule) → Comes s (stands L (R N ∷ K) r) → After s L (N ∷ K) result
 
--- The same where a bracket is open, which the rule closes; these are the depths outside of it.
-abbrev pub ClosesBefore : {A : Type 0} → (Rule → Rule) → Depth → Reader → Result (A × Reader) Stop → Type 0
-ClosesBefore R outer r result = (s : State) (L : List (ℕ × ℕ)) (N : Rule) (K : List Rule) → Comes s (stands ((outer.now, outer.base) ∷ L) (R N ∷ K) r) → After s L (N ∷ K) result
-
 -- The rule is read to its end where a bracket is open, which it closes.
 abbrev pub Ends : {A : Type 0} → Rule → Depth → Reader → Result (A × Reader) Stop → Type 0
 Ends R outer r result = (s : State) (L : List (ℕ × ℕ)) (K : List Rule) → Comes s (stands ((outer.now, outer.base) ∷ L) (R ∷ K) r) → After s L K result
+
+-- a nodes line before what stands behind its name: its start, its word and its name
+abbrev pub nodes_line : Place → Place × Name → List Token → List Token
+nodes_line start head r = t.Pragma at start ∷ spelled (codes "nodes") head.0 (name head.1 r)
 
 -- The line of a directive is read, up to the statement that the directive holds.
 abbrev pub Heads : {A : Type 0} → Part → Rule → Reader → Result (A × Reader) Stop → Type 0

@@ -13,16 +13,18 @@ ghost use Rattle.xmp_syntax.specs.Fits as f;
 ghost use Rattle.xmp_reader.specs.Going.{Parses};
 ghost use Rattle.xmp_line_reader.specs.Lines.{IsPlainWord, part_of_directive};
 
-use crate::mappings::after_colon;
+use crate::mappings::Ranges;
 use crate::words::DirectiveWord;
 use sqlite_items::Items;
 use std::alloc::Global;
 use xmp_base::Place;
 use xmp_lex::Mark;
-use xmp_reader::{Class, Effect, NameLists, Parsed, Part, Reader, any_dims, expression, in_parens};
+use xmp_reader::{
+    Class, Effect, NameLists, Parsed, Part, Reader, any_dims, any_several, expression, in_parens,
+};
 use xmp_syntax::{
-    CommaList, DirectiveLine, Expr, Inside, LoopLine, Name, Plain, Point, Reduction,
-    ReductionOperator, Section, Sections, TaskLine,
+    CommaList, DirectiveLine, Expr, Name, NodesSet, Piece, Plain, Reduction, ReductionOperator,
+    Section, Sections,
 };
 
 /// The second and the third number of a section, where there are such.
@@ -30,7 +32,7 @@ type MoreNumbers = (Option<(Place, Expr)>, Option<(Place, Expr)>);
 
 /// The numbers of a section behind its first.
 fn more_numbers(alloc: Global, r: Reader<'_>) -> Parsed<'_, MoreNumbers>
-    ensures goes { Parses (g.optional (g.is_mark m.Colon) (g.sign m.Colon · g.expr_colon · g.optional (g.is_mark m.Colon) (g.sign m.Colon · g.expr))) r.entry result }
+    ensures goes { Parses (g.optional (g.is_mark m.Colon) (g.sign m.Colon · part p.range)) r.entry result }
     ensures reads { IfOk result (λ x. r.entry.tokens.now ≡ sp.optional sp.after_colon x.0.0 (sp.optional sp.after_colon x.0.1 x.1.tokens.now)) }
     ensures fits { IfOk result (λ x. (a : made.Expr) → f.FitsExpr a → f.FitsSection (s.Numbers a x.0.0 x.0.1)) }
     ensures shorter { IfOk result (λ x. length x.1.tokens.now ≤ length r.entry.tokens.now) }
@@ -39,14 +41,8 @@ fn more_numbers(alloc: Global, r: Reader<'_>) -> Parsed<'_, MoreNumbers>
         return Ok(((None, None), r));
     }
     let (colon, r) = r.mark(Mark::Colon, Effect::Plain)?;
-    let (second, r) = expression(alloc, true, r)?;
-    match after_colon(alloc, r) {
-        Ok((third, r)) => Ok(((Some((colon, second)), third), r)),
-        Err(stop) => {
-            drop(second);
-            Err(stop)
-        }
-    }
+    let (range, r) = Ranges::read(alloc, r)?;
+    Ok(((Some((colon, range.0)), range.1), r))
 }
 
 /// The sections of a part of an array.
@@ -55,7 +51,7 @@ struct ArraySections;
 impl Part for ArraySections {
     type Made = Section;
 
-    ghost rule = { choice (g.is_mark m.Colon) (g.sign m.Colon) (g.expr_colon · g.optional (g.is_mark m.Colon) (g.sign m.Colon · g.expr_colon · g.optional (g.is_mark m.Colon) (g.sign m.Colon · g.expr))) };
+    ghost rule = { part p.section };
 
     ghost text = { sp.section };
 
@@ -77,44 +73,38 @@ impl Part for ArraySections {
     }
 }
 
-/// The sections of a set of nodes, which have no third number.
-struct SetSections;
+/// The pieces of a set of nodes.
+struct Pieces;
 
-impl Part for SetSections {
-    type Made = Section;
+impl Part for Pieces {
+    type Made = Piece;
 
-    ghost rule = { choice (g.is_mark m.Colon) (g.sign m.Colon) (g.expr_colon · g.optional (g.is_mark m.Colon) (g.sign m.Colon · g.expr)) };
+    ghost rule = { part p.piece };
 
-    ghost text = { sp.section };
+    ghost text = { sp.piece };
 
-    ghost is_fit = { f.FitsSetSection };
+    ghost is_fit = { f.FitsPiece };
 
-    fn read(alloc: Global, r: Reader<'_>) -> Parsed<'_, Section> {
+    fn read(alloc: Global, r: Reader<'_>) -> Parsed<'_, Piece> {
         if r.is_mark(Mark::Colon) {
             let (colon, r) = r.mark(Mark::Colon, Effect::Plain)?;
-            return Ok((Section::All(colon), r));
+            return Ok((Piece::All(colon), r));
         }
-        let (first, r) = expression(alloc, true, r)?;
-        match after_colon(alloc, r) {
-            Ok((second, r)) => Ok((Section::Numbers(first, second, None), r)),
-            Err(stop) => {
-                drop(first);
-                Err(stop)
-            }
-        }
+        let (range, r) = Ranges::read(alloc, r)?;
+        Ok((Piece::Numbers(range.0, range.1), r))
     }
 }
 
 /// A set of nodes.
-pub fn set(alloc: Global, r: Reader<'_>) -> Parsed<'_, Sections>
+pub fn set(alloc: Global, r: Reader<'_>) -> Parsed<'_, NodesSet>
     ensures goes { Parses (part p.set) r.entry result }
-    ensures reads { IfOk result (λ x. r.entry.tokens.now ≡ sp.sections x.0 x.1.tokens.now) }
+    ensures reads { IfOk result (λ x. r.entry.tokens.now ≡ sp.nodes_set x.0 x.1.tokens.now) }
     ensures fits { IfOk result (λ x. f.FitsSet x.0) }
     ensures shorter { IfOk result (λ x. length x.1.tokens.now < length r.entry.tokens.now) }
 {
     let (name, r) = r.name(alloc)?;
-    let (sections, r) = any_dims::<SetSections>(alloc, r)?;
-    Ok((Sections { name, sections }, r))
+    let (pieces, r) = any_several::<Pieces>(alloc, r)?;
+    Ok((NodesSet { name, pieces }, r))
 }
 
 /// A part of an array.
@@ -224,9 +214,9 @@ pub fn barrier(start: Place, r: Reader<'_>) -> Parsed<'_, Plain>
 }
 
 /// The set of nodes that a bcast comes from, up to the end of its line.
-fn source_set(alloc: Global, r: Reader<'_>) -> Parsed<'_, (Place, Sections, Place)>
+fn source_set(alloc: Global, r: Reader<'_>) -> Parsed<'_, (Place, NodesSet, Place)>
     ensures goes { Parses (g.spelled (codes "from") · part p.set · g.line_end) r.entry result }
-    ensures reads { IfOk result (λ x. r.entry.tokens.now ≡ sp.spelled (codes "from") x.0.0 (sp.sections x.0.1 ((t.Close at x.0.2) ∷ x.1.tokens.now))) }
+    ensures reads { IfOk result (λ x. r.entry.tokens.now ≡ sp.spelled (codes "from") x.0.0 (sp.nodes_set x.0.1 ((t.Close at x.0.2) ∷ x.1.tokens.now))) }
     ensures fits { IfOk result (λ x. f.FitsSet x.0.1) }
     ensures shorter { IfOk result (λ x. length x.1.tokens.now < length r.entry.tokens.now) }
 {

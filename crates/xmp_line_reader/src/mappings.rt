@@ -1,27 +1,28 @@
-// The lines of nodes, templates, distributions, aligns and shadows.
+// The lines of templates, distributions, aligns and shadows, and of mappings in all.
 ghost use Rattle.std.specs.Prelude.{◌≡◌, ◌≤◌, ◌<◌, ⊤, false, List, [], IfOk, ◌∷◌, length, codes};
 ghost use Rattle.xmp_lex.specs.declared.token.Mark.TheVariants as m;
 ghost use Rattle.xmp_lex.specs.declared.token.TokenKind.TheVariants as t;
 ghost use Rattle.xmp_syntax.specs.Parts as p;
-ghost use Rattle.xmp_syntax.specs.Reading.{part, choice, tok, operator, closing, ◌·◌};
+ghost use Rattle.xmp_syntax.specs.Reading.{part, tok, operator, ◌·◌};
 ghost use Rattle.xmp_syntax.specs.Grammar as g;
 ghost use Rattle.xmp_syntax.specs.Spell as sp;
 ghost use Rattle.xmp_syntax.specs.Spell.{◌at◌};
 ghost use Rattle.xmp_syntax.specs.Fits as f;
 ghost use Rattle.xmp_reader.specs.Going.{Parses};
-ghost use Rattle.xmp_line_reader.specs.Lines.{Closes, ClosesBefore, Ends, ReadsBefore, part_of_mapping};
+ghost use Rattle.xmp_line_reader.specs.Lines.{ReadsBefore, part_of_mapping};
 
+use crate::nodes::nodes;
 use crate::words::{MappingWord, mapping_word};
-use sqlite_items::Items;
 use std::alloc::Global;
 use xmp_base::Place;
 use xmp_lex::Mark;
 use xmp_reader::{
-    Class, Depth, Effect, Exprs, Parsed, Part, Reader, any_dims, comma_list, dims, expression,
-    in_braces, in_parens, level,
+    Class, Effect, Exprs, Parsed, Part, Reader, comma_list, dims, expression, in_braces, in_parens,
+    level, several,
 };
 use xmp_syntax::{
     AlignDimension, CommaList, DirectiveLine, DistForm, Expr, Inside, Mapping, Name, Placed, Point,
+    Several,
 };
 
 /// Lists of expressions.
@@ -72,13 +73,13 @@ fn any_width(alloc: Global, r: Reader<'_>) -> Parsed<'_, Option<Inside<Expr>>>
     Ok((Some(width), r))
 }
 
-/// The forms of a distribution.
+/// How dimensions are distributed.
 struct DistForms;
 
 impl Part for DistForms {
     type Made = DistForm;
 
-    ghost rule = { part p.dist_form };
+    ghost rule = { part p.how };
 
     ghost text = { sp.dist_form };
 
@@ -110,7 +111,7 @@ struct AlignDimensions;
 impl Part for AlignDimensions {
     type Made = AlignDimension;
 
-    ghost rule = { choice (g.is_mark m.Star) (g.sign m.Star) g.name };
+    ghost rule = { part p.align_dimension };
 
     ghost text = { sp.align_dimension };
 
@@ -128,7 +129,7 @@ impl Part for AlignDimensions {
 
 /// The offset of a point with its sign, where there is one.
 fn any_offset(alloc: Global, r: Reader<'_>) -> Parsed<'_, Option<(Placed<Mark>, Expr)>>
-    ensures goes { Parses (g.optional g.is_offset (tok operator g.is_offset · part (p.level 1 false))) r.entry result }
+    ensures goes { Parses (g.optional g.is_offset (tok operator g.is_offset · part (p.level 0 false))) r.entry result }
     ensures reads { IfOk result (λ x. r.entry.tokens.now ≡ sp.optional sp.offset x.0 x.1.tokens.now) }
     ensures fits { IfOk result (λ x. f.If f.FitsOffset x.0) }
     ensures shorter { IfOk result (λ x. length x.1.tokens.now ≤ length r.entry.tokens.now) }
@@ -137,7 +138,7 @@ fn any_offset(alloc: Global, r: Reader<'_>) -> Parsed<'_, Option<(Placed<Mark>, 
         return Ok((None, r));
     }
     let (sign, r) = r.mark_of(Class::Offset, Effect::Operator)?;
-    let (size, r) = level(alloc, 1, false, r)?;
+    let (size, r) = level(alloc, 0, false, r)?;
     Ok((Some((sign, size)), r))
 }
 
@@ -147,7 +148,7 @@ struct Points;
 impl Part for Points {
     type Made = Point;
 
-    ghost rule = { part p.point };
+    ghost rule = { part p.place };
 
     ghost text = { sp.point };
 
@@ -165,7 +166,7 @@ impl Part for Points {
 }
 
 /// `[ ":" expr ]`, where no further colon may follow.
-pub fn after_colon(alloc: Global, r: Reader<'_>) -> Parsed<'_, Option<(Place, Expr)>>
+fn after_colon(alloc: Global, r: Reader<'_>) -> Parsed<'_, Option<(Place, Expr)>>
     ensures goes { Parses (g.optional (g.is_mark m.Colon) (g.sign m.Colon · g.expr)) r.entry result }
     ensures reads { IfOk result (λ x. r.entry.tokens.now ≡ sp.optional sp.after_colon x.0 x.1.tokens.now) }
     ensures fits { IfOk result (λ x. f.If f.FitsSecond x.0) }
@@ -179,17 +180,17 @@ pub fn after_colon(alloc: Global, r: Reader<'_>) -> Parsed<'_, Option<(Place, Ex
     Ok((Some((colon, value)), r))
 }
 
-/// The widths of a shadow, one or two a dimension.
-struct Widths;
+/// Bounds of a template, widths of a shadow, and numbers of a section: one, or two with a colon between them.
+pub struct Ranges;
 
-impl Part for Widths {
+impl Part for Ranges {
     type Made = (Expr, Option<(Place, Expr)>);
 
-    ghost rule = { g.expr_colon · g.optional (g.is_mark m.Colon) (g.sign m.Colon · g.expr) };
+    ghost rule = { part p.range };
 
-    ghost text = { sp.width };
+    ghost text = { sp.range };
 
-    ghost is_fit = { f.FitsWidth };
+    ghost is_fit = { f.FitsRange };
 
     fn read(alloc: Global, r: Reader<'_>) -> Parsed<'_, (Expr, Option<(Place, Expr)>)> {
         let (low, r) = expression(alloc, true, r)?;
@@ -203,43 +204,8 @@ impl Part for Widths {
     }
 }
 
-/// The star of a nodes array whose size is not given, behind its opening bracket.
-fn star_behind(outer: Depth, bracket: Place, r: Reader<'_>) -> Parsed<'_, Inside<Place>>
-    ensures goes { Closes (g.sign m.Star) outer r.entry result }
-    ensures reads { IfOk result (λ x. (t.Mark m.OpenBracket at bracket) ∷ r.entry.tokens.now ≡ sp.in_brackets (sp.sign m.Star) x.0 x.1.tokens.now) }
-    ensures shorter { IfOk result (λ x. length x.1.tokens.now < length r.entry.tokens.now) }
-{
-    let (item, r) = r.mark(Mark::Star, Effect::Plain)?;
-    let (close, r) = r.mark(Mark::CloseBracket, Effect::Closing(outer))?;
-    let open = bracket;
-    Ok((Inside { open, item, close }, r))
-}
-
-/// The first size of a nodes array, behind its opening bracket.
-fn size_behind(
-    alloc: Global,
-    outer: Depth,
-    bracket: Place,
-    r: Reader<'_>,
-) -> Parsed<'_, Inside<Expr>>
-    ensures goes { Closes g.expr outer r.entry result }
-    ensures reads { IfOk result (λ x. (t.Mark m.OpenBracket at bracket) ∷ r.entry.tokens.now ≡ sp.in_brackets sp.expr x.0 x.1.tokens.now) }
-    ensures fits { IfOk result (λ x. f.FitsExpr x.0.item) }
-    ensures shorter { IfOk result (λ x. length x.1.tokens.now < length r.entry.tokens.now) }
-{
-    let (item, r) = expression(alloc, false, r)?;
-    let open = bracket;
-    match r.mark(Mark::CloseBracket, Effect::Closing(outer)) {
-        Ok((close, r)) => Ok((Inside { open, item, close }, r)),
-        Err(stop) => {
-            drop(item);
-            Err(stop)
-        }
-    }
-}
-
 /// A plain name that is a word of the line, and the name behind it.
-fn named<'a>(alloc: Global, word: &[u8], r: Reader<'a>) -> Parsed<'a, (Place, Name)>
+pub fn named<'a>(alloc: Global, word: &[u8], r: Reader<'a>) -> Parsed<'a, (Place, Name)>
     ensures goes { ReadsBefore (λ N. g.spelled word.now · g.name · N) r.entry result }
     ensures reads { IfOk result (λ x. r.entry.tokens.now ≡ sp.spelled word.now x.0.0 (sp.name x.0.1 x.1.tokens.now)) }
     ensures shorter { IfOk result (λ x. length x.1.tokens.now < length r.entry.tokens.now) }
@@ -254,91 +220,15 @@ pub fn template_points<'a>(
     alloc: Global,
     word: &[u8],
     r: Reader<'a>,
-) -> Parsed<'a, (Place, Name, Items<Inside<Point>>)>
-    ensures goes { ReadsBefore (λ N. g.spelled word.now · g.name · g.dims (part p.point) · N) r.entry result }
-    ensures reads { IfOk result (λ x. r.entry.tokens.now ≡ sp.spelled word.now x.0.0 (sp.name x.0.1 (sp.dims sp.point x.0.2 x.1.tokens.now))) }
-    ensures fits { IfOk result (λ x. f.FitsSomeDims f.FitsPoint x.0.2) }
+) -> Parsed<'a, (Place, Name, Several<Point, Point>)>
+    ensures goes { ReadsBefore (λ N. g.spelled word.now · g.name · g.several (part p.place) (part p.place) · N) r.entry result }
+    ensures reads { IfOk result (λ x. r.entry.tokens.now ≡ sp.spelled word.now x.0.0 (sp.name x.0.1 (sp.several sp.point sp.point x.0.2 x.1.tokens.now))) }
+    ensures fits { IfOk result (λ x. f.FitsSeveral f.FitsPoint f.FitsPoint x.0.2) }
     ensures shorter { IfOk result (λ x. length x.1.tokens.now < length r.entry.tokens.now) }
 {
     let (head, r) = named(alloc, word, r)?;
-    let (points, r) = dims::<Points>(alloc, r)?;
+    let (points, r) = several::<Points, Points>(alloc, r)?;
     Ok(((head.0, head.1, points), r))
-}
-
-/// The sizes of a nodes array, behind the first opening bracket.
-fn sizes_behind(
-    alloc: Global,
-    outer: Depth,
-    bracket: Place,
-    r: Reader<'_>,
-) -> Parsed<'_, Items<Inside<Expr>>>
-    ensures goes { ClosesBefore (λ N. g.expr · tok closing (g.is_mark m.CloseBracket) · g.any_dims g.expr · N) outer r.entry result }
-    ensures reads { IfOk result (λ x. (t.Mark m.OpenBracket at bracket) ∷ r.entry.tokens.now ≡ sp.dims sp.expr x.0 x.1.tokens.now) }
-    ensures fits { IfOk result (λ x. f.FitsSomeDims f.FitsExpr x.0) }
-    ensures shorter { IfOk result (λ x. length x.1.tokens.now < length r.entry.tokens.now) }
-{
-    let mut sizes = Items::new(alloc);
-    let (first, r) = size_behind(alloc, outer, bracket, r)?;
-    sizes.push(first)?;
-    let (more, r) = any_dims::<Exprs>(alloc, r)?;
-    sizes.append(more)?;
-    Ok((sizes, r))
-}
-
-/// A nodes array whose size is not given, behind its opening bracket.
-fn star_nodes(
-    start: Place,
-    head: (Place, Name),
-    outer: Depth,
-    bracket: Place,
-    r: Reader<'_>,
-) -> Parsed<'_, Mapping>
-    ensures goes { Ends (g.sign m.Star · tok closing (g.is_mark m.CloseBracket) · g.line_end) outer r.entry result }
-    ensures reads { IfOk result (λ x. (t.Pragma at start) ∷ sp.spelled (codes "nodes") head.0 (sp.name head.1 ((t.Mark m.OpenBracket at bracket) ∷ r.entry.tokens.now)) ≡ sp.spell_mapping x.0 x.1.tokens.now) }
-    ensures fits { IfOk result (λ x. f.FitsMapping x.0) }
-    ensures shorter { IfOk result (λ x. length x.1.tokens.now < length r.entry.tokens.now) }
-{
-    let (star, r) = star_behind(outer, bracket, r)?;
-    let (end, r) = r.line_end()?;
-    let word = head.0;
-    let line = DirectiveLine { start, word, end };
-    Ok((Mapping::NodesStar(line, head.1, star), r))
-}
-
-/// A nodes array of these sizes, behind its opening bracket.
-fn sized_nodes(
-    alloc: Global,
-    start: Place,
-    head: (Place, Name),
-    outer: Depth,
-    bracket: Place,
-    r: Reader<'_>,
-) -> Parsed<'_, Mapping>
-    ensures goes { Ends (g.expr · tok closing (g.is_mark m.CloseBracket) · g.any_dims g.expr · g.line_end) outer r.entry result }
-    ensures reads { IfOk result (λ x. (t.Pragma at start) ∷ sp.spelled (codes "nodes") head.0 (sp.name head.1 ((t.Mark m.OpenBracket at bracket) ∷ r.entry.tokens.now)) ≡ sp.spell_mapping x.0 x.1.tokens.now) }
-    ensures fits { IfOk result (λ x. f.FitsMapping x.0) }
-    ensures shorter { IfOk result (λ x. length x.1.tokens.now < length r.entry.tokens.now) }
-{
-    let (sizes, r) = sizes_behind(alloc, outer, bracket, r)?;
-    let (end, r) = r.line_end()?;
-    let word = head.0;
-    let line = DirectiveLine { start, word, end };
-    Ok((Mapping::Nodes(line, head.1, sizes), r))
-}
-
-fn nodes(alloc: Global, start: Place, r: Reader<'_>) -> Parsed<'_, Mapping>
-    ensures goes { Parses (g.rule p.nodes) r.entry result }
-    ensures reads { IfOk result (λ x. (t.Pragma at start) ∷ r.entry.tokens.now ≡ sp.spell_mapping x.0 x.1.tokens.now) }
-    ensures fits { IfOk result (λ x. f.FitsMapping x.0) }
-    ensures shorter { IfOk result (λ x. length x.1.tokens.now < length r.entry.tokens.now) }
-{
-    let (head, r) = named(alloc, b"nodes", r)?;
-    let outer = r.depth;
-    let (open, r) = r.mark(Mark::OpenBracket, Effect::Opening)?;
-    if r.is_mark(Mark::Star) {
-        return star_nodes(start, head, outer, open, r);
-    }
-    sized_nodes(alloc, start, head, outer, open, r)
 }
 
 fn template(alloc: Global, start: Place, r: Reader<'_>) -> Parsed<'_, Mapping>
@@ -348,7 +238,7 @@ fn template(alloc: Global, start: Place, r: Reader<'_>) -> Parsed<'_, Mapping>
     ensures shorter { IfOk result (λ x. length x.1.tokens.now < length r.entry.tokens.now) }
 {
     let (head, r) = named(alloc, b"template", r)?;
-    let (sizes, r) = dims::<Exprs>(alloc, r)?;
+    let (sizes, r) = several::<Exprs, Ranges>(alloc, r)?;
     let (end, r) = r.line_end()?;
     let word = head.0;
     let line = DirectiveLine { start, word, end };
@@ -362,7 +252,7 @@ fn distribute(alloc: Global, start: Place, r: Reader<'_>) -> Parsed<'_, Mapping>
     ensures shorter { IfOk result (λ x. length x.1.tokens.now < length r.entry.tokens.now) }
 {
     let (head, r) = named(alloc, b"distribute", r)?;
-    let (forms, r) = dims::<DistForms>(alloc, r)?;
+    let (forms, r) = several::<DistForms, DistForms>(alloc, r)?;
     let (onto, r) = named(alloc, b"onto", r)?;
     let (end, r) = r.line_end()?;
     let word = head.0;
@@ -395,7 +285,7 @@ fn shadow(alloc: Global, start: Place, r: Reader<'_>) -> Parsed<'_, Mapping>
     ensures shorter { IfOk result (λ x. length x.1.tokens.now < length r.entry.tokens.now) }
 {
     let (head, r) = named(alloc, b"shadow", r)?;
-    let (widths, r) = dims::<Widths>(alloc, r)?;
+    let (widths, r) = dims::<Ranges>(alloc, r)?;
     let (end, r) = r.line_end()?;
     let word = head.0;
     let line = DirectiveLine { start, word, end };

@@ -1,7 +1,7 @@
 //! The parser: from the tokens of a text to its program, or to the first token at which they are none.
 //!
 //! It reads statements, declarations, functions and programs with the readers of xmp_reader (expressions, lists) and
-//! xmp_line_reader (directives). Tests stand above, in xmp_source.
+//! xmp_line_reader (directives). Tests stand above, in xmp_text_tests.
 #![tactic(auto)]
 
 mod blocks;

@@ -3,6 +3,7 @@ ghost use Rattle.std.specs.Prelude.{◌≡◌, ◌≤◌, ◌<◌, MatchOption, 
 ghost use Rattle.xmp_reader.specs.Depths.{now_behind, base_behind};
 
 use crate::depth::Depth;
+use xmp_base::DEPTH_LIMIT;
 
 /// What a token does to the depth. A closing token has the depth that was outside.
 #[derive(Clone, Copy)]
@@ -18,9 +19,6 @@ pub enum Effect {
     Entering,
 }
 
-/// The depth that no token may be above.
-pub const DEEPEST: u32 = 128;
-
 /// The depth before a text.
 pub fn start() -> Depth
     ensures now { result.now ≡ 0 }
@@ -33,7 +31,7 @@ pub fn start() -> Depth
 fn deeper(depth: Depth) -> Option<u32>
     ensures { MatchOption result (128 < suc depth.now) (λ n. (n ≡ suc depth.now) × (n ≤ 128)) }
 {
-    if depth.now < DEEPEST {
+    if depth.now < DEPTH_LIMIT {
         Some(depth.now + 1)
     } else {
         None
@@ -43,7 +41,7 @@ fn deeper(depth: Depth) -> Option<u32>
 fn within(depth: Depth) -> Option<Depth>
     ensures { MatchOption result (128 < depth.now) (λ n. (n ≡ depth) × (n.now ≤ 128)) }
 {
-    if depth.now <= DEEPEST {
+    if depth.now <= DEPTH_LIMIT {
         Some(depth)
     } else {
         None

@@ -2,7 +2,7 @@
 //!
 //! Each function reads one part of the grammar at the front of the tokens that are left: `goes` says that every reading
 //! of a program that comes to it goes on behind the part, or that the first bad token is the one that it answers.
-//! Tests stand above, in xmp_source.
+//! Tests stand above, in xmp_text_tests.
 #![tactic(auto)]
 
 mod changes;
@@ -21,7 +21,7 @@ pub use effect::{Effect, start};
 pub use expressions::{expression, level};
 pub use marks::Class;
 pub use parts::{
-    Exprs, NameLists, Names, Part, any_dims, comma_list, dims, in_braces, in_parens, more_parts,
-    type_words,
+    Exprs, NameLists, Names, Part, any_dims, any_several, comma_list, dims, in_braces, in_parens,
+    more_parts, several, type_words,
 };
 pub use reader::{Parsed, Reader, Stop};

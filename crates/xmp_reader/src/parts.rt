@@ -15,7 +15,7 @@ use crate::reader::{Parsed, Reader};
 use sqlite_items::Items;
 use std::alloc::Global;
 use xmp_lex::{Mark, Reserved};
-use xmp_syntax::{CommaList, Expr, Inside, Name, Next, TypeWords};
+use xmp_syntax::{CommaList, Expr, Inside, Name, Next, Several, TypeWords};
 
 /// A kind of part that stands in lists and in brackets.
 pub trait Part {
@@ -140,6 +140,53 @@ pub fn dims<P: Part>(alloc: Global, r: Reader<'_>) -> Parsed<'_, Items<Inside<P:
     dims.push(first)?;
     dims.append(more)?;
     Ok((dims, r))
+}
+
+/// `"(" P { "," P } ")"`
+fn list_in_parens<P: Part>(alloc: Global, r: Reader<'_>) -> Parsed<'_, Inside<CommaList<P::Made>>>
+    ensures goes { Parses (g.parens (g.list P.rule)) r.entry result }
+    ensures reads { IfOk result (λ x. r.entry.tokens.now ≡ sp.in_parens (sp.list P.text) x.0 x.1.tokens.now) }
+    ensures fits { IfOk result (λ x. f.FitsList P.is_fit x.0.item) }
+    ensures shorter { IfOk result (λ x. length x.1.tokens.now < length r.entry.tokens.now) }
+{
+    let outer = r.depth;
+    let (open, r) = r.mark(Mark::OpenParen, Effect::Opening)?;
+    let (item, r) = comma_list::<P>(alloc, r)?;
+    let (close, r) = r.mark(Mark::CloseParen, Effect::Closing(outer))?;
+    Ok((Inside { open, item, close }, r))
+}
+
+/// Each in brackets, `B`, or all between one pair of parentheses, `P`; at least one.
+pub fn several<B: Part, P: Part>(
+    alloc: Global,
+    r: Reader<'_>,
+) -> Parsed<'_, Several<B::Made, P::Made>>
+    ensures goes { Parses (g.several B.rule P.rule) r.entry result }
+    ensures reads { IfOk result (λ x. r.entry.tokens.now ≡ sp.several B.text P.text x.0 x.1.tokens.now) }
+    ensures fits { IfOk result (λ x. f.FitsSeveral B.is_fit P.is_fit x.0) }
+    ensures shorter { IfOk result (λ x. length x.1.tokens.now < length r.entry.tokens.now) }
+{
+    if r.is_mark(Mark::OpenParen) {
+        let (list, r) = list_in_parens::<P>(alloc, r)?;
+        return Ok((Several::Parens(list), r));
+    }
+    let (dims, r) = dims::<B>(alloc, r)?;
+    Ok((Several::Brackets(dims), r))
+}
+
+/// The same of one kind, or none.
+pub fn any_several<P: Part>(alloc: Global, r: Reader<'_>) -> Parsed<'_, Several<P::Made, P::Made>>
+    ensures goes { Parses (g.any_several P.rule) r.entry result }
+    ensures reads { IfOk result (λ x. r.entry.tokens.now ≡ sp.several P.text P.text x.0 x.1.tokens.now) }
+    ensures fits { IfOk result (λ x. f.FitsAnySeveral P.is_fit P.is_fit x.0) }
+    ensures shorter { IfOk result (λ x. length x.1.tokens.now ≤ length r.entry.tokens.now) }
+{
+    if r.is_mark(Mark::OpenParen) {
+        let (list, r) = list_in_parens::<P>(alloc, r)?;
+        return Ok((Several::Parens(list), r));
+    }
+    let (dims, r) = any_dims::<P>(alloc, r)?;
+    Ok((Several::Brackets(dims), r))
 }
 
 /// Plain names.

@@ -24,7 +24,7 @@ use crate::kinds::{
 };
 use crate::marks::{Class, has};
 use std::alloc::{AllocError, Global};
-use xmp_base::{Bytes, NoMemory, Place};
+use xmp_base::{Bytes, NoMemory, Place, first_and_rest};
 use xmp_lex::{Mark, Reserved, Token, TokenKind};
 use xmp_num::Ty;
 use xmp_syntax::{Format, Name, Placed};
@@ -70,21 +70,6 @@ pub struct Reader<'a> {
 /// What was read, and what is left.
 pub type Parsed<'a, T> = Result<(T, Reader<'a>), Stop>;
 
-fn copied(alloc: Global, bytes: &Bytes) -> Result<Bytes, NoMemory>
-    ensures { IfOk result (λ b. b ≡ bytes.now) }
-{
-    let mut copy = Bytes::new(alloc);
-    copy.push_all(bytes.as_slice())?;
-    Ok(copy)
-}
-
-/// The first token, and those after it.
-fn front(tokens: &[Token]) -> Option<(&Token, &[Token])>
-    ensures { MatchOption result (tokens.now ≡ []) (λ x. tokens.now ≡ x.0.now ∷ x.1.now) }
-{
-    tokens.split_first()
-}
-
 impl<'a> Reader<'a> {
     /// The kind of the next token.
     pub fn kind(self) -> Option<&'a TokenKind>
@@ -111,7 +96,7 @@ impl<'a> Reader<'a> {
         ensures depth { IfOk result (λ x. (x.1.depth.now ≡ now_behind self.entry.depth effect) × (x.1.depth.base ≡ base_behind self.entry.depth effect)) }
         ensures shorter { IfOk result (λ x. length x.1.tokens.now < length self.entry.tokens.now) }
     {
-        match front(self.tokens) {
+        match first_and_rest(self.tokens) {
             None => Err(self.unexpected()),
             Some((token, rest)) => match behind(self.depth, effect) {
                 None => Err(Stop::TooDeep(self.tokens.len())),
@@ -234,7 +219,7 @@ impl<'a> Reader<'a> {
     fn is_colon_bracket(self) -> bool
         ensures { result ≡ next_are (g.is_mark m.Colon) (g.is_mark m.OpenBracket) self.entry.tokens.now }
     {
-        match front(self.tokens) {
+        match first_and_rest(self.tokens) {
             None => false,
             Some((_, rest)) => {
                 let behind = Reader {
@@ -266,9 +251,9 @@ impl<'a> Reader<'a> {
         ensures deep { IfOk result (λ x. x.1.depth.now ≤ 128) }
         ensures shorter { IfOk result (λ x. length x.1.tokens.now < length self.entry.tokens.now) }
     {
-        match front(self.tokens) {
+        match first_and_rest(self.tokens) {
             None => Err(self.unexpected()),
-            Some((colon, rest)) => match front(rest) {
+            Some((colon, rest)) => match first_and_rest(rest) {
                 None => Err(self.unexpected()),
                 Some((open, last)) => match behind(self.depth, Effect::Opening) {
                     None => Err(Stop::TooDeep(rest.len())),
@@ -414,7 +399,7 @@ impl<'a> Reader<'a> {
         match self.next_name() {
             Some(text) => {
                 let (at, rest) = self.take(true, Effect::Plain)?;
-                let text = copied(alloc, text)?;
+                let text = Bytes::copy_of(alloc, text.as_slice())?;
                 Ok((Name { text, at }, rest))
             }
             None => Err(self.unexpected()),
@@ -429,7 +414,7 @@ impl<'a> Reader<'a> {
         match self.next_text() {
             Some(text) => {
                 let (at, rest) = self.take(true, Effect::Plain)?;
-                let text = copied(alloc, text)?;
+                let text = Bytes::copy_of(alloc, text.as_slice())?;
                 Ok((Format { text, at }, rest))
             }
             None => Err(self.unexpected()),
@@ -473,7 +458,7 @@ impl<'a> Reader<'a> {
         if !self.is_finish() {
             return Err(self.unexpected());
         }
-        match front(self.tokens) {
+        match first_and_rest(self.tokens) {
             None => Err(self.unexpected()),
             Some((token, rest)) => match behind(self.depth, Effect::Plain) {
                 None => Err(Stop::TooDeep(self.tokens.len())),

@@ -5,6 +5,8 @@
 #[cfg(test)]
 mod depths;
 #[cfg(test)]
+mod lines;
+#[cfg(test)]
 mod spelled;
 #[cfg(test)]
 mod texts;

@@ -1,8 +1,9 @@
 // The tokens that the tree of a text is spelled with are the text's.
-use crate::texts::SHADOWED;
+use crate::texts::{IN_PARENTHESES, SHADOWED};
 use std::alloc::Global;
 use std::fmt::Write;
 use std::test::Fail;
+use xmp_base::SOURCE_LIMIT;
 use xmp_lex::{TokenKind, expand, lex};
 use xmp_source::tree_of;
 use xmp_tree::tokens_of;
@@ -33,7 +34,7 @@ fn show(row: &mut String, kind: &TokenKind) -> Result<(), Fail> {
 /// The kinds of a text's tokens, its definitions replaced.
 fn lexed(alloc: Global, text: &[u8]) -> Result<String, Fail> {
     let mut row = String::new(alloc);
-    if text.len() > 1048576 {
+    if text.len() > SOURCE_LIMIT {
         return Ok(row);
     }
     match lex(alloc, text) {
@@ -53,7 +54,7 @@ fn lexed(alloc: Global, text: &[u8]) -> Result<String, Fail> {
 /// The kinds of the tokens of a text's tree.
 fn spelled(alloc: Global, text: &[u8]) -> Result<String, Fail> {
     let mut row = String::new(alloc);
-    if text.len() > 1048576 {
+    if text.len() > SOURCE_LIMIT {
         return Ok(row);
     }
     match tree_of(alloc, text) {
@@ -114,6 +115,29 @@ a[0:4][:] = b[1:4:2][x];
 }
 }";
 
+// Each form of directive in parentheses that IN_PARENTHESES has not.
+const MORE_DIRECTIVES: &[u8] = b"#pragma xmp nodes p(*)
+#pragma xmp nodes q(2, 2)
+#pragma xmp nodes r[2] = p[0:2]
+#pragma xmp nodes s(2) = p(1:2)
+#pragma xmp template u(8, 0:7, N)
+#pragma xmp distribute u(gblock({1, 2}), cyclic(2), *) onto q
+#pragma xmp align a[i][*] with t(i + 1, *)
+int main() {
+#pragma xmp loop (i, j) on t(i - 1, j) reduction(+:x, y)
+for (;;) ;
+#pragma xmp loop on t(*)
+for (;;) ;
+#pragma xmp bcast (x, y) from p(1:2, :)
+#pragma xmp tasks
+{
+#pragma xmp task on p(1)
+;
+#pragma xmp task on p(2, 1:2)
+{ x = 1; }
+}
+}";
+
 /// Notes a text whose tree has other tokens.
 fn note(wrong: &mut String, alloc: Global, text: &[u8]) -> Result<(), Fail> {
     let made = spelled(alloc, text)?;
@@ -131,6 +155,8 @@ fn the_tokens_of_a_tree_are_those_of_its_text(rt: HostRuntime) -> Result<(), Fai
     note(&mut wrong, alloc, SHADOWED)?;
     note(&mut wrong, alloc, STATEMENTS)?;
     note(&mut wrong, alloc, DIRECTIVES)?;
+    note(&mut wrong, alloc, IN_PARENTHESES)?;
+    note(&mut wrong, alloc, MORE_DIRECTIVES)?;
     assert_eq!(rt; wrong.as_str(), "");
     Ok(())
 }

@@ -1,15 +1,16 @@
 // The tokens of programs.
 ghost use Rattle.std.specs.Prelude.{◌≡◌, IfOk, OnOk, map};
-ghost use Rattle.xmp_syntax.specs.Spell.{body, each, function, next, optional, parameter, parameters, spelling, tokens, top_item};
+ghost use Rattle.xmp_syntax.specs.Spell.{body, each, function, optional, parameter, parameters, spelling, tokens, top_item};
 
 use crate::rest::Rest;
 use crate::spelling::put_name;
 use crate::spelling_lines::{put_declaration, put_mapping, put_type_words};
+use crate::spelling_lists::{Spelled, put_list};
 use crate::spelling_statements::put_body;
 use std::alloc::Global;
 use xmp_base::NoMemory;
 use xmp_lex::{Mark, Reserved, TokenKind};
-use xmp_syntax::{Function, Inside, Name, Next, Parameters, TopItem, Tree, TypeWords};
+use xmp_syntax::{Function, Inside, Name, Parameters, TopItem, Tree, TypeWords};
 
 fn put_parameter(rest: &mut Rest, alloc: Global, x: &(TypeWords, Name)) -> Result<(), NoMemory>
     ensures { OnOk result (rest.new ≡ parameter x.now rest.old) }
@@ -18,19 +19,17 @@ fn put_parameter(rest: &mut Rest, alloc: Global, x: &(TypeWords, Name)) -> Resul
     put_type_words(rest, x.0)
 }
 
-fn put_next_parameters(
-    rest: &mut Rest,
-    alloc: Global,
-    xs: &[Next<(TypeWords, Name)>],
-) -> Result<(), NoMemory>
-    ensures { OnOk result (rest.new ≡ each (next parameter) xs.now rest.old) }
-{
-    'items: for i in (0..xs.len()).rev() {
-        let x = &xs[i];
-        put_parameter(rest, alloc, &x.item)?;
-        rest.put_sign(Mark::Comma, x.comma)?;
+/// Parameters of a function.
+struct ParameterKind;
+
+impl Spelled for ParameterKind {
+    type Made = (TypeWords, Name);
+
+    ghost text = { parameter };
+
+    fn put(rest: &mut Rest, alloc: Global, x: &(TypeWords, Name)) -> Result<(), NoMemory> {
+        put_parameter(rest, alloc, x)
     }
-    Ok(())
 }
 
 fn put_parameters(rest: &mut Rest, alloc: Global, x: &Option<Parameters>) -> Result<(), NoMemory>
@@ -38,10 +37,7 @@ fn put_parameters(rest: &mut Rest, alloc: Global, x: &Option<Parameters>) -> Res
 {
     match x {
         Some(Parameters::Void(place)) => rest.put_word(Reserved::Void, *place),
-        Some(Parameters::Named(list)) => {
-            put_next_parameters(rest, alloc, list.more.as_slice())?;
-            put_parameter(rest, alloc, &list.first)
-        }
+        Some(Parameters::Named(list)) => put_list::<ParameterKind>(rest, alloc, list),
         None => Ok(()),
     }
 }

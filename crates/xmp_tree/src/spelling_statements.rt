@@ -7,7 +7,7 @@ ghost use Rattle.xmp_syntax.specs.Spell.{directive_line, expr, for_first, for_he
 use crate::rest::Rest;
 use crate::spelling::{put_arguments, put_expr, put_name, put_reference};
 use crate::spelling_lines::{
-    put_declaration, put_end, put_loop_line, put_mapping, put_names_inside, put_sections,
+    put_declaration, put_end, put_loop_line, put_mapping, put_names_inside, put_sections, put_set,
     put_start, put_task_line,
 };
 use sqlite_items::{Boxed, Items};
@@ -16,7 +16,7 @@ use xmp_base::{NoMemory, Place};
 use xmp_lex::{Mark, Reserved};
 use xmp_syntax::{
     BlockItem, Call, CommaList, DirectiveLine, Expr, ForFirst, ForHead, Format, Inside, Name, Next,
-    Plain, Reference, Sections, Simple, Stmt, TaskLine,
+    NodesSet, Plain, Reference, Sections, Simple, Stmt, TaskLine,
 };
 
 fn put_call(rest: &mut Rest, alloc: Global, x: &Call<Boxed<Expr>>) -> Result<(), NoMemory>
@@ -193,12 +193,12 @@ fn put_bcast(
     line: DirectiveLine,
     names: &Inside<CommaList<Name>>,
     from: Place,
-    set: &Sections,
+    set: &NodesSet,
 ) -> Result<(), NoMemory>
     ensures { OnOk result (rest.new ≡ spell_plain (Bcast line names.now from set.now) rest.old) }
 {
     put_end(rest, line)?;
-    put_sections(rest, alloc, set)?;
+    put_set(rest, alloc, set)?;
     rest.put_spelled(alloc, b"from", from)?;
     put_names_inside(rest, alloc, names)?;
     put_start(rest, alloc, b"bcast", line)

@@ -15,7 +15,7 @@ returns-in_err-at-in-Some-clause-goes c = λ s L K w.
     rw (p.1, p.2) (c.in_err-at-in-Some.ensures.goes g.is_name refl (name_some _ _ (sym c.in-Some.ensures)).1 s L K w)
 
 pub returns-in_ok-text-in-Some-clause-reads : goal.returns-in_ok-text-in-Some-clause-reads
-returns-in_ok-text-in-Some-clause-reads c = rw c.in_ok-text-in-Some.ensures (c.in_ok-at-in-Some.ensures.reads (t.Name c.in-Some.text.now) (λ q. (name_some _ _ (sym c.in-Some.ensures)).0))
+returns-in_ok-text-in-Some-clause-reads c = rw (c.in_ok-text-in-Some.ensures, c.as_slice.ensures) (c.in_ok-at-in-Some.ensures.reads (t.Name c.in-Some.text.now) (λ q. (name_some _ _ (sym c.in-Some.ensures)).0))
 
 pub returns-in-None-clause-goes : goal.returns-in-None-clause-goes
 returns-in-None-clause-goes c = λ s L K w. rw c.unexpected.ensures.value (taken_stuck eff.Plain g.is_name c.args.self.depth _ s L K (name_none _ (sym c.in-None.ensures)) w)

@@ -1,7 +1,0 @@
-use Rattle.std.proofs.Common.{◌≡◌, drop}
-use Rattle.xmp_syntax.specs.Spell.{each, next, parameter}
-use Rattle.xmp_tree.proofs.spelling_program.put_next_parameters.Given as goal
-
--- what is put down so far is what the items from here on spell
-abbrev pub invariant-items : goal.invariant-items
-invariant-items l = l.rest ≡ each (next parameter) (drop l.i l.xs) l.initial.rest
