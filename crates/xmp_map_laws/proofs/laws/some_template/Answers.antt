@@ -1,0 +1,5 @@
+use Rattle.xmp_map_laws.proofs.Made as lemmas
+use Rattle.xmp_map_laws.proofs.laws.some_template.Goals as goal
+
+pub returns : goal.returns
+returns c = lemmas.some_template
