@@ -1,5 +1,5 @@
 #!/usr/bin/env python3
-"""Runs the texts of LANGUAGE.md and ../examples/forms.md: check_language.py [PATH OF xmpc], which is ../crates/xmpc/out/xmpc beside this
+"""Runs the texts of LANGUAGE.md, ../examples/forms.md and flow.md: check_language.py [PATH OF xmpc], which is ../crates/xmpc/out/xmpc beside this
 file where no path is given.
 
 The line above a fenced block, one code span, says what becomes of the text in it:
@@ -110,7 +110,7 @@ def main():
     if not os.access(xmpc, os.X_OK):
         sys.exit(f"check_language: there is no program {xmpc}")
     with tempfile.TemporaryDirectory() as folder:
-        if sum([judge(xmpc, name, folder) for name in ("LANGUAGE.md", "../examples/forms.md")]):
+        if sum([judge(xmpc, name, folder) for name in ("LANGUAGE.md", "../examples/forms.md", "../examples/flow.md")]):
             sys.exit(1)
 
 
