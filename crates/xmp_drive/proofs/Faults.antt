@@ -15,6 +15,14 @@ pub err_map : {A E : Type 0} {P Q : E → Type 0} (r : Result A E) → ((e : E) 
 err_map (Ok x) f p = tt
 err_map (Err e) f p = f e p
 
+pub ok_map : {A E : Type 0} {P Q : A → Type 0} (r : Result A E) → ((x : A) → P x → Q x) → IfOk r P → IfOk r Q
+ok_map (Ok x) f p = f x p
+ok_map (Err e) f p = tt
+
+pub ok_both : {A E : Type 0} {P Q R : A → Type 0} (r : Result A E) → ((x : A) → P x → Q x → R x) → IfOk r P → IfOk r Q → IfOk r R
+ok_both (Ok x) f p q = f x p q
+ok_both (Err e) f p q = tt
+
 -- of the text, the macros or the syntax
 pub source_fault : (text : List ℕ) (given : Option ℕ) (e : Fault) → IsSourceFault text e → IsVerdictFault text given e
 source_fault text given (fault.Refused r) b = in_source b
