@@ -14,6 +14,7 @@ use crate::accepted::Accepted;
 use crate::coarrays::coarray_of;
 use crate::laws::{never_accepted_and_refused, one_refusal};
 use std::alloc::Global;
+use std::mem::drop;
 use xmp_base::{Fault, Phase, Refusal};
 use xmp_elab::{elaborate, text_numbers_lie};
 use xmp_flow::check;
@@ -47,11 +48,11 @@ fn judged_program(alloc: Global, prog: Prog) -> Result<Accepted, Fault>
     match check(alloc, &prog) {
         Ok(None) => Ok(Accepted::new(prog)),
         Ok(Some(refusal)) => {
-            std::mem::drop(prog);
+            drop(prog);
             Err(Fault::Refused(refusal))
         }
         Err(_) => {
-            std::mem::drop(prog);
+            drop(prog);
             Err(Fault::NoMemory)
         }
     }
