@@ -1,15 +1,14 @@
 -- The faults of the phases are those of the verdict.
 use Rattle.std.proofs.Common.{◌≡◌, refl, ℕ, List, Option, ◌⊎◌, inl, inr, ap}
-use Rattle.std.specs.Prelude.{IfErr, IfOk, None, OnOk, Result, Ok, Err}
+use Rattle.std.specs.Prelude.{IfErr, IfOk, OnOk, Result, Ok, Err}
 use Rattle.xmp_base.specs.declared.refusal.Fault.{Fault}
 use Rattle.xmp_base.specs.declared.refusal.Fault.TheVariants as fault
 use Rattle.xmp_base.specs.declared.refusal.Refusal.{Refusal}
 use Rattle.xmp_syntax.specs.declared.program.Tree.{Tree}
 use Rattle.xmp_prog.specs.declared.parts.ProgParts.{ProgParts}
 use Rattle.xmp_source.specs.Source.{IsTreeOf, IsSourceFault}
-use Rattle.xmp_parts.specs.Parts.{IsParts}
 use Rattle.xmp_parts.specs.Verdict.{IsFaultOf}
-use Rattle.xmp_drive.specs.Verdict.{IsFlowFault, IsRefused, in_source, in_tree, IsTreeFault, IsTreeVerdict, IsVerdictFault}
+use Rattle.xmp_drive.specs.Verdict.{IsRefused, in_source, in_tree, IsTreeFault, IsVerdictFault}
 
 pub err_map : {A E : Type 0} {P Q : E → Type 0} (r : Result A E) → ((e : E) → P e → Q e) → IfErr r P → IfErr r Q
 err_map (Ok x) f p = tt
@@ -27,14 +26,8 @@ tree_fault text given t is fault.NoMemory b = tt
 
 -- of its names or mappings
 pub names_fault : (t : Tree) (given : Option ℕ) (e : Fault) → IsFaultOf t given e → IsTreeFault t given e
-names_fault t given (fault.Refused r) b = inl (inl b)
+names_fault t given (fault.Refused r) b = inl b
 names_fault t given fault.NoMemory b = tt
-
--- of the flow of copies
-pub flow_fault : (t : Tree) (given : Option ℕ) (p : ProgParts) → IsTreeVerdict t given None → IsParts t given p
-    → (e : Fault) → IsFlowFault p e → IsTreeFault t given e
-flow_fault t given p unbroken parts (fault.Refused r) b = inr (unbroken, (p, parts, b))
-flow_fault t given p unbroken parts fault.NoMemory b = tt
 
 -- a text that is never refused gives no fault but want of memory
 pub only_memory : (text : List ℕ) (given : Option ℕ) → ((r : Refusal) → IsRefused text given r → ⊥) → (e : Fault) → IsVerdictFault text given e → e ≡ fault.NoMemory

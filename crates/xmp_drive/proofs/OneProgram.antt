@@ -52,14 +52,8 @@ one_after (Gave main w) p q P Q = one_made main w p q P Q
 one_parts : (t : Tree) (given : Option ℕ) (p q : ProgParts) → IsParts t given p → IsParts t given q → p ≡ q
 one_parts t given p q P Q = one_after (program_of t given) p q P Q
 
--- and so have two trees of a text
-pub parts_of_text : ((text : List ℕ) (t u : Tree) → IsTreeOf text t → IsTreeOf text u → t ≡ u) →
-    (text : List ℕ) (given : Option ℕ) (t u : Tree) (p q : ProgParts) → IsTreeOf text t → IsTreeOf text u
-    → IsParts t given p → IsParts u given q → p ≡ q
-parts_of_text same text given t u p q T U P Q = one_parts t given p q P (subst (λ x. IsParts x given q) (same text u t U T) Q)
-
 -- and so has a text
 pub one_program : ((text : List ℕ) (t u : Tree) → IsTreeOf text t → IsTreeOf text u → t ≡ u) →
     (text : List ℕ) (given : Option ℕ) (p q : ProgParts) → IsAccepted text given p → IsAccepted text given q → p ≡ q
 one_program same text given p q P Q =
-    parts_of_text same text given P.tree Q.tree p q P.is_tree Q.is_tree P.parts Q.parts
+    one_parts P.tree given p q P.parts (subst (λ t. IsParts t given q) (same text Q.tree P.tree Q.is_tree P.is_tree) Q.parts)

@@ -1,13 +1,11 @@
 -- The verdict on a text: the typed program that it is, or the refusal by the first rule that breaks. Phases are looked at in their order:
--- text, macros, syntax, names, mappings, and last coarrays or the flow of copies; one is looked at only where no rule of
--- those before it breaks. Source: this project.
+-- text, macros, syntax, names, mappings, and last coarrays; one is looked at only where no rule of those before it breaks. Source: this project.
 use Rattle.std.specs.Prelude.{◌≡◌, ⊤, ◌⊎◌, ℕ, List, [], ◌∷◌, Option, Some, None, option_map, if◌then◌else◌}
 use Rattle.xmp_base.specs.declared.place.Place.{Place}
 use Rattle.xmp_base.specs.declared.refusal.Refusal.{Refusal}
 use Rattle.xmp_base.specs.declared.refusal.Phase.TheVariants as phase
 use Rattle.xmp_base.specs.declared.refusal.Fault.{Fault}
 use Rattle.xmp_base.specs.declared.refusal.Fault.TheVariants as fault
-use Rattle.xmp_base.specs.First.{IsFirst}
 use Rattle.xmp_syntax.specs.declared.program.Tree.{Tree}
 use Rattle.xmp_prog.specs.declared.parts.ProgParts.{ProgParts}
 use Rattle.xmp_source.specs.Source.{IsTreeOf, Breaks}
@@ -15,7 +13,6 @@ use Rattle.xmp_names.specs.declared.names.Array.{Array}
 use Rattle.xmp_walk.specs.Program.{program_of}
 use Rattle.xmp_parts.specs.Verdict.{IsVerdict, world_after}
 use Rattle.xmp_parts.specs.Parts.{IsParts}
-use Rattle.xmp_flow.specs.Program.{FlowBreaks}
 
 -- ---- coarrays: as yet a program that declares one is refused, by the rule 9, at the name of its first
 
@@ -36,43 +33,28 @@ coarray_verdict t given = option_map coarray_refusal (first_coarray (arrays_of t
 
 -- ---- all phases
 
--- The verdict of the last phase on a typed program: the first rule of the flow of copies that breaks on some path, or none.
-abbrev pub Judged : ProgParts → Option Refusal → Type 0
-Judged p found = IsFirst (FlowBreaks p) found
-
 -- The verdict on a tree: that on its names and mappings; and, where no rule of theirs breaks, that on its coarrays; or none.
 abbrev pub IsTreeVerdict : Tree → Option ℕ → Option Refusal → Type 0
 IsTreeVerdict t given (Some r) = IsVerdict t given (Some r) ⊎ (IsVerdict t given None × (coarray_verdict t given ≡ Some r))
 IsTreeVerdict t given None = IsVerdict t given None × (coarray_verdict t given ≡ None)
 
--- The tree breaks this rule: one of names, mappings or coarrays; or none of theirs, and its typed program one of the flow.
-abbrev pub IsTreeRefusal : Tree → Option ℕ → Refusal → Type 0
-IsTreeRefusal t given r =
-    IsTreeVerdict t given (Some r) ⊎ (IsTreeVerdict t given None × ((p : ProgParts) × IsParts t given p × Judged p (Some r)))
-
 -- The fault is the refusal of the tree, or want of memory.
 abbrev pub IsTreeFault : Tree → Option ℕ → Fault → Type 0
-IsTreeFault t given (fault.Refused r) = IsTreeRefusal t given r
+IsTreeFault t given (fault.Refused r) = IsTreeVerdict t given (Some r)
 IsTreeFault t given fault.NoMemory = ⊤
 
--- The text is a program in which no rule breaks, and this is its typed program, for a number of nodes or none.
+-- The text is a program in which no rule of the text, macros, syntax, names, mappings or coarrays breaks (stale data isn't judged yet), and this is its typed program, for a number of nodes or none.
 pub record IsAccepted (text : List ℕ) (given : Option ℕ) (p : ProgParts) : Type 0 where
   pub tree : Tree
   pub is_tree : IsTreeOf text tree
   pub unbroken : IsTreeVerdict tree given None
   pub parts : IsParts tree given p
-  pub judged : Judged p None
 
--- The text breaks this rule at this place, and none before it: one of the text, the macros or the syntax; or the text has
--- a tree, and breaks one of names, mappings, coarrays or the flow of copies.
+-- The text breaks this rule at this place, and none before it: one of the text, the macros or the syntax; or the text has a tree, and
+-- breaks one of names, mappings or coarrays.
 pub data IsRefused (text : List ℕ) (given : Option ℕ) (r : Refusal) : Type 0 where
   in_source : Breaks text (fault.Refused r) → IsRefused text given r
-  in_tree : (tree : Tree) → IsTreeOf text tree → IsTreeRefusal tree given r → IsRefused text given r
-
--- The fault is the first rule of the flow that breaks in the program, or want of memory.
-abbrev pub IsFlowFault : ProgParts → Fault → Type 0
-IsFlowFault p (fault.Refused r) = Judged p (Some r)
-IsFlowFault p fault.NoMemory = ⊤
+  in_tree : (tree : Tree) → IsTreeOf text tree → IsTreeVerdict tree given (Some r) → IsRefused text given r
 
 -- The fault is the refusal of the text, or want of memory, which no clause ties to anything.
 abbrev pub IsVerdictFault : List ℕ → Option ℕ → Fault → Type 0

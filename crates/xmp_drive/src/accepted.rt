@@ -4,16 +4,15 @@ ghost use Rattle.std.specs.Prelude.{◌≡◌};
 use std::marker::Model;
 use xmp_prog::Prog;
 
-/// A program in which no rule breaks. Contracts see it as the parts of its typed program, which is of the kind Global
-/// (coarray programs are refused as yet), and in which no read on any path finds a copy that may be out of date.
+/// A program in which no rule of the text, its macros, the syntax, names or mappings breaks; whether it reads stale data isn't judged yet. Contracts
+/// see it as the parts of its typed program, which is of the kind Global: coarray programs are refused as yet.
 #[derive(Drop)]
 pub struct Accepted {
     prog: Prog,
 }
 
 impl Model for Accepted {
-    ghost use Rattle.std.specs.Prelude.{◌≡◌, None};
-    ghost use Rattle.xmp_drive.specs.Verdict.{Judged};
+    ghost use Rattle.std.specs.Prelude.{◌≡◌};
     ghost use Rattle.xmp_prog.specs.declared.parts.ProgParts.{ProgParts};
     ghost use Rattle.xmp_prog.specs.declared.parts.Kind.TheVariants.{Global};
     ghost use Rattle.xmp_prog.specs.contracts.expressions.Expr as expr;
@@ -26,17 +25,15 @@ impl Model for Accepted {
 
     ghost view = { λ a. a.prog };
 
-    ghost invariant = { λ a. (a.prog.kind ≡ Global) × Judged a.prog None };
+    ghost invariant = { λ a. a.prog.kind ≡ Global };
 }
 
 impl Accepted {
-    ghost use Rattle.std.specs.Prelude.{None};
-    ghost use Rattle.xmp_drive.specs.Verdict.{Judged};
+    ghost use Rattle.xmp_prog.specs.Fits.{PartsFit};
     ghost use Rattle.xmp_prog.specs.declared.parts.Kind.TheVariants.{Global};
 
     pub(crate) fn new(prog: Prog) -> Accepted
-        requires kind { prog.kind ≡ Global }
-        requires judged { Judged prog None }
+        requires { prog.kind ≡ Global }
         ensures { result ≡ prog }
     {
         Accepted { prog }
@@ -46,7 +43,6 @@ impl Accepted {
     pub fn prog(&self) -> &Prog
         ensures program { result.now ≡ self.now }
         ensures kind { result.now.kind ≡ Global }
-        ensures judged { Judged result.now None }
     {
         &self.prog
     }

@@ -4,7 +4,6 @@ ghost use Rattle.xmp_base.specs.declared.refusal.Refusal.{Refusal};
 ghost use Rattle.xmp_prog.specs.declared.parts.ProgParts.{ProgParts};
 ghost use Rattle.xmp_drive.specs.Verdict.{IsAccepted, IsRefused};
 
-use xmp_paths::one_verdict;
 use xmp_source::{never_tree_and_refused, one_source_refusal, one_source_tree};
 
 /// No text is both accepted and refused.
@@ -22,7 +21,6 @@ pub fn one_refusal()
     one_source_tree();
     never_tree_and_refused();
     one_source_refusal();
-    one_verdict();
 }
 
 /// A text has one typed program.

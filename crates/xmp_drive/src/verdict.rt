@@ -8,7 +8,7 @@ ghost use Rattle.xmp_parts.specs.Narrow.{is_count};
 ghost use Rattle.xmp_parts.specs.Parts.{IsParts};
 ghost use Rattle.xmp_parts.specs.Verdict.{IsVerdict};
 ghost use Rattle.xmp_fits.specs.NumbersLie.{tree_lies};
-ghost use Rattle.xmp_drive.specs.Verdict.{IsAccepted, IsRefused, IsTreeFault, IsTreeVerdict, IsFlowFault, IsVerdictFault, Judged, arrays_of, first_coarray};
+ghost use Rattle.xmp_drive.specs.Verdict.{IsAccepted, IsRefused, IsTreeFault, IsTreeVerdict, IsVerdictFault, arrays_of, first_coarray};
 
 use crate::accepted::Accepted;
 use crate::coarrays::coarray_of;
@@ -16,7 +16,6 @@ use crate::laws::{never_accepted_and_refused, one_refusal};
 use std::alloc::Global;
 use xmp_base::{Fault, Phase, Refusal};
 use xmp_elab::{elaborate, text_numbers_lie};
-use xmp_flow::check;
 use xmp_prog::{Kind, Prog};
 use xmp_source::tree_of;
 use xmp_syntax::Tree;
@@ -38,36 +37,17 @@ fn coarray_fault(alloc: Global, t: &Tree, given: Option<u32>) -> Fault
     }
 }
 
-// The verdict on a typed program.
-fn judged_program(alloc: Global, prog: Prog) -> Result<Accepted, Fault>
-    requires { prog.kind ≡ Global }
-    ensures accepted { IfOk result (λ p. (p ≡ prog) × Judged prog None) }
-    ensures refused { IfErr result (λ e. IsFlowFault prog e) }
-{
-    match check(alloc, &prog) {
-        Ok(None) => Ok(Accepted::new(prog)),
-        Ok(Some(refusal)) => {
-            std::mem::drop(prog);
-            Err(Fault::Refused(refusal))
-        }
-        Err(_) => {
-            std::mem::drop(prog);
-            Err(Fault::NoMemory)
-        }
-    }
-}
-
 // The verdict on a tree.
 fn judged_tree(alloc: Global, t: &Tree, given: Option<u32>) -> Result<Accepted, Fault>
     requires count { IsTrue (is_count given) }
     requires numbers { tree_lies t.now ≡ true }
     ensures accepted { IfOk result (λ p. IsTreeVerdict t.now given None) }
-    ensures program { IfOk result (λ p. IsParts t.now given p × Judged p None) }
+    ensures program { IfOk result (λ p. IsParts t.now given p) }
     ensures refused { IfErr result (λ e. IsTreeFault t.now given e) }
 {
     let prog = elaborate(alloc, t, given)?;
     match prog.kind() {
-        Kind::Global => judged_program(alloc, prog),
+        Kind::Global => Ok(Accepted::new(prog)),
         Kind::Coarray => {
             std::mem::drop(prog);
             Err(coarray_fault(alloc, t, given))
@@ -90,8 +70,8 @@ fn judged(alloc: Global, text: &[u8], given: Option<u32>) -> Result<Accepted, Fa
 /// The verdict on a source text, for a number of nodes or none: the program, or its refusal by the first rule that it breaks. Want of memory may
 /// be answered at any time.
 ///
-/// A program is accepted where no rule breaks of the text, its macros, the syntax, names, mappings or the flow of copies, and
-/// it declares no coarray: programs with coarrays are refused as yet, by the rule 9 of coarrays.
+/// A program is accepted where no rule of the text, its macros, the syntax, names or mappings breaks and it declares no coarray: programs with
+/// coarrays are refused as yet, by the rule 9 of coarrays. Whether a program reads stale data isn't judged yet.
 ///
 /// A text has at most 1,048,576 bytes, a number of nodes is 1 to 16. Time and memory grow with the text, and with what its macros come to.
 pub fn compile(alloc: Global, text: &[u8], nodes: Option<u32>) -> Result<Accepted, Fault>
