@@ -3,7 +3,7 @@ ghost use Rattle.std.specs.Prelude.{◌≡◌, ◌≢◌, ◌≤◌, ◌⊎◌, 
 ghost use Rattle.xmp_base.specs.declared.refusal.Refusal.{Refusal};
 ghost use Rattle.xmp_base.specs.declared.refusal.Fault.TheVariants as fault;
 ghost use Rattle.xmp_prog.specs.declared.parts.ProgParts.{ProgParts};
-ghost use Rattle.xmp_prog.specs.declared.parts.Kind.TheVariants.{Global};
+ghost use Rattle.xmp_prog.specs.declared.parts.Kind.TheVariants as kind;
 ghost use Rattle.xmp_parts.specs.Narrow.{is_count};
 ghost use Rattle.xmp_parts.specs.Parts.{IsParts};
 ghost use Rattle.xmp_parts.specs.Verdict.{IsVerdict};
@@ -41,7 +41,7 @@ fn coarray_fault(alloc: Global, t: &Tree, given: Option<u32>) -> Fault
 
 // The verdict on a typed program.
 fn judged_program(alloc: Global, prog: Prog) -> Result<Accepted, Fault>
-    requires { prog.kind ≡ Global }
+    requires { prog.kind ≡ kind.Global }
     ensures accepted { IfOk result (λ p. (p ≡ prog) × Judged prog None) }
     ensures refused { IfErr result (λ e. IsFlowFault prog e) }
 {

@@ -22,8 +22,8 @@ pub returns-in-Global-clause-refused : goal.returns-in-Global-clause-refused
 returns-in-Global-clause-refused c =
     err_map c.judged_program.result
     (λ e b. flow_fault c.args.t.now c.args.given c.in_ok-prog.prog
-        (unbroken c.args.t.now c.args.given c.in_ok-prog.prog c.in_ok-prog.ensures.accepted c.in_ok-prog.ensures.program (sym c.in-Global.ensures.coarrays))
-        c.in_ok-prog.ensures.program e b)
+    (unbroken c.args.t.now c.args.given c.in_ok-prog.prog c.in_ok-prog.ensures.accepted c.in_ok-prog.ensures.program (sym c.in-Global.ensures.coarrays))
+    c.in_ok-prog.ensures.program e b)
     c.judged_program.ensures.refused
 
 pub coarray_fault-requires-clause-coarray : goal.coarray_fault-requires-clause-coarray
