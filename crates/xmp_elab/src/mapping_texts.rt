@@ -85,6 +85,105 @@ const MAPPINGS: [Alike; 13] = [
     ),
 ];
 
+// Whole programs in parentheses: bounds, positions, nodes counted from 1, and the same form for a name as in its own directive.
+const PARENTHESES: [Alike; 15] = [
+    (
+        "",
+        &[
+            "#pragma xmp nodes p(4)\nint main() {}",
+            "#pragma xmp nodes p(*)\nint main() {}",
+            "int a[10];\n#pragma xmp nodes p(4)\n#pragma xmp template t(-3:6)\n#pragma xmp distribute t(block) onto p\n#pragma xmp align a[k] with t(k-3)\nint main() {\nint i, s;\n#pragma xmp loop (i) on t(i-3) reduction(+:s)\nfor (i = 0; i < 10; i++) s += a[i];\n#pragma xmp bcast (s) from p(1)\n#pragma xmp task on p(2:4)\ns = 1;\n}",
+            "int a[8];\n#pragma xmp nodes p(2)\n#pragma xmp template t(0:7, 8)\n#pragma xmp distribute t(cyclic(2), *) onto p\nint main() {}",
+            "#pragma xmp nodes p(1)\n#pragma xmp template t(-4194304:-1)\n#pragma xmp distribute t(block) onto p\nint main() {}",
+        ],
+    ),
+    // a set in parentheses has nodes 1 to the size
+    (
+        "M8 at 3:13",
+        &[
+            "#pragma xmp nodes p(4)\nint main() {\n#pragma xmp task on p(0)\n;\n}",
+            "#pragma xmp nodes p(4)\nint main() {\n#pragma xmp task on p(5)\n;\n}",
+            "#pragma xmp nodes p(4)\nint main() {\n#pragma xmp task on p(3:2)\n;\n}",
+        ],
+    ),
+    (
+        "N3 at 3:21",
+        &[
+            "#pragma xmp nodes p(4)\nint main() {\n#pragma xmp task on p[0]\n;\n}",
+            "#pragma xmp nodes p[4]\nint main() {\n#pragma xmp task on p(1)\n;\n}",
+            "#pragma xmp nodes p(4)\nint main() {\n#pragma xmp task on p(1, 1)\n;\n}",
+        ],
+    ),
+    (
+        "N3 at 3:24",
+        &[
+            "#pragma xmp nodes p(4)\n#pragma xmp template t(8)\n#pragma xmp distribute t[block] onto p\nint main() {}",
+            "#pragma xmp nodes p[4]\n#pragma xmp template t[8]\n#pragma xmp distribute t(block) onto p\nint main() {}",
+        ],
+    ),
+    // a part of a nodes array
+    (
+        "N9 at 2:13",
+        &[
+            "#pragma xmp nodes p[4]\n#pragma xmp nodes q[2] = p[0:2]\nint main() {}",
+            "#pragma xmp nodes p(4)\n#pragma xmp nodes q(2) = p(1:2)\nint main() {}",
+        ],
+    ),
+    (
+        "N9 at 1:13",
+        &["#pragma xmp nodes q(2) = p(1:2)\nint main() {}"],
+    ),
+    (
+        "M2 at 2:13",
+        &[
+            "#pragma xmp nodes p(1)\n#pragma xmp template t(3:2)\n#pragma xmp distribute t(block) onto p\nint main() {}",
+            "#pragma xmp nodes p(1)\n#pragma xmp template t(4194305:4194306)\n#pragma xmp distribute t(block) onto p\nint main() {}",
+            "#pragma xmp nodes p(1)\n#pragma xmp template t(0:8388609)\n#pragma xmp distribute t(block) onto p\nint main() {}",
+        ],
+    ),
+    ("M1 at 1:13", &["#pragma xmp nodes p(4, 5)\nint main() {}"]),
+    (
+        "M3 at 3:13",
+        &[
+            "#pragma xmp nodes p(4)\n#pragma xmp template t(8)\n#pragma xmp distribute t(*) onto p\nint main() {}",
+        ],
+    ),
+    (
+        "M5 at 5:13",
+        &[
+            "int a[10];\n#pragma xmp nodes p(4)\n#pragma xmp template t(0:9)\n#pragma xmp distribute t(block) onto p\n#pragma xmp align a[k] with t(k+1)\nint main() {}",
+            "int a[10];\n#pragma xmp nodes p(4)\n#pragma xmp template t(10)\n#pragma xmp distribute t(block) onto p\n#pragma xmp align a[k] with t(k)\nint main() {}",
+        ],
+    ),
+    (
+        "N3 at 5:29",
+        &[
+            "int a[10];\n#pragma xmp nodes p(4)\n#pragma xmp template t(10)\n#pragma xmp distribute t(block) onto p\n#pragma xmp align a[k] with t[k+1]\nint main() {}",
+        ],
+    ),
+    (
+        "N3 at 6:21",
+        &[
+            "int i;\n#pragma xmp nodes p(4)\n#pragma xmp template t(10)\n#pragma xmp distribute t(block) onto p\nint main() {\n#pragma xmp loop on t[i]\nfor (i = 0; i < 8; i++) ;\n}",
+        ],
+    ),
+    (
+        "M7 at 6:13",
+        &[
+            "int i;\n#pragma xmp nodes p(4)\n#pragma xmp template t(10)\n#pragma xmp distribute t(block) onto p\nint main() {\n#pragma xmp loop on t(i+4194305)\nfor (i = 0; i < 8; i++) ;\n}",
+        ],
+    ),
+    (
+        "M8 at 4:13",
+        &["#pragma xmp nodes p(4)\nint s;\nint main() {\n#pragma xmp bcast (s) from p(1:2)\n}"],
+    ),
+    // the word whose place is least stands before the nodes that a macro puts behind it
+    (
+        "M1 at 2:13",
+        &["int main() {\n#pragma xmp barrier\n#pragma xmp barrier\n}"],
+    ),
+];
+
 // Over a template of eight, on two nodes.
 const OVER_EIGHT: Around = (
     "#pragma xmp nodes p[2]\n#pragma xmp template t[8]\n",
@@ -306,6 +405,11 @@ const SETS: [Alike; 10] = [
 #[test]
 fn mappings_are_judged(rt: HostRuntime) -> Result<(), Fail> {
     check(&rt, rt.alloc(), PROGRAM, &MAPPINGS)
+}
+
+#[test]
+fn parentheses_are_judged(rt: HostRuntime) -> Result<(), Fail> {
+    check(&rt, rt.alloc(), PROGRAM, &PARENTHESES)
 }
 
 #[test]
