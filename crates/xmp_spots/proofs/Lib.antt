@@ -7,3 +7,4 @@ mod AskingLaws
 mod BetweenLaws
 mod ImageLaws
 mod GatheredLaws
+mod RaceLaws

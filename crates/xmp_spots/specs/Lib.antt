@@ -8,6 +8,7 @@ pub mod Tables
 pub mod Entering
 pub mod Asking
 pub mod Races
+pub mod PlanRaces
 pub mod Sets
 pub mod Images
 pub mod Variables

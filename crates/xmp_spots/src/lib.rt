@@ -19,7 +19,7 @@ mod touches;
 
 pub use accesses::Accesses;
 pub use expressions::image_values;
-pub use laws::{meetings, spots_as_one};
+pub use laws::{meetings, races, spots_as_one};
 pub use touches::{By, Spot, Subscripts, Touch};
 
 #[cfg(test)]
