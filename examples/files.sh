@@ -44,7 +44,15 @@ grown() {
   { printf '%s' "$2"; yes "$3" | tr '\n' ' '; } | head -c "$4" >"$1"
 }
 
-echo 'int main() { printf("%d\n", 7); }' >seven.c
+# prints at one node, however many there are
+cat >seven.c <<'C'
+#pragma xmp nodes p(*)
+int main() {
+#pragma xmp task on p(1)
+  printf("%d\n", 7);
+}
+C
+echo 'int main() { printf("%d\n", 7); }' >all.c
 echo 'int main() { x; }' >syntax.c
 echo 'int main() { x = 1; }' >name.c
 : >empty.c
@@ -88,6 +96,8 @@ grown over '' 1 16777217
 # forms of words, and words of no form
 wants 0 accepted '' check seven.c
 wants 0 accepted '' check --nodes=2 seven.c
+wants 3 '' 'refused F7 at 1:14' check --nodes=2 all.c
+wants 0 accepted '' check all.c
 wants 0 accepted '' check --nodes=00000000000000000016 seven.c
 wants 0 7 '' serial seven.c
 wants 0 7 '' serial --steps=18446744073709551615 --nodes=16 seven.c
