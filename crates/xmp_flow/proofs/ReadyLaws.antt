@@ -1,24 +1,23 @@
 -- The parts of a loop directive's events by the lists and tables of the code are those by the directive and its body.
-use Rattle.std.proofs.Common.{◌≡◌, sym, IfOk, Result, eqb, false, ◌∙◌, refl, ap, ℕ, Bool, true, ◌++◌, ◌∷◌, [], List, map, Some}
+use Rattle.std.proofs.Common.{◌≡◌, sym, IfOk, Result, eqb, false, ◌∙◌, refl, ap, ℕ, Bool, true, ◌++◌, ◌∷◌, [], List, Some}
 use Rattle.std.proofs.Math.Path.{fun_ext}
 use Rattle.std.proofs.lemmas.Result.{IfOk-weaker}
-use Rattle.std.specs.Prelude.{◌==◌, ◌||◌}
-use Rattle.std.specs.List.{filter, find}
+use Rattle.std.specs.Prelude.{◌||◌}
+use Rattle.std.specs.List.{filter}
 use Rattle.xmp_prog.specs.Numbers.{is_in}
-use Rattle.xmp_loops.proofs.RoleLaws.{before_role}
 use Rattle.xmp_flow.specs.Statements.{events_of}
 use Rattle.xmp_paths.specs.Plans.{Plan, loop, in_order}
 use Rattle.xmp_paths.specs.declared.event.Event.{Event}
 use Rattle.xmp_prog.specs.Statements.{indices_of}
 use Rattle.xmp_prog.specs.declared.statements.LoopDirective.{LoopDirective}
 use Rattle.xmp_prog.specs.declared.statements.Stmt.{Stmt}
-use Rattle.xmp_meaning.specs.Writes.{scalars_written, arrays_written}
+use Rattle.xmp_meaning.specs.Writes.{scalars_written}
 use Rattle.xmp_paths.specs.Flows.{plan_of}
 use Rattle.xmp_paths.specs.declared.event.Flow.{Flow}
 use Rattle.xmp_loops.specs.Objects.{all_nodes}
 use Rattle.xmp_flow.specs.Setting.{Setting, wrong_where}
 use Rattle.xmp_flow.specs.LoopEvents.{at_bounds, loop_events, nest_events, reduction_events, within}
-use Rattle.xmp_loops.specs.Roles.{before_iterations, is_own, own_scalars, role_by, role_in, scalars_of}
+use Rattle.xmp_loops.specs.Roles.{before_iterations, is_own, own_scalars, role_in, scalars_of}
 use Rattle.xmp_flow.specs.Ready.{IsReady, before_turns, ends_with, turn_of}
 use Rattle.xmp_loops.specs.Tables.{role_at}
 use Rattle.xmp_flow.specs.declared.ready.Ready.{Ready}
@@ -28,11 +27,7 @@ use Rattle.xmp_loops.specs.declared.role.Role.{Role}
 abbrev pub inside_of : Setting → LoopDirective → (ℕ → Role) → (ℕ → Bool) → Setting
 inside_of s d f g = record s { nodes = all_nodes s.program; inside = true; over = Some d; roles = f; written = g }
 
--- a role at the bounds, as the code puts it
-pub bound_role : (d : LoopDirective) (body : Stmt) (n : ℕ) →
-    role_by (find (λ r. r.variable.number == n) d.reductions) (is_in (indices_of d.nest) n) false ≡ before_iterations (role_in d body n)
-bound_role d body n = before_role (find (λ r. r.variable.number == n) d.reductions) (is_in (indices_of d.nest) n) (is_in (scalars_written body) n)
-
+-- a set that nothing was in before
 pub in_either : (a : List ℕ) (m : ℕ) → (is_in a m || is_in [] m) ≡ is_in a m
 in_either [] m = refl
 in_either (k ∷ ks) m = or_nothing (eqb k m || is_in ks m)
@@ -40,20 +35,6 @@ in_either (k ∷ ks) m = or_nothing (eqb k m || is_in ks m)
     or_nothing : (b : Bool) → (b || false) ≡ b
     or_nothing true = refl
     or_nothing false = refl
-
--- what stands ready, by what each call gave
-pub ready_by : (d : LoopDirective) (body : Stmt) (r : Ready) (scalars arrays : List ℕ) →
-    r.scalars ≡ scalars_written body → r.arrays ≡ arrays_written body → scalars ≡ r.scalars → arrays ≡ r.arrays →
-    ((n : ℕ) → role_at r.roles n ≡ role_by (find (λ r. r.variable.number == n) d.reductions) (is_in (indices_of d.nest) n) (is_in scalars n)) →
-    ((n : ℕ) → role_at r.before n ≡ role_by (find (λ r. r.variable.number == n) d.reductions) (is_in (indices_of d.nest) n) false) →
-    ((n : ℕ) → is_in r.written n ≡ is_in arrays n) → IsReady r d body
-ready_by d body r scalars arrays u v g h x y z = record {
-  scalars = u;
-  arrays = v;
-  roles = λ n. x n ∙ ap (λ l. role_by (find (λ r. r.variable.number == n) d.reductions) (is_in (indices_of d.nest) n) (is_in l n)) (g ∙ u);
-  before = λ n. y n ∙ bound_role d body n;
-  written = λ n. z n ∙ ap (λ l. is_in l n) (h ∙ v);
-}
 
 module _ (r : Ready) (d : LoopDirective) (body : Stmt) (q : IsReady r d body) where
   pub own_ready : filter (λ slot. is_own (role_at r.roles slot)) r.scalars ≡ own_scalars d body

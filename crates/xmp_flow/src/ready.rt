@@ -1,13 +1,16 @@
 // What stands ready for the body of a loop directive, and the events round those of its body.
-ghost use Rattle.std.specs.Prelude.{◌≡◌, ◌++◌, ◌∷◌, [], ℕ, map, IfOk};
+ghost use Rattle.std.specs.Prelude.{◌≡◌, ◌++◌, ◌∷◌, [], ℕ, map, OnOk, IfOk};
 ghost use Rattle.xmp_paths.specs.Plans.{in_order, loop};
 ghost use Rattle.xmp_paths.specs.Flows.{plan_of};
 ghost use Rattle.xmp_prog.specs.declared.statements.Stmt.{Stmt};
 ghost use Rattle.xmp_meaning.specs.Writes.{arrays_written, scalars_written};
 ghost use Rattle.xmp_prog.specs.Numbers.{is_in};
 ghost use Rattle.xmp_prog.specs.Statements.{indices_of};
+ghost use Rattle.xmp_loops.specs.Objects.{scalar_object};
+ghost use Rattle.xmp_flow.specs.Setting.{stale_on_all};
 ghost use Rattle.xmp_flow.specs.LoopEvents.{at_bounds, loop_events, nest_events};
-ghost use Rattle.xmp_loops.specs.Roles.{own_scalars};
+ghost use Rattle.xmp_loops.specs.Roles.{before_iterations, own_scalars, role_in};
+ghost use Rattle.xmp_loops.specs.Tables.{role_at};
 ghost use Rattle.xmp_flow.specs.Ready.{IsReady, before_turns, ends_with, turn_of};
 ghost use Rattle.xmp_flow.specs.Views.{KnowsAll, setting_of};
 
@@ -63,14 +66,21 @@ fn set_of(alloc: Global, numbers: &[u32]) -> Result<Numbers, AllocError>
     Ok(set)
 }
 
-/// What stands ready for a body.
-pub fn make_ready(alloc: Global, d: &LoopDirective, body: &Stmt) -> Result<Ready, AllocError>
+// What stands ready, from the scalars that the body writes and the roles of scalars.
+fn with_arrays(
+    alloc: Global,
+    d: &LoopDirective,
+    body: &Stmt,
+    scalars: Items<u32>,
+    roles: Roles,
+    before: Roles,
+) -> Result<Ready, AllocError>
+    requires scalars { scalars ≡ scalars_written body.now }
+    requires roles { (n : ℕ) → role_at roles n ≡ role_in d.now body.now n }
+    requires before { (n : ℕ) → role_at before n ≡ before_iterations (role_in d.now body.now n) }
     ensures { IfOk result (λ r. IsReady r d.now body.now) }
 {
-    let scalars = scalars_in(alloc, body)?;
     let arrays = arrays_in(alloc, body)?;
-    let roles = roles_in(alloc, d, scalars.as_slice())?;
-    let before = bound_roles(alloc, d)?;
     let written = set_of(alloc, arrays.as_slice())?;
     Ok(Ready {
         scalars,
@@ -79,6 +89,16 @@ pub fn make_ready(alloc: Global, d: &LoopDirective, body: &Stmt) -> Result<Ready
         before,
         written,
     })
+}
+
+/// What stands ready for a body.
+pub fn make_ready(alloc: Global, d: &LoopDirective, body: &Stmt) -> Result<Ready, AllocError>
+    ensures { IfOk result (λ r. IsReady r d.now body.now) }
+{
+    let scalars = scalars_in(alloc, body)?;
+    let roles = roles_in(alloc, d, scalars.as_slice())?;
+    let before = bound_roles(alloc, d)?;
+    with_arrays(alloc, d, body, scalars, roles, before)
 }
 
 // One iteration: own scalars out of date, and then the body.
@@ -105,6 +125,22 @@ fn turns(alloc: Global, s: &Around, own: &[u32], body: Flow) -> Result<Flow, All
     Flow::turns(alloc, turn)
 }
 
+// The indices of the nest are out of date on all nodes.
+fn stale_indices(
+    alloc: Global,
+    s: &Around,
+    d: &LoopDirective,
+    parts: &mut Items<Flow>,
+) -> Result<(), AllocError>
+    requires { KnowsAll s.now }
+    ensures { OnOk result (map plan_of parts.new
+        ≡ map plan_of parts.old ++ map (λ slot. stale_on_all (setting_of s.now) (scalar_object slot)) (indices_of d.now.nest)) }
+{
+    let mut slots = Items::new(alloc);
+    indices(d.nest.as_slice(), &mut slots)?;
+    stale_scalars(s, slots.as_slice(), parts)
+}
+
 // What the directive leaves.
 fn ends(
     alloc: Global,
@@ -118,9 +154,7 @@ fn ends(
 {
     let mut parts = Items::new(alloc);
     stale_scalars(s, own, &mut parts)?;
-    let mut slots = Items::new(alloc);
-    indices(d.nest.as_slice(), &mut slots)?;
-    stale_scalars(s, slots.as_slice(), &mut parts)?;
+    stale_indices(alloc, s, d, &mut parts)?;
     current_reductions(s, d.reductions.as_slice(), &mut parts)?;
     stale_shadows(alloc, s, arrays, &mut parts)?;
     Ok(Flow::all(parts))
@@ -162,11 +196,11 @@ fn head(
         → setting_of bounds.now ≡ at_bounds d.now body (setting_of s.now)
         → map plan_of parts ≡ before_turns (setting_of s.now) d.now body) }
 {
-    let nest = heads(alloc, bounds, d, r)?;
-    let reductions = reduction_events(alloc, s, d.reductions.as_slice())?;
     let mut parts = Items::new(alloc);
     parts.push(wrong_where(alloc, s.inside, 10, d.at))?;
+    let nest = heads(alloc, bounds, d, r)?;
     parts.push(nest)?;
+    let reductions = reduction_events(alloc, s, d.reductions.as_slice())?;
     parts.push(Flow::all(reductions))?;
     Ok(parts)
 }

@@ -1,5 +1,5 @@
 // The events of every statement.
-ghost use Rattle.std.specs.Prelude.{◌≡◌, ◌∷◌, [], map, IfOk, Some};
+ghost use Rattle.std.specs.Prelude.{◌≡◌, ◌++◌, ◌∷◌, [], map, IfOk, Some};
 ghost use Rattle.std.specs.Option.{option_map};
 ghost use Rattle.xmp_paths.specs.Plans.{branch, in_order, loop};
 ghost use Rattle.xmp_paths.specs.Flows.{plan_of};
@@ -148,18 +148,47 @@ fn while_events(
     with(parts, last)
 }
 
+// Parts in order, and two more behind them.
+fn with_two(mut parts: Items<Flow>, second: Flow, last: Flow) -> Result<Flow, AllocError>
+    ensures { IfOk result (λ flow. plan_of flow ≡ in_order (map plan_of parts ++ plan_of second ∷ plan_of last ∷ [])) }
+{
+    match parts.push(second) {
+        Ok(()) => with(parts, last),
+        Err(e) => {
+            std::mem::drop(last);
+            Err(e)
+        }
+    }
+}
+
+// Three parts in order.
+fn three(alloc: Global, first: Flow, second: Flow, last: Flow) -> Result<Flow, AllocError>
+    ensures { IfOk result (λ flow. plan_of flow ≡ in_order (plan_of first ∷ plan_of second ∷ plan_of last ∷ [])) }
+{
+    let mut parts = Items::new(alloc);
+    match parts.push(first) {
+        Ok(()) => with_two(parts, second, last),
+        Err(e) => {
+            std::mem::drop(second);
+            std::mem::drop(last);
+            Err(e)
+        }
+    }
+}
+
 // A turn of a counted loop whose body has these events.
 fn counted_turn(alloc: Global, s: &Around, head: &LoopHead, body: Flow) -> Result<Flow, AllocError>
     requires { KnowsAll s.now }
     ensures { IfOk result (λ flow. plan_of flow ≡ in_order (reads_of head.now.to (setting_of s.now)
         ∷ plan_of body ∷ assigned (setting_of s.now) head.now.index.number ∷ [])) }
 {
-    let to = reads(alloc, s, &head.to)?;
-    let mut parts = Items::new(alloc);
-    parts.push(to)?;
-    parts.push(body)?;
-    parts.push(assigned(s, head.index.number))?;
-    Ok(Flow::all(parts))
+    match reads(alloc, s, &head.to) {
+        Ok(to) => three(alloc, to, body, assigned(s, head.index.number)),
+        Err(e) => {
+            std::mem::drop(body);
+            Err(e)
+        }
+    }
 }
 
 // What stands before the turns of a counted loop.

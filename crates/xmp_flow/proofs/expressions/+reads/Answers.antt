@@ -1,4 +1,4 @@
-use Rattle.std.proofs.Common.{◌≡◌, ◌∙◌, ap, sym, subst, IfOk, ◌++◌, ◌∷◌, [], ◌&&◌, map}
+use Rattle.std.proofs.Common.{◌≡◌, ◌∙◌, ap, sym, subst, IfOk, ◌++◌, ◌∷◌, [], ◌&&◌}
 use Rattle.xmp_paths.specs.Plans.{Plan, in_order}
 use Rattle.xmp_paths.specs.Flows.{plan_of}
 use Rattle.xmp_paths.specs.declared.event.Event.{Event}

@@ -1,4 +1,4 @@
-use Rattle.std.proofs.Common.{◌≡◌, ◌++◌, ◌∷◌, ℕ, ◌+◌, ◌-◌, ◌*◌, map, drop}
+use Rattle.std.proofs.Common.{◌≡◌, ◌++◌, ◌∷◌, ◌+◌, ◌-◌, ◌*◌, map, drop}
 use Rattle.xmp_prog.proofs.statements.Stmt.TheLaws.{the_size}
 use Rattle.xmp_paths.specs.Flows.{plan_of}
 use Rattle.xmp_flow.specs.Setting.{in_task, wrong_where}
