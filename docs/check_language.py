@@ -1,5 +1,5 @@
 #!/usr/bin/env python3
-"""Runs the texts of LANGUAGE.md, ERRORS.md, GUIDE.md, ../examples/forms.md and flow.md: check_language.py [PATH OF xmpc], which is ../crates/xmpc/out/xmpc beside this
+"""Runs the texts of LANGUAGE.md, ERRORS.md, GUIDE.md, and names.md, forms.md and flow.md of ../examples: check_language.py [PATH OF xmpc], which is ../crates/xmpc/out/xmpc beside this
 file where no path is given.
 
 The line above a fenced block, one code span, says what becomes of the text in it:
@@ -20,7 +20,7 @@ import subprocess
 import sys
 import tempfile
 
-PAGES = ("LANGUAGE.md", "ERRORS.md", "GUIDE.md", "../examples/forms.md", "../examples/flow.md")
+PAGES = ("LANGUAGE.md", "ERRORS.md", "GUIDE.md", "../examples/names.md", "../examples/forms.md", "../examples/flow.md")
 HERE = os.path.dirname(os.path.abspath(__file__))
 HEAD = re.compile(r"((?:--\w+=\d+ ?)*)(serial ?)?((?:--\w+=\d+ ?)*)(accepted|refused .*|trapped .*|out of steps|)$")
 STATUS = {"accepted": 0, "refused": 3, "trapped": 1, "out": 2}
