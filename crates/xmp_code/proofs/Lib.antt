@@ -1,0 +1,4 @@
+pub mod Reversed
+pub mod FirstOwned
+pub mod Along
+pub mod Falls

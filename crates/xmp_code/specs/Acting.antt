@@ -1,0 +1,44 @@
+-- What is asked of a state before an action is carried out, and what it keeps (this project).
+use Rattle.std.specs.Prelude.{◌≡◌, ◌≢◌, ◌≤◌, ◌<◌, ◌+◌, ◌^◌, ℕ, List, length, vec_capacity, slice_get, false, Option, Some, None, MatchOption}
+use Rattle.xmp_steps.specs.Machine.{Goes, Stops, Stuck}
+use Rattle.xmp_instr.specs.declared.parts.CodeParts.{CodeParts}
+use Rattle.xmp_instr.specs.declared.stop.Stop.{Stop}
+use Rattle.xmp_instr.specs.declared.meeting.Meeting.{Meeting}
+use Rattle.xmp_instr.specs.declared.meeting.Meeting.TheVariants as meeting
+use Rattle.xmp_instr.specs.Node.{Node}
+use Rattle.xmp_instr.specs.Effects.{Comes}
+use Rattle.xmp_code.specs.declared.state.State.{State}
+use Rattle.xmp_code.specs.declared.state.Mode.TheVariants as mode
+use Rattle.xmp_code.specs.declared.action.Action.{Action}
+use Rattle.xmp_code.specs.declared.action.Action.TheVariants as action
+use Rattle.xmp_code.specs.States.{node_of}
+use Rattle.xmp_code.specs.Actions.{acted, ActionFits}
+
+-- a state goes through its instructions, and has room for what it comes to
+pub record HasRoom (s : State) (x : Comes) : Type 0 where
+  pub going : s.talk.mode ≡ mode.Going
+  pub unstuck : x ≢ Stuck
+  pub place : (t : Node) → x ≡ Goes t → t.place < 2 ^ 64
+  pub stack : (t : Node) → x ≡ Goes t → length t.stack ≤ s.stack.room
+  pub calls : (t : Node) → x ≡ Goes t → length t.frame.calls ≤ vec_capacity s.frame.calls
+
+-- the room stays, and whether text is dropped
+pub record Keeps (s t : State) : Type 0 where
+  pub stack : t.stack.room ≡ s.stack.room
+  pub calls : vec_capacity t.frame.calls ≡ vec_capacity s.frame.calls
+  pub muted : t.data.muted ≡ s.data.muted
+
+-- the state goes on as it should, or stops and stays
+abbrev pub Does : Comes → State → Option Stop → State → Type 0
+Does x s o t = MatchOption o ((x ≡ Goes (node_of t)) × Keeps s t) (λ p. (x ≡ Stops p) × (t ≡ s))
+
+-- an exchange that moves cells
+abbrev pub IsMove : Option Meeting → Type 0
+IsMove (Some (meeting.Move kind target_at source_at)) = Unit {0}
+IsMove _ = ⊥
+
+-- an action that may want memory
+abbrev pub Wants : CodeParts → State → Action → Type 0
+Wants c s (action.Print f n) = s.data.muted ≡ false
+Wants c s (action.Meet e n) = IsMove (slice_get c.meetings e)
+Wants c s _ = ⊥

@@ -1,0 +1,5 @@
+pub mod Stacks
+pub mod States
+pub mod Ends
+pub mod Actions
+pub mod Acting

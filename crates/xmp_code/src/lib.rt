@@ -1,0 +1,16 @@
+//! The machine of a node.
+#![tactic(auto)]
+
+mod acting;
+mod action;
+mod control;
+mod controlling;
+mod deciding;
+mod ends;
+mod points;
+mod printing;
+mod shared;
+mod stack;
+mod state;
+mod values;
+mod words;
