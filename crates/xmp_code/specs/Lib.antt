@@ -3,3 +3,4 @@ pub mod States
 pub mod Ends
 pub mod Actions
 pub mod Acting
+pub mod Fitting

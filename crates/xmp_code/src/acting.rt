@@ -1,21 +1,18 @@
-// Actions carried out: values, words, calls and guards.
-ghost use Rattle.std.specs.Prelude.{◌≡◌, ◌+◌, ◌-◌, ◌<◌, ◌≤◌, ◌^◌, ◌∷◌, length, drop};
+// Actions carried out on values and words.
+ghost use Rattle.std.specs.Prelude.{◌≡◌, ◌+◌, ◌-◌, ◌<◌, ◌≤◌, ◌^◌, ◌∷◌, length, drop, true};
 ghost use Rattle.xmp_steps.specs.Machine.{Goes};
 ghost use Rattle.xmp_num.specs.Decimal.{scan_of};
-ghost use Rattle.xmp_instr.specs.Effects.{on, trapped};
+ghost use Rattle.xmp_instr.specs.Effects.{on};
 ghost use Rattle.xmp_instr.specs.Data.{with_word, read_into};
 ghost use Rattle.xmp_code.specs.States.{node_of};
-ghost use Rattle.xmp_code.specs.Actions.{controlled};
-ghost use Rattle.xmp_code.specs.Acting.{Does, HasRoom, Keeps};
+ghost use Rattle.xmp_code.specs.Actions.{ActionFits, acted, is_change};
+ghost use Rattle.xmp_code.specs.Acting.{HasRoom, Keeps};
 ghost use Rattle.xmp_code.specs.declared.state.Mode.TheVariants as mode;
-ghost use Rattle.xmp_code.specs.declared.action.Control.TheVariants as control;
 
-use crate::action::Control;
-use crate::state::{Note, State};
-use crate::words::word_at;
-use xmp_base::Place;
-use xmp_instr::{CodeParts, Guard, Stop};
-use xmp_num::{TrapKind, Ty, scan};
+use crate::action::Action;
+use crate::state::State;
+use xmp_instr::CodeParts;
+use xmp_num::{Ty, scan};
 
 /// What is read at a place of the input; behind its end there is nothing.
 fn scan_at(input: &[u8], at: usize, ty: Ty) -> (Option<i64>, usize)
@@ -86,5 +83,28 @@ impl State {
         }
         self.stack.take(1);
         self.place += 1;
+    }
+
+    /// Carries out an action on values and words alone.
+    fn change(&mut self, code: &CodeParts, input: &[u8], action: Action)
+        requires group { is_change action ≡ true }
+        requires fits { ActionFits code.now (node_of self.old) action }
+        requires room { HasRoom self.old (acted code.now input.now action (node_of self.old)) }
+        ensures goes { acted code.now input.now action (node_of self.old) ≡ Goes (node_of self.new) }
+        ensures keeps { Keeps self.old self.new }
+        ensures talk { self.new.talk ≡ self.old.talk }
+    {
+        let _calls = code.calls;
+        match action {
+            Action::Value(n, v) => self.put(n, v),
+            Action::Take(n) => self.take(n),
+            Action::Write(n, slot, v) => self.write(n, slot, v),
+            Action::Go(n, k) => {
+                self.stack.take(n);
+                self.place = k;
+            }
+            Action::Read(ty, slot) => self.read(input, ty, slot),
+            _ => unreachable!(),
+        }
     }
 }

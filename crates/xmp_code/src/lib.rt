@@ -11,6 +11,7 @@ mod points;
 mod printing;
 mod shared;
 mod stack;
+mod standing;
 mod state;
 mod values;
 mod words;
