@@ -3,3 +3,7 @@ pub mod FirstOwned
 pub mod Along
 pub mod Falls
 pub mod Inputs
+pub mod Replicated
+pub mod Rooms
+pub mod Advanced
+pub mod Planned

@@ -1,21 +1,15 @@
 -- What is asked of a state before an action is carried out, and what it keeps (this project).
-use Rattle.std.specs.Prelude.{◌≡◌, ◌≢◌, ◌≤◌, ◌<◌, ◌+◌, ◌^◌, ℕ, List, length, vec_capacity, slice_get, false, Option, Some, None, MatchOption}
+use Rattle.std.specs.Prelude.{◌≡◌, ◌≢◌, ◌≤◌, ◌<◌, ◌+◌, ◌^◌, ℕ, List, length, vec_capacity, Option, Some, None, MatchOption}
 use Rattle.xmp_move.specs.declared.kind.Fault.{Fault}
 use Rattle.xmp_move.specs.declared.plan.MoveError.{MoveError}
 use Rattle.xmp_move.specs.declared.plan.MoveError.TheVariants as error
 use Rattle.xmp_steps.specs.Machine.{Goes, Stops, Stuck}
-use Rattle.xmp_instr.specs.declared.parts.CodeParts.{CodeParts}
 use Rattle.xmp_instr.specs.declared.stop.Stop.{Stop}
-use Rattle.xmp_instr.specs.declared.meeting.Meeting.{Meeting}
-use Rattle.xmp_instr.specs.declared.meeting.Meeting.TheVariants as meeting
 use Rattle.xmp_instr.specs.Node.{Node}
 use Rattle.xmp_instr.specs.Effects.{Comes}
 use Rattle.xmp_code.specs.declared.state.State.{State}
 use Rattle.xmp_code.specs.declared.state.Mode.TheVariants as mode
-use Rattle.xmp_code.specs.declared.action.Action.{Action}
-use Rattle.xmp_code.specs.declared.action.Action.TheVariants as action
 use Rattle.xmp_code.specs.States.{node_of}
-use Rattle.xmp_code.specs.Actions.{acted, ActionFits}
 
 -- a state goes through its instructions, and has room for what it comes to
 pub record HasRoom (s : State) (x : Comes) : Type 0 where
@@ -41,14 +35,3 @@ Does x s o t = MatchOption o ((x ≡ Goes (node_of t)) × Keeps s t) (λ p. (x �
 abbrev pub TrapsAs : Option Fault → MoveError → Type 0
 TrapsAs fault (error.Trap kind source) = fault ≡ Some (record { kind = kind; source = source })
 TrapsAs fault error.NoMemory = Unit {0}
-
--- an exchange that moves cells
-abbrev pub IsMove : Option Meeting → Type 0
-IsMove (Some (meeting.Move kind target_at source_at)) = Unit {0}
-IsMove _ = ⊥
-
--- an action that may want memory
-abbrev pub Wants : CodeParts → State → Action → Type 0
-Wants c s (action.Print f n) = s.data.muted ≡ false
-Wants c s (action.Meet e n) = IsMove (slice_get c.meetings e)
-Wants c s _ = ⊥

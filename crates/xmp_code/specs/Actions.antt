@@ -1,9 +1,11 @@
 -- What is done to a node by an action that was decided for an instruction (this project).
-use Rattle.std.specs.Prelude.{◌≡◌, ◌≤◌, ◌<◌, ℕ, Bool, true, false, List, ◌∷◌, length, drop, ℤ, slice_get}
+use Rattle.std.specs.Prelude.{◌≡◌, ◌≤◌, ◌<◌, ℕ, Bool, true, false, List, ◌∷◌, length, drop, ℤ, slice_get, Option, Some, None}
 use Rattle.xmp_steps.specs.Machine.{Goes, Stops, Stuck}
 use Rattle.xmp_instr.specs.declared.instr.Instr.{Instr}
 use Rattle.xmp_instr.specs.declared.instr.Instr.TheVariants as i
 use Rattle.xmp_instr.specs.declared.parts.CodeParts.{CodeParts}
+use Rattle.xmp_instr.specs.declared.meeting.Meeting.{Meeting}
+use Rattle.xmp_instr.specs.declared.meeting.Meeting.TheVariants as meeting
 use Rattle.xmp_instr.specs.Data.{read_into, step_taken, turn_counted, with_word}
 use Rattle.xmp_instr.specs.Node.{Node}
 use Rattle.xmp_instr.specs.Depths.{format_needs, meeting_needs}
@@ -55,10 +57,28 @@ is_change (action.Go n k) = true
 is_change (action.Read ty slot) = true
 is_change _ = false
 
+-- an exchange that moves cells
+abbrev pub IsMove : Option Meeting → Type 0
+IsMove (Some (meeting.Move kind target_at source_at)) = Unit {0}
+IsMove _ = ⊥
+
+-- an instruction that may want memory
+abbrev pub MayLackAt : CodeParts → Option Instr → Node → Type 0
+MayLackAt c (Some (i.Print f)) s = s.state.muted ≡ false
+MayLackAt c (Some (i.Exchange e)) s = IsMove (slice_get c.meetings e)
+MayLackAt c _ s = ⊥
+
+-- an action that may want memory
+abbrev pub Wants : CodeParts → Node → Action → Type 0
+Wants c s (action.Print f n) = s.state.muted ≡ false
+Wants c s (action.Meet e n) = IsMove (slice_get c.meetings e)
+Wants c s _ = ⊥
+
 -- The action is that of the instruction.
 pub record IsActionOf (c : CodeParts) (instr : Instr) (s : Node) (a : Action) : Type 0 where
   pub same : (input : List ℕ) → effect c input instr s ≡ acted c input a s
   pub fits : ActionFits c s a
+  pub lacks : Wants c s a → MayLackAt c (Some instr) s
 
 -- ---- groups of instructions
 

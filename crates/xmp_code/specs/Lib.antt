@@ -4,3 +4,4 @@ pub mod Ends
 pub mod Actions
 pub mod Acting
 pub mod Fitting
+pub mod Running

@@ -86,7 +86,7 @@ impl State {
     }
 
     /// Carries out an action on values and words alone.
-    fn change(&mut self, code: &CodeParts, input: &[u8], action: Action)
+    pub fn change(&mut self, code: &CodeParts, input: &[u8], action: Action)
         requires group { is_change action ≡ true }
         requires fits { ActionFits code.now (node_of self.old) action }
         requires room { HasRoom self.old (acted code.now input.now action (node_of self.old)) }

@@ -3,6 +3,7 @@
 
 mod acting;
 mod action;
+mod advancing;
 mod control;
 mod controlling;
 mod deciding;

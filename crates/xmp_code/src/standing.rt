@@ -9,7 +9,8 @@ ghost use Rattle.xmp_instr.specs.Effects.{meets};
 ghost use Rattle.xmp_instr.specs.Valid.{IsValid, MoveFits};
 ghost use Rattle.xmp_code.specs.declared.state.Mode.TheVariants as mode;
 ghost use Rattle.xmp_code.specs.States.{node_of};
-ghost use Rattle.xmp_code.specs.Acting.{Does, IsMove, TrapsAs};
+ghost use Rattle.xmp_code.specs.Acting.{Does, TrapsAs};
+ghost use Rattle.xmp_code.specs.Actions.{IsMove};
 ghost use Rattle.xmp_code.specs.Fitting.{IsMovingOf, MovingFits};
 
 use crate::state::{Mode, Moving, State};
