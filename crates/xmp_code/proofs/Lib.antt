@@ -7,3 +7,4 @@ pub mod Replicated
 pub mod Rooms
 pub mod Advanced
 pub mod Planned
+pub mod Stepping

@@ -4,12 +4,15 @@
 mod acting;
 mod action;
 mod advancing;
+mod beginning;
 mod control;
 mod controlling;
 mod deciding;
 mod ends;
 mod points;
 mod printing;
+mod running;
+mod serving;
 mod shared;
 mod stack;
 mod standing;

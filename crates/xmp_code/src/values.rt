@@ -63,7 +63,7 @@ fn noted_value(noted: &Option<Note>) -> i64
     ensures { result ≡ noted_value (option_map note_of noted.now) }
 {
     match noted {
-        Some(note) => 1 + kind_number(note.kind),
+        Some(note) => i64::from(1 + kind_number(note.kind)),
         None => 0,
     }
 }
