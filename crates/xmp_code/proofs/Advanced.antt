@@ -1,5 +1,5 @@
 -- A state that goes on by one action fits its code.
-use Rattle.std.proofs.Common.{◌≡◌, ◌≤◌, ◌+◌, ◌*◌, ℕ, List, length, vec_capacity, Option, Some, None, refl, sym, ap, subst, ◌∙◌, arith}
+use Rattle.std.proofs.Common.{◌≡◌, ◌≤◌, ◌+◌, ◌*◌, ℕ, ℤ, List, length, vec_capacity, Option, Some, None, refl, sym, ap, subst, ◌∙◌, arith}
 use Rattle.std.specs.Prelude.{Result, Ok, Err, IfOk, OnErr}
 use Rattle.xmp_steps.specs.Machine.{Goes, Stops, Stuck}
 use Rattle.xmp_instr.specs.declared.parts.CodeParts.{CodeParts}
@@ -9,10 +9,12 @@ use Rattle.xmp_instr.specs.Valid.{IsValid}
 use Rattle.xmp_instr.specs.Fits.{Fits}
 use Rattle.xmp_instr.proofs.Fitting.{steps_fit}
 use Rattle.xmp_code.specs.declared.state.State.{State}
+use Rattle.xmp_code.specs.declared.state.Mode.{Mode}
+use Rattle.xmp_code.specs.declared.state.Moving.{Moving}
 use Rattle.xmp_code.specs.declared.state.Mode.TheVariants as mode
 use Rattle.xmp_code.specs.States.{node_of, stage_of}
 use Rattle.xmp_code.specs.Acting.{Does, Keeps}
-use Rattle.xmp_code.specs.Fitting.{MovingFits, StateFits}
+use Rattle.xmp_code.specs.Fitting.{MovingFits, SameBut, StateFits}
 use Rattle.xmp_code.specs.Running.{Advances, MayLack, MayLackIn}
 use Rattle.xmp_code.specs.Actions.{MayLackAt}
 
@@ -34,6 +36,28 @@ kept c s t f k fits m = record {
   heard = k.heard ∙ f.heard;
   moving = m;
 }
+
+-- a state with the same room that shows a node which fits
+pub refits : (c : CodeParts) (s t : State) → StateFits c s → Fits c (node_of t) → t.stack.room ≡ s.stack.room → vec_capacity t.frame.calls ≡ vec_capacity s.frame.calls
+    → length t.talk.told.items ≡ length s.talk.told.items → length t.talk.heard.items ≡ length s.talk.heard.items
+    → MovingFits c t.talk.mode t.data.words.items t.talk.moving → StateFits c t
+refits c s t f fits a b told heard m = record {
+  node = fits;
+  room = (let r = f.room in omega (arith, a, r));
+  calls = (let r = f.calls in omega (arith, b, r));
+  told = told ∙ f.told;
+  heard = heard ∙ f.heard;
+  moving = m;
+}
+
+moving_same : (c : CodeParts) (m n : Mode) (v w : List ℤ) (x y : Option Moving) → n ≡ m → w ≡ v → y ≡ x → MovingFits c m v x → MovingFits c n w y
+moving_same c m n v w x y e f g h =
+    subst (λ a. MovingFits c a w y) (sym e) (subst (λ b. MovingFits c m b y) (sym f) (subst (λ z. MovingFits c m v z) (sym g) h))
+
+pub same_fits : (c : CodeParts) (s t : State) → StateFits c s → SameBut s t → Fits c (node_of t) → StateFits c t
+same_fits c s t f k fits =
+    refits c s t f fits (ap (λ x. x.room) k.stack) (ap (λ x. vec_capacity x.calls) k.frame) k.told k.heard
+    (moving_same c s.talk.mode t.talk.mode s.data.words.items t.data.words.items s.talk.moving t.talk.moving k.mode (ap (λ v. v.items) k.words) k.moving f.moving)
 
 one_fits : (c : CodeParts) (input : List ℕ) (s t : State) (x : Comes) → IsValid c → StateFits c s → next c input (node_of s) ≡ x → (o : Option Stop) → Does x s o t
     → MovingFits c t.talk.mode t.data.words.items t.talk.moving → StateFits c t

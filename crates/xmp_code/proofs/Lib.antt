@@ -8,3 +8,5 @@ pub mod Rooms
 pub mod Advanced
 pub mod Planned
 pub mod Stepping
+pub mod ReadBack
+pub mod Outside

@@ -37,3 +37,13 @@ pub record StateFits (c : CodeParts) (s : State) : Type 0 where
   pub told : length s.talk.told.items ≡ c.nodes
   pub heard : length s.talk.heard.items ≡ c.nodes
   pub moving : MovingFits c s.talk.mode s.data.words.items s.talk.moving
+
+-- two states with the same room and the same transfer
+pub record SameBut (s t : State) : Type 0 where
+  pub stack : t.stack ≡ s.stack
+  pub frame : t.frame ≡ s.frame
+  pub words : t.data.words ≡ s.data.words
+  pub mode : t.talk.mode ≡ s.talk.mode
+  pub moving : t.talk.moving ≡ s.talk.moving
+  pub told : length t.talk.told.items ≡ length s.talk.told.items
+  pub heard : length t.talk.heard.items ≡ length s.talk.heard.items

@@ -29,8 +29,10 @@ impl State {
     pub fn take(&mut self, n: usize)
         requires values { n ≤ length self.old.stack.values }
         requires next { self.old.place + 1 < 2 ^ 64 }
-        ensures { self.new ≡ record self.old { place = self.old.place + 1;
-            stack = record self.old.stack { values = drop n self.old.stack.values } } }
+        ensures { self.new ≡ record self.old {
+          place = self.old.place + 1;
+          stack = record self.old.stack { values = drop n self.old.stack.values };
+        } }
     {
         self.stack.take(n);
         self.place += 1;
@@ -41,8 +43,10 @@ impl State {
         requires values { n ≤ length self.old.stack.values }
         requires room { length (drop n self.old.stack.values) < self.old.stack.room }
         requires next { self.old.place + 1 < 2 ^ 64 }
-        ensures { self.new ≡ record self.old { place = self.old.place + 1;
-            stack = record self.old.stack { values = v ∷ drop n self.old.stack.values } } }
+        ensures { self.new ≡ record self.old {
+          place = self.old.place + 1;
+          stack = record self.old.stack { values = v ∷ drop n self.old.stack.values };
+        } }
     {
         self.stack.take(n);
         self.stack.push(v);

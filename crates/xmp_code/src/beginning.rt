@@ -1,5 +1,5 @@
 // A node before its first instruction.
-ghost use Rattle.std.specs.Prelude.{◌≡◌, ◌≤◌, ◌+◌, ◌*◌, length, replicate, vec_capacity, None, IfOk};
+ghost use Rattle.std.specs.Prelude.{◌≡◌, ◌≤◌, ◌+◌, ◌*◌, [], length, replicate, vec_capacity, None, IfOk};
 ghost use Rattle.xmp_instr.specs.Node.{beginning, fresh, no_calls};
 ghost use Rattle.xmp_instr.specs.Valid.{IsValid};
 ghost use Rattle.xmp_code.specs.declared.state.Mode.TheVariants as mode;
@@ -80,6 +80,20 @@ fn no_counts(alloc: Global, count: usize) -> Result<Vec<u64>, NoMemory>
     Ok(sent)
 }
 
+fn fresh_values(alloc: Global, code: &CodeParts, nodes: usize) -> Result<(Data, Vec<u64>), NoMemory>
+    ensures data { IfOk result (λ p. data_of None p.0 ≡ fresh code.now) }
+    ensures sent { IfOk result (λ p. p.1.items ≡ replicate nodes 0) }
+{
+    let sent = no_counts(alloc, nodes)?;
+    match fresh_data(alloc, code) {
+        Ok(data) => Ok((data, sent)),
+        Err(NoMemory) => {
+            drop(sent);
+            Err(NoMemory)
+        }
+    }
+}
+
 /// How many values a node may have: those of the most open calls, and of the code outside.
 fn most_values(code: &CodeParts) -> usize
     ensures { result ≡ (code.now.calls + 1) * code.now.depth }
@@ -88,25 +102,61 @@ fn most_values(code: &CodeParts) -> usize
 }
 
 impl State {
+    /// The node before its first instruction, with this stack and frame.
+    fn with_values(
+        alloc: Global,
+        code: &CodeParts,
+        stack: Stack,
+        frame: Frame,
+    ) -> Result<State, NoMemory>
+        requires stack { stack ≡ record { values = []; room = (code.now.calls + 1) * code.now.depth } }
+        requires frame { frame_of frame ≡ no_calls }
+        requires room { code.now.calls ≤ vec_capacity frame.calls }
+        requires valid { IsValid code.now }
+        ensures node { IfOk result (λ s. node_of s ≡ beginning code.now) }
+        ensures fits { IfOk result (λ s. StateFits code.now s) }
+    {
+        let nodes = code.nodes as usize;
+        let (data, sent) = match fresh_values(alloc, code, nodes) {
+            Ok(values) => values,
+            Err(NoMemory) => {
+                drop(stack);
+                drop(frame);
+                return Err(NoMemory);
+            }
+        };
+        match fresh_talk(alloc, nodes) {
+            Ok(talk) => Ok(State {
+                place: 0,
+                stack,
+                frame,
+                data,
+                talk,
+                sent,
+            }),
+            Err(NoMemory) => {
+                drop(stack);
+                drop(frame);
+                drop(data);
+                drop(sent);
+                Err(NoMemory)
+            }
+        }
+    }
+
     /// The node before its first instruction.
     pub fn new(alloc: Global, code: &CodeParts) -> Result<State, NoMemory>
         requires { IsValid code.now }
         ensures node { IfOk result (λ s. node_of s ≡ beginning code.now) }
         ensures fits { IfOk result (λ s. StateFits code.now s) }
     {
-        let nodes = code.nodes as usize;
         let stack = Stack::new(alloc, most_values(code))?;
-        let frame = fresh_frame(alloc, code.calls as usize)?;
-        let data = fresh_data(alloc, code)?;
-        let talk = fresh_talk(alloc, nodes)?;
-        let sent = no_counts(alloc, nodes)?;
-        Ok(State {
-            place: 0,
-            stack,
-            frame,
-            data,
-            talk,
-            sent,
-        })
+        match fresh_frame(alloc, code.calls as usize) {
+            Ok(frame) => State::with_values(alloc, code, stack, frame),
+            Err(NoMemory) => {
+                drop(stack);
+                Err(NoMemory)
+            }
+        }
     }
 }

@@ -9,9 +9,11 @@ mod control;
 mod controlling;
 mod deciding;
 mod ends;
+mod heard;
 mod points;
 mod printing;
 mod running;
+mod saying;
 mod serving;
 mod shared;
 mod stack;
@@ -19,3 +21,5 @@ mod standing;
 mod state;
 mod values;
 mod words;
+
+pub use state::State;

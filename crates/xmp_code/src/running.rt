@@ -42,12 +42,7 @@ impl State {
     }
 
     /// Runs to the next stop, or to where memory lacks. A stop comes.
-    pub fn run(
-        &mut self,
-        alloc: Global,
-        code: &CodeParts,
-        input: &[u8],
-    ) -> Result<Stop, NoMemory>
+    pub fn run(&mut self, alloc: Global, code: &CodeParts, input: &[u8]) -> Result<Stop, NoMemory>
         requires valid { IsValid code.now }
         requires state { StateFits code.now self.old }
         requires comes { (n : ℕ) × IsSome (within (next code.now input.now) n (node_of self.old)) }

@@ -104,7 +104,14 @@ impl State {
         ensures err { OnErr result (self.new ≡ self.old) }
         ensures moving { MovingFits code.now self.new.talk.mode self.new.data.words.items self.new.talk.moving }
     {
-        let Some(Meeting::Move { kind, target_at, source_at }) = code.meetings.get(e as usize) else {
+        let Some(
+            Meeting::Move {
+                kind,
+                target_at,
+                source_at,
+            },
+        ) = code.meetings.get(e as usize)
+        else {
             unreachable!();
         };
         let Some(values) = self.stack.many(n) else {

@@ -21,7 +21,7 @@ pub returns-in-Ok-pack-clause-moving : goal.returns-in-Ok-pack-clause-moving
 returns-in-Ok-pack-clause-moving c =
     let plan : IsPlanOf c.args.kind.now c.as_slice.result.now c.args.code.now.node c.in-Ok-plan_of.plan = c.in-Ok-plan_of.ensures.plan in
     let own : IsPlanOf c.args.kind.now c.in-Ok.numbers.items c.args.code.now.node c.in-Ok-plan_of.plan =
-        subst (λ xs. IsPlanOf c.args.kind.now xs c.args.code.now.node c.in-Ok-plan_of.plan) c.as_slice.ensures.value plan in
+    subst (λ xs. IsPlanOf c.args.kind.now xs c.args.code.now.node c.in-Ok-plan_of.plan) c.as_slice.ensures.value plan in
     let few = peers_enough c.args.code.now c.args.kind.now c.requires.valid.nodes c.requires.kind c.args.code.now.node c.requires.valid.nodes.node in
     record {
       plan = own;

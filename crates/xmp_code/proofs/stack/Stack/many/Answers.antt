@@ -10,11 +10,12 @@ returns c =
     let all : List ℤ = s.buffer.items in
     let inside : s.depth ≤ length all = c.self.invariant in
     let long : length c.args.self.now.values ≡ s.depth =
-        ap (λ v. length v.values) (sym c.self.view_is) ∙ length-reverse (take s.depth all) ∙ length-take-le s.depth all inside in
+    ap (λ v. length v.values) (sym c.self.view_is) ∙ length-reverse (take s.depth all) ∙ length-take-le s.depth all inside in
     let few : c.args.n ≤ s.depth = c.if-self-n.false in
-    let same : s.depth - (s.depth - c.args.n) ≡ c.args.n = omega (arith, few) in
-    (omega (arith, few, long),
-    ap (λ k. take k (drop (s.depth - c.args.n) c.deref.result.now)) same
-    ∙ ap (λ xs. take c.args.n (drop (s.depth - c.args.n) xs)) c.deref.ensures.value
-    ∙ sym (take_reversed all s.depth c.args.n few inside)
-    ∙ ap (λ v. reverse (take c.args.n v.values)) c.self.view_is)
+    let same : s.depth - (s.depth - c.args.n) ≡ c.args.n = omega (arith, few) in (
+      omega (arith, few, long),
+      ap (λ k. take k (drop (s.depth - c.args.n) c.deref.result.now)) same
+          ∙ ap (λ xs. take c.args.n (drop (s.depth - c.args.n) xs)) c.deref.ensures.value
+          ∙ sym (take_reversed all s.depth c.args.n few inside)
+          ∙ ap (λ v. reverse (take c.args.n v.values)) c.self.view_is,
+    )

@@ -10,7 +10,7 @@ returns c =
     let all : List ℤ = s.buffer.items in
     let inside : s.depth ≤ length all = c.self.invariant in
     let long : length c.args.self.now.values ≡ s.depth =
-        ap (λ v. length v.values) (sym c.self.view_is) ∙ length-reverse (take s.depth all) ∙ length-take-le s.depth all inside in
+    ap (λ v. length v.values) (sym c.self.view_is) ∙ length-reverse (take s.depth all) ∙ length-take-le s.depth all inside in
     let few : c.args.n ≤ s.depth = omega (arith, c.requires, long) in
     let P : Stacked → Type 0 = λ v. record { values = reverse (take (s.depth - c.args.n) all); room = length all } ≡ record { values = drop c.args.n v.values; room = v.room } in
     subst P c.self.view_is (ap (λ vs. record { values = vs; room = length all }) (sym (drop_reversed all s.depth c.args.n few inside)))
