@@ -1,4 +1,5 @@
-//! The machine of a node.
+//! The machine of a node: a state that goes through a code, one instruction at a time, from stop to stop, as the
+//! definitions of the code say. Its answers, its text and its store are those of the node that stands there.
 #![tactic(auto)]
 
 mod acting;
@@ -9,11 +10,9 @@ mod control;
 mod controlling;
 mod deciding;
 mod ends;
-mod heard;
 mod points;
 mod printing;
 mod running;
-mod saying;
 mod serving;
 mod shared;
 mod stack;
@@ -22,4 +21,5 @@ mod state;
 mod values;
 mod words;
 
+pub use ends::{TrapSaid, end_words, loop_end_read, task_end_read};
 pub use state::State;
