@@ -22,4 +22,6 @@ mod values;
 mod words;
 
 pub use ends::{TrapSaid, end_words, loop_end_read, task_end_read};
-pub use state::State;
+pub use stack::Stack;
+pub use state::{Data, Frame, Mode, Moving, Note, State, Talk};
+pub use words::word_at;
