@@ -22,3 +22,4 @@ pub mod EndLaws
 pub mod PickLaws
 pub mod PlanLaws
 pub mod Gathering
+pub mod Assigning
