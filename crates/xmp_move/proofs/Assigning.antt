@@ -50,7 +50,7 @@ module _ (te se : List ℕ) (to from : List Chosen) (good : AreGood te to se fro
   lengths_fit : fit (lengths to) (lengths from) ≡ true
   lengths_fit = lengths_good to from (rest_none (side_fault true se from) (lengths_fault to from) others_none)
 
-  assignment : IsAssignment te (pairs_between to from)
+  pub assignment : IsAssignment te (pairs_between to from)
   assignment = assigns te to from good.target target_none
 
   at_places : (lengths from ≡ []) ⊎ (length (lengths from) ≡ length (lengths to)) → (places : List ℕ) → IsInside places (counts to) → IsInside (cell_at from places) se
@@ -61,7 +61,7 @@ module _ (te se : List ℕ) (to from : List Chosen) (good : AreGood te to se fro
       let same : counts from ≡ counts to = counts_are from ∙ ap (map natural) (fit_same (lengths to) (lengths from) equal lengths_fit) ∙ sym (counts_are to) in
       cell_inside true se from places good.source source_none (subst (IsInside places) (sym same) i)
 
-  source_inside : (p : Pair) → IsIn p (pairs_between to from) → IsInside p.1 se
+  pub source_inside : (p : Pair) → IsIn p (pairs_between to from) → IsInside p.1 se
   source_inside p i =
       let a = in_map (λ places. (cell_at to places, cell_at from places)) (indices (counts to)) p i in
       subst (λ c. IsInside c se) (sym (ap (λ q. q.1) a.same)) (at_places good.sections a.of (in_inside a.of (counts to) a.among))
