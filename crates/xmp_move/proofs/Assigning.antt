@@ -54,6 +54,7 @@ module _ (te se : List ℕ) (to from : List Chosen) (good : AreGood te to se fro
   assignment = assigns te to from good.target target_none
 
   at_places : (lengths from ≡ []) ⊎ (length (lengths from) ≡ length (lengths to)) → (places : List ℕ) → IsInside places (counts to) → IsInside (cell_at from places) se
+  unfolding IsInside
   at_places (inl none) places i =
       let none_left : IsInside [] (counts from) = subst (IsInside []) (sym (counts_are from ∙ ap (map natural) none)) tt in
       subst (λ c. IsInside c se) (sym (one_cell from places none)) (cell_inside true se from [] good.source source_none none_left)
@@ -104,13 +105,13 @@ module _ (conv : ℤ → ℤ) (target source : Home) (te se : List ℕ) (into ou
     (count node : ℕ) (peers : List ℕ) (sources : ℕ → List ℤ) (own source_values target_values : List ℤ)
     (good : AreGood te to se from) (ta : IsArray target te count) (sa : IsArray source se count) (lt : node < count) (are : AreNodes count peers)
     (slots : HasSlots te (holds_cell target node) (into node) own) where
-  pairs : List Pair
+  abbrev pairs : List Pair
   pairs = pairs_between to from
 
-  ways : Ways
+  abbrev ways : Ways
   ways = moving target source into out_of
 
-  new : List ℤ
+  abbrev new : List ℤ
   new = unpacked_of conv ways pairs sources own node peers
 
   holds : (cell : List ℕ) → IsInside cell te → owns_cell target node cell ≡ true → holds_cell target node cell ≡ true
