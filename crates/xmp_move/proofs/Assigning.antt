@@ -1,12 +1,14 @@
 -- What a node's store shows after a gmove between arrays.
 use Rattle.std.proofs.Common.{◌≡◌, ◌≢◌, ◌⊎◌, inl, inr, ◌+◌, ◌-◌, ◌<◌, ◌≤◌, ℕ, ℤ, Bool, true, false, Option, Some, None, List, [], ◌∷◌, refl, sym, ◌∙◌, ap, arith, length, map, subst}
 use Rattle.std.specs.Prelude.{◌==◌, drop}
+use Rattle.std.specs.List.{zip}
 use Rattle.std.proofs.lemmas.Bool.{eqb-true, eq-eqb}
 use Rattle.xmp_num.specs.declared.types.Ty.{Ty}
 use Rattle.xmp_map.specs.declared.grid.Grid.{Grid}
-use Rattle.xmp_map.specs.RowMajor.{product, row_major}
+use Rattle.xmp_map.specs.RowMajor.{product, row_major, unravel}
 use Rattle.xmp_map.specs.Boxes.{IsInside}
 use Rattle.xmp_map.specs.Held as held
+use Rattle.xmp_map.proofs.Order.{unravel-row_major, inside_below}
 use Rattle.xmp_prog.specs.declared.parts.Home.{Home}
 use Rattle.xmp_prog.specs.declared.parts.Home.TheVariants as home
 use Rattle.xmp_meaning.specs.Layouts.{Packed, words_of}
@@ -25,7 +27,7 @@ use Rattle.xmp_move.specs.Sides.{owns_cell, holds_cell, gives_cell, position}
 use Rattle.xmp_move.specs.Laid.{IsLaidOut, MapFits, AreOfOneGrid, grid_of, sections}
 use Rattle.xmp_move.specs.Kept.{IsOfCode}
 use Rattle.xmp_move.specs.Plans.{peers_in, peers_of}
-use Rattle.xmp_move.specs.Assigned.{moving, AreGood, AreNodes, IsOver, IsArray, IsAssigned, GmovesArrays, RowsAreKept, PlansAreGood, PlansAreOfArrays}
+use Rattle.xmp_move.specs.Assigned.{moving, AreGood, AreNodes, IsOver, IsArray, IsAssigned, GmovesArrays, AimsArePairs, RowsAreKept, PlansAreGood, PlansAreOfArrays}
 use Rattle.xmp_move.proofs.Members.{in_map}
 use Rattle.xmp_move.proofs.Boxes.{in_inside, in_range, range_in}
 use Rattle.xmp_move.proofs.Unpacked.{moves_all}
@@ -66,6 +68,22 @@ module _ (te se : List ℕ) (to from : List Chosen) (good : AreGood te to se fro
   source_inside p i =
       let a = in_map (λ places. (cell_at to places, cell_at from places)) (indices (counts to)) p i in
       subst (λ c. IsInside c se) (sym (ap (λ q. q.1) a.same)) (at_places good.sections a.of (in_inside a.of (counts to) a.among))
+
+-- ---- the pairs by the numbers of their cells
+
+numbered : (te se : List ℕ) (ps : List Pair) → ((p : Pair) → IsIn p ps → IsInside p.0 te) → ((p : Pair) → IsIn p ps → IsInside p.1 se)
+    → zip (map (unravel te) (map (λ p. row_major te p.0) ps)) (map (unravel se) (map (λ p. row_major se p.1) ps)) ≡ ps
+unfolding IsIn
+numbered te se [] a b = refl
+numbered te se (p ∷ ps) a b =
+    let first = unravel-row_major p.0 te (inside_below p.0 te (a p (inl refl))) in
+    let second = unravel-row_major p.1 se (inside_below p.1 se (b p (inl refl))) in
+    rw (first, second) (ap (λ rest. p ∷ rest) (numbered te se ps (λ q i. a q (inr i)) (λ q i. b q (inr i))))
+
+pub aims_are_pairs : AimsArePairs
+aims_are_pairs te se to from good =
+    let a = assignment te se to from good in
+    numbered te se (pairs_between to from) a.inside (source_inside te se to from good)
 
 -- ---- one node gives a cell
 

@@ -1,6 +1,7 @@
 -- What a gmove leaves in the store of a node (XcalableMP 1.4, gmove construct; the slots are this project's).
-use Rattle.std.specs.Prelude.{◌≡◌, ◌≢◌, ◌⊎◌, ◌<◌, ◌≤◌, ◌+◌, ℕ, ℤ, true, false, List, [], length, None}
-use Rattle.xmp_map.specs.RowMajor.{product}
+use Rattle.std.specs.Prelude.{◌≡◌, ◌≢◌, ◌⊎◌, ◌<◌, ◌≤◌, ◌+◌, ℕ, ℤ, true, false, List, [], map, length, None}
+use Rattle.std.specs.List.{zip}
+use Rattle.xmp_map.specs.RowMajor.{product, unravel}
 use Rattle.xmp_map.specs.Boxes.{IsInside}
 use Rattle.xmp_map.specs.Held as held
 use Rattle.xmp_prog.specs.declared.parts.Home.{Home}
@@ -20,6 +21,7 @@ use Rattle.xmp_move.specs.Stores.{IsIn, word_at, unpacked_of}
 use Rattle.xmp_move.specs.Whole.{Shows, HasSlots, assigned}
 use Rattle.xmp_move.specs.Laid.{IsLaidOut, MapFits}
 use Rattle.xmp_move.specs.Kept.{IsOfCode}
+use Rattle.xmp_move.specs.Meant.{aim_of}
 use Rattle.xmp_move.specs.Plans.{peers_of}
 
 -- a target's cell is written at its owner, or at each node where the target isn't spread; each side has slots of its own
@@ -75,6 +77,12 @@ GmovesArrays = (conv : ℤ → ℤ) (target source : Home) (te se : List ℕ) (i
     → ((k : ℕ) → k < count → Shows se (gives_cell source k node) (out_of k) (sources k) source_values)
     → IsAssigned conv target te se (pairs_between to from) node (into node) source_values target_values own
     (unpacked_of conv (moving target source into out_of) (pairs_between to from) sources own node peers)
+
+-- what the meaning aims at, by the numbers of the cells, are the pairs
+abbrev pub AimsArePairs : Type 0
+AimsArePairs = (te se : List ℕ) (to from : List Chosen) → AreGood te to se from
+    → zip (map (unravel te) (aim_of te se (pairs_between to from)).targets) (map (unravel se) (aim_of te se (pairs_between to from)).sources)
+    ≡ pairs_between to from
 
 -- the cells that a node holds of an array have slots of their own in a row of its words
 abbrev pub RowsAreKept : Type 0

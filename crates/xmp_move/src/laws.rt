@@ -1,6 +1,6 @@
 // What all plans of a transfer do together, as laws that callers may take.
 
-ghost use Rattle.xmp_move.specs.Assigned.{GmovesArrays, PlansAreGood, PlansAreOfArrays, RowsAreKept};
+ghost use Rattle.xmp_move.specs.Assigned.{AimsArePairs, GmovesArrays, PlansAreGood, PlansAreOfArrays, RowsAreKept};
 ghost use Rattle.xmp_move.specs.Kept.{CellsAreOwned, GmovesAssign, OwnersHold, ReflectsArrays, SidesAreKept};
 ghost use Rattle.xmp_move.specs.Meant.{MovesAsMeant, TrapsAsMeant};
 ghost use Rattle.xmp_move.specs.Laws.{PlansFit, FillsNeeded, FillsOnce, MovesAll, MovesWhole, Reflects};
@@ -46,6 +46,7 @@ pub fn reflects_are_whole()
 /// out, has numbers without a fault, and its sides are arrays over all its peers.
 pub fn gmoves_are_whole()
     ensures arrays { GmovesArrays }
+    ensures pairs { AimsArePairs }
     ensures rows { RowsAreKept }
     ensures good { PlansAreGood }
     ensures over { PlansAreOfArrays }
