@@ -17,6 +17,8 @@ pub mod DueSlots
 pub mod SumLaws
 pub mod Narrowed
 pub mod LegLaws
+pub mod RoundLaws
+pub mod RepeatLaws
 pub mod GatherLaws
 pub mod EndLaws
 pub mod PickLaws
