@@ -1,8 +1,14 @@
 // Transfers in the code of a node, which are laid out.
-use crate::shapes::{Shape, Stop, home_of, side_of, words_of};
+ghost use Rattle.std.specs.Prelude.{◌≡◌, ◌≤◌, ◌<◌, IsTrue, IfOk, IfSome, length};
+ghost use Rattle.std.specs.List.{sum_by};
+ghost use Rattle.xmp_move.specs.Numbers.{asked};
+ghost use Rattle.xmp_move.specs.Kinds.{numbers_of};
+ghost use Rattle.xmp_instr.specs.Valid.{IsValid, MoveFits};
+
+use crate::shapes::{Form, Shape, Stop, home_of, side_of, words_of};
 use sqlite_items::Items;
 use std::alloc::Global;
-use xmp_base::{NoMemory, Place};
+use xmp_base::Place;
 use xmp_instr::{CodeParts, Instr, Meeting, NodeCode};
 use xmp_move::{MoveError, MoveKind, Plan, SidePart, plan_of};
 use xmp_num::Ty;
@@ -35,38 +41,83 @@ pub fn source_base(moves: &Moves, node: u32) -> Result<u32, Stop> {
     }
 }
 
+fn gmove_of(
+    alloc: Global,
+    target: &Shape,
+    source: &Shape,
+    base: u32,
+    ty: Ty,
+) -> Result<MoveKind, Stop> {
+    let target = side_of(alloc, target, 0)?;
+    match side_of(alloc, source, base) {
+        Ok(source) => Ok(MoveKind::Gmove { target, source, ty }),
+        Err(stop) => {
+            drop(target);
+            Err(stop)
+        }
+    }
+}
+
 fn kind_of(alloc: Global, moves: &Moves, ty: Ty, node: u32) -> Result<MoveKind, Stop> {
-    let base = source_base(moves, node)?;
     match *moves {
-        Moves::Reflect(shape) => Ok(MoveKind::Reflect {
-            array: side_of(alloc, &shape, 0)?,
-        }),
+        Moves::Reflect(shape) => {
+            let array = side_of(alloc, &shape, 0)?;
+            Ok(MoveKind::Reflect { array })
+        }
         Moves::Between(target, source) => {
-            let target = side_of(alloc, &target, 0)?;
-            let source = side_of(alloc, &source, base)?;
-            Ok(MoveKind::Gmove { target, source, ty })
+            let base = source_base(moves, node)?;
+            gmove_of(alloc, &target, &source, base, ty)
         }
         Moves::Within(shape, parts) => {
-            let target = side_of(alloc, &shape, 0)?;
-            let source = side_of(alloc, &Shape(shape.0, shape.1, parts), 0)?;
-            Ok(MoveKind::Gmove { target, source, ty })
+            gmove_of(alloc, &shape, &Shape(shape.0, shape.1, parts), 0, ty)
         }
+    }
+}
+
+// How many nodes an array has, where it doesn't lie on every node.
+fn nodes_under(shape: &Shape) -> Result<Option<u32>, Stop> {
+    match home_of(shape)? {
+        Home::Spread(_, map) => Ok(Some(map.template.grid.count())),
+        _ => Ok(None),
     }
 }
 
 // How many nodes there are.
 pub fn nodes_of(moves: &Moves) -> Result<u32, Stop> {
     let (target, source) = arrays(moves);
-    match home_of(&target)? {
-        Home::Spread(_, map) => Ok(map.template.grid.count()),
-        _ => match source {
-            Some(source) => match home_of(&source)? {
-                Home::Spread(_, map) => Ok(map.template.grid.count()),
-                _ => Ok(3),
-            },
-            None => Ok(3),
-        },
+    let source = source.unwrap_or(Shape(Form::Copied, &[], &[]));
+    match (nodes_under(&target)?, nodes_under(&source)?) {
+        (Some(nodes), _) => Ok(nodes),
+        (None, Some(nodes)) => Ok(nodes),
+        (None, None) => Ok(3),
     }
+}
+
+fn meetings(alloc: Global, kind: MoveKind) -> Result<Items<Meeting>, Stop> {
+    let mut all = Items::new(alloc);
+    let meeting = Meeting::Move {
+        kind,
+        target_at: AT,
+        source_at: AT,
+    };
+    match all.push(meeting) {
+        Ok(()) => Ok(all),
+        Err(failed) => {
+            drop(failed);
+            drop(all);
+            Err(Stop::Memory)
+        }
+    }
+}
+
+fn end(alloc: Global) -> Result<(Items<Instr>, Items<u32>), Stop> {
+    let Ok(instrs) = Items::from_slice(alloc, &[Instr::End]) else {
+        return Err(Stop::Memory);
+    };
+    let Ok(depths) = Items::from_slice(alloc, &[0]) else {
+        return Err(Stop::Memory);
+    };
+    Ok((instrs, depths))
 }
 
 // The code of a node with one transfer, and nothing else.
@@ -77,17 +128,14 @@ fn parts_of(
     nodes: u32,
     words: u32,
 ) -> Result<CodeParts, Stop> {
-    let mut meetings = Items::new(alloc);
-    match meetings.push(Meeting::Move {
-        kind,
-        target_at: AT,
-        source_at: AT,
-    }) {
-        Ok(()) => {}
-        Err(_) => return Err(Stop::Memory),
-    }
-    let instrs = Items::from_slice(alloc, &[Instr::End]).map_err(|_| Stop::Memory)?;
-    let depths = Items::from_slice(alloc, &[0]).map_err(|_| Stop::Memory)?;
+    let meetings = meetings(alloc, kind)?;
+    let both = match end(alloc) {
+        Ok(both) => both,
+        Err(stop) => {
+            drop(meetings);
+            return Err(stop);
+        }
+    };
     Ok(CodeParts {
         node,
         nodes,
@@ -95,8 +143,8 @@ fn parts_of(
         words,
         image: None,
         depth: 0,
-        instrs,
-        depths,
+        instrs: both.0,
+        depths: both.1,
         calls: 0,
         formats: Items::new(alloc),
         maps: Items::new(alloc),
@@ -124,47 +172,79 @@ pub fn code_of(
     }
 }
 
-fn kind_in(code: &NodeCode) -> Option<&MoveKind> {
+// The transfer of a code, where it has this one meeting.
+fn kind_in(code: &NodeCode) -> Option<&MoveKind>
+    ensures { IfSome result (λ kind. MoveFits code.now kind.now) }
+{
     match code.parts().meetings.as_slice() {
         [Meeting::Move { kind, .. }] => Some(kind),
         _ => None,
     }
 }
 
-// How many numbers a transfer asks for.
-fn numbers(parts: &[SidePart]) -> usize {
+fn asked(part: SidePart) -> usize
+    ensures { result ≡ asked part }
+{
+    match part {
+        SidePart::One => 1,
+        SidePart::Many => 3,
+    }
+}
+
+// How many numbers the target's side takes.
+pub fn target_asks(moves: &Moves) -> usize {
+    let (target, _) = arrays(moves);
     let mut all = 0usize;
-    for part in parts {
-        all = all.saturating_add(match part {
-            SidePart::One => 1,
-            SidePart::Many => 3,
-        });
+    for part in target.2 {
+        all = all.saturating_add(asked(*part));
     }
     all
 }
 
-fn asks_for(kind: &MoveKind, count: usize) -> bool {
+// Whether so many numbers are asked for.
+fn ask_for(parts: &[SidePart], count: usize) -> bool
+    ensures { IsTrue result → sum_by asked parts.now ≡ count }
+{
+    let mut left = count;
+    for part in parts {
+        if asked(*part) > left {
+            return false;
+        }
+        left -= asked(*part);
+    }
+    left == 0
+}
+
+fn asks_for(kind: &MoveKind, to: usize, count: usize) -> bool
+    ensures { IsTrue result → count ≡ numbers_of kind.now }
+{
     match kind {
         MoveKind::Reflect { .. } => count == 0,
-        MoveKind::Gmove { target, source, .. } => numbers(target.parts.as_slice()).saturating_add(
-            numbers(source.parts.as_slice()),
-        ) == count,
+        MoveKind::Gmove { target, source, .. } => {
+            to <= count
+                && ask_for(target.parts.as_slice(), to)
+                && ask_for(source.parts.as_slice(), count - to)
+        }
     }
 }
 
-// The plan in a code.
-pub fn plan_in(alloc: Global, code: &NodeCode, args: &[i64]) -> Result<Plan, Stop> {
+// The plan in a code. The first so many of the numbers are the target's.
+pub fn plan_in(alloc: Global, code: &NodeCode, to: usize, args: &[i64]) -> Result<Plan, Stop>
+    ensures sends { IfOk result (λ p. code.now.nodes ≤ length p.sends) }
+    ensures fills { IfOk result (λ p. code.now.nodes ≤ length p.fills) }
+{
     match kind_in(code) {
-        Some(kind) if asks_for(kind, args.len()) => match plan_of(
-            alloc,
-            kind,
-            args,
-            code.parts().node,
-        ) {
-            Ok(plan) => Ok(plan),
-            Err(MoveError::Trap { .. }) => Err(Stop::Trap),
-            Err(MoveError::NoMemory) => Err(Stop::Memory),
-        },
-        _ => Err(Stop::Code),
+        None => Err(Stop::Code),
+        Some(kind) => {
+            if asks_for(kind, to, args.len()) {
+                match plan_of(alloc, kind, args, code.parts().node) {
+                    Ok(plan) => Ok(plan),
+                    Err(MoveError::Trap { .. }) => Err(Stop::Trap),
+                    Err(MoveError::NoMemory) => Err(Stop::Memory),
+                }
+            } else {
+                Err(Stop::Code)
+            }
+        }
     }
 }

@@ -1,4 +1,6 @@
 // Whole arrays, and the assignment of a section cell by cell.
+ghost use Rattle.std.specs.Prelude.{◌≡◌, ◌++◌, [], ◌∷◌, IfOk};
+
 use crate::shapes::{Stop, cells};
 use std::alloc::Global;
 use xmp_move::SidePart;
@@ -6,6 +8,26 @@ use xmp_num::{Ty, convert};
 
 // The subscripts of a dimension that are named: the first, how many, and the step.
 type Named = (i64, i64, i64);
+
+pub fn push<T: Drop>(all: &mut Vec<T>, item: T) -> Result<(), Stop>
+    ensures { IfOk result (λ _. all.new.items ≡ all.old.items ++ item ∷ []) }
+{
+    match all.push(item) {
+        Ok(()) => Ok(()),
+        Err(failed) => {
+            drop(failed);
+            Err(Stop::Memory)
+        }
+    }
+}
+
+// Another array with the same values.
+pub fn copy_of(alloc: Global, array: &[i64]) -> Result<Vec<i64>, Stop> {
+    match Vec::from_slice(alloc, array) {
+        Ok(copy) => Ok(copy),
+        Err(_) => Err(Stop::Memory),
+    }
+}
 
 fn number(args: &[i64], at: usize) -> Result<i64, Stop> {
     match args.get(at) {
@@ -67,7 +89,7 @@ fn numbers(alloc: Global, extents: &[u32], named: &[Named; 3]) -> Result<Vec<usi
                 if n < 0 || n > 1000 {
                     return Err(Stop::Cell);
                 }
-                all.push(n as usize).map_err(|_| Stop::Memory)?;
+                push(&mut all, n as usize)?;
             }
         }
     }
@@ -79,7 +101,7 @@ fn values(alloc: Global, array: &[i64], at: &[usize]) -> Result<Vec<i64>, Stop> 
     let mut all = Vec::new(alloc);
     for n in at {
         match array.get(*n) {
-            Some(v) => all.push(*v).map_err(|_| Stop::Memory)?,
+            Some(v) => push(&mut all, *v)?,
             None => return Err(Stop::Cell),
         }
     }
@@ -102,8 +124,10 @@ fn write(target: &mut Vec<i64>, at: &[usize], values: &[i64], ty: Ty) -> Result<
 pub fn array(alloc: Global, extents: &[u32], first: i64, step: i64) -> Result<Vec<i64>, Stop> {
     let mut all = Vec::new(alloc);
     for n in 0..cells(extents) {
-        all.push(first.saturating_add(step.saturating_mul(i64::from(n))))
-            .map_err(|_| Stop::Memory)?;
+        push(
+            &mut all,
+            first.saturating_add(step.saturating_mul(i64::from(n))),
+        )?;
     }
     Ok(all)
 }

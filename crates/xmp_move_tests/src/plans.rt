@@ -1,52 +1,17 @@
 // What plans send and fill.
-use crate::codes::{Moves, code_of, plan_in};
-use crate::shapes::{Over, Shape, Stop};
+use crate::codes::{Moves, code_of, plan_in, target_asks};
+use crate::shapes::{Form, Shape, Stop};
 use SidePart::Many;
 use std::alloc::Global;
 use std::test::Fail;
-use xmp_dist::Dist;
-use xmp_map::Target;
 use xmp_move::SidePart;
 use xmp_num::Ty;
 
-const FIRST: Target = Target {
-    dim: Some(0),
-    offset: 0,
-};
-
-const SECOND: Target = Target {
-    dim: Some(1),
-    offset: 0,
-};
-
 // 4 x 4 cells over 2 x 2 nodes, with a shadow of one all round
-const SQUARE: Moves = Moves::Reflect(Shape(
-    Some(Over {
-        grid: &[2, 2],
-        sizes: &[4, 4],
-        dists: &[Dist::Block, Dist::Block],
-        targets: &[FIRST, SECOND],
-        shadow: &[(1, 1), (1, 1)],
-    }),
-    &[4, 4],
-    &[],
-));
+const SQUARE: Moves = Moves::Reflect(Shape(Form::Square, &[4, 4], &[]));
 
 // eight cells over three nodes in blocks
-const EIGHT: Moves = Moves::Within(
-    Shape(
-        Some(Over {
-            grid: &[3],
-            sizes: &[8],
-            dists: &[Dist::Block],
-            targets: &[FIRST],
-            shadow: &[(0, 0)],
-        }),
-        &[8],
-        &[Many],
-    ),
-    &[Many],
-);
+const EIGHT: Moves = Moves::Within(Shape(Form::Eight, &[8], &[Many]), &[Many]);
 
 // A transfer, its numbers, the words of the node's store, the node, a peer, and the slots sent to it and filled from it.
 type Row = (
@@ -77,7 +42,7 @@ const ROWS: [Row; 13] = [
 
 fn is_so(alloc: Global, row: &Row) -> Result<bool, Stop> {
     let code = code_of(alloc, &row.0, Ty::Int, row.3, row.2)?;
-    let plan = plan_in(alloc, &code, row.1)?;
+    let plan = plan_in(alloc, &code, target_asks(&row.0), row.1)?;
     if row.4 < code.nodes() {
         Ok(plan.sends(row.4) == row.5 && plan.fills(row.4) == row.6)
     } else {

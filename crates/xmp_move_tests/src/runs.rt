@@ -1,6 +1,8 @@
 // A transfer at all nodes: what each store shows after all packed and each unpacked.
-use crate::codes::{Moves, arrays, code_of, nodes_of, plan_in, source_base};
-use crate::plain::{array, assign};
+ghost use Rattle.std.specs.Prelude.{◌≡◌, ◌<◌, IsTrue, All, length};
+
+use crate::codes::{Moves, arrays, code_of, nodes_of, plan_in, source_base, target_asks};
+use crate::plain::{array, assign, copy_of, push};
 use crate::shapes::{Shape, Stop, home_of, owns, slot_of, words_of};
 use std::alloc::Global;
 use xmp_base::Words;
@@ -60,7 +62,7 @@ fn store_of(
     }
     let mut store = Vec::new(alloc);
     for _ in 0..words {
-        store.push(-9).map_err(|_| Stop::Memory)?;
+        push(&mut store, -9)?;
     }
     put(
         &mut store,
@@ -83,7 +85,9 @@ fn store_of(
     Ok(store)
 }
 
-fn all_below(slots: &[u32], bound: usize) -> bool {
+fn all_below(slots: &[u32], bound: usize) -> bool
+    ensures { IsTrue result → All (λ s. s < bound) slots.now }
+{
     for s in slots {
         if *s as usize >= bound {
             return false;
@@ -92,9 +96,14 @@ fn all_below(slots: &[u32], bound: usize) -> bool {
     true
 }
 
-fn pack_to(alloc: Global, plan: &Plan, store: &[i64], to: u32) -> Result<Words, Stop> {
+fn pack_to(alloc: Global, plan: &Plan, store: &[i64], to: u32) -> Result<Words, Stop>
+    requires { to < length plan.now.sends }
+{
     if all_below(plan.sends(to), store.len()) {
-        Ok(pack(alloc, plan, store, to)?)
+        match pack(alloc, plan, store, to) {
+            Ok(words) => Ok(words),
+            Err(_) => Err(Stop::Memory),
+        }
     } else {
         Err(Stop::Slot)
     }
@@ -113,10 +122,10 @@ fn said(
         return Err(Stop::Slot);
     }
     let code = code_of(alloc, &row.moves, row.ty, node, count as u32)?;
-    let plan = plan_in(alloc, &code, row.args)?;
+    let plan = plan_in(alloc, &code, target_asks(&row.moves), row.args)?;
     for to in 0..code.nodes() {
         let words = pack_to(alloc, &plan, store, to)?;
-        all.push(words).map_err(|_| Stop::Memory)?;
+        push(all, words)?;
     }
     Ok(())
 }
@@ -127,7 +136,9 @@ fn unpack_from(
     from: u32,
     words: &[i64],
     ty: Ty,
-) -> Result<(), Stop> {
+) -> Result<(), Stop>
+    requires { from < length plan.now.fills }
+{
     let slots = plan.fills(from);
     if all_below(slots, store.len()) && words.len() == slots.len() {
         unpack(plan, store.as_mut_slice(), from, words, ty);
@@ -167,8 +178,8 @@ fn heard(
         return Err(Stop::Slot);
     }
     let code = code_of(alloc, &row.moves, row.ty, node, count as u32)?;
-    let plan = plan_in(alloc, &code, row.args)?;
-    let mut new = Vec::from_slice(alloc, store).map_err(|_| Stop::Memory)?;
+    let plan = plan_in(alloc, &code, target_asks(&row.moves), row.args)?;
+    let mut new = copy_of(alloc, store)?;
     let nodes = code.nodes();
     for k in 0..nodes {
         let from = peer(order, k, nodes);
@@ -262,7 +273,7 @@ fn is_right(
 
 // The target after, by the plain assignment.
 fn after(alloc: Global, row: &Row, before: &[i64], source: &[i64]) -> Result<Vec<i64>, Stop> {
-    let mut target = Vec::from_slice(alloc, before).map_err(|_| Stop::Memory)?;
+    let mut target = copy_of(alloc, before)?;
     match row.moves {
         Moves::Reflect(_) => {}
         Moves::Between(to, from) => assign(

@@ -1,14 +1,20 @@
 // The arrays of the tests: where their cells lie, and where a node keeps them.
+ghost use Rattle.std.specs.Prelude.{◌≡◌, ◌≤◌, ◌<◌, IsTrue, IfSome, length};
+ghost use Rattle.std.specs.List.{list_all};
+ghost use Rattle.xmp_base.specs.Limits.{cell_limit};
+ghost use Rattle.xmp_dist.specs.Valid.{is_extent};
+ghost use Rattle.xmp_map.specs.RowMajor.{product};
+ghost use Rattle.xmp_map.specs.Held.{IsCell};
+
 use sqlite_items::Items;
 use std::alloc::Global;
-use xmp_base::NoMemory;
-use xmp_dist::Dist;
+use xmp_dist::{Dist, Lengths};
 use xmp_map::{ArrayMap, Cell, Grid, Target, Template};
 use xmp_move::{Side, SidePart};
 use xmp_prog::Home;
 
 // Why a test stops.
-#[derive(Clone, Copy, Debug, PartialEq, Eq)]
+#[derive(Clone, Copy)]
 pub enum Stop {
     Memory,
     Shape,
@@ -18,41 +24,47 @@ pub enum Stop {
     Slot,
 }
 
-impl From<NoMemory> for Stop {
-    fn from(_: NoMemory) -> Stop {
-        Stop::Memory
-    }
+// Where an array lies.
+#[derive(Clone, Copy)]
+pub enum Form {
+    // on every node
+    Copied,
+    // ten over four nodes in blocks with a shadow, dealt out by one, by two, and in chunks of 3, 0, 5 and 2
+    Blocks,
+    Cyclic,
+    ByTwo,
+    Gblock,
+    // ten at the end of twelve dealt out by three, and eight at the end of ten in blocks
+    ByThree,
+    Shifted,
+    // ten on one node, and eight over three
+    Alone,
+    Eight,
+    // rows that are whole at each node
+    Columns,
+    // over two by two nodes
+    Square,
+    Mixed,
+    Cube,
 }
 
+// A side: the form of its array, its extents, and what is named of each dimension.
 #[derive(Clone, Copy)]
-pub struct Over {
-    pub grid: &'static [u32],
-    pub sizes: &'static [u32],
-    pub dists: &'static [Dist],
-    pub targets: &'static [Target],
-    pub shadow: &'static [(u32, u32)],
-}
+pub struct Shape(pub Form, pub &'static [u32], pub &'static [SidePart]);
 
-// A side: its array over a template or on every node, its extents, and what is named of each dimension.
-#[derive(Clone, Copy)]
-pub struct Shape(
-    pub Option<Over>,
-    pub &'static [u32],
-    pub &'static [SidePart],
-);
-
-fn map_of(over: &Over, extents: &[u32]) -> Option<ArrayMap> {
-    let grid = Grid::new(over.grid).ok()?;
-    let template = Template::new(&grid, over.sizes, over.dists).ok()?;
-    if over.targets.len() == extents.len() && over.shadow.len() == extents.len() && fit(extents) {
-        ArrayMap::new(&template, extents, over.targets, over.shadow).ok()
-    } else {
-        None
-    }
+fn is_small(extent: u32) -> bool
+    ensures { IsTrue result → (1 ≤ extent) × (extent ≤ 16) }
+{
+    extent >= 1 && extent <= 16
 }
 
 // One to three extents from 1 to 16.
-fn fit(extents: &[u32]) -> bool {
+fn fit(extents: &[u32]) -> bool
+    ensures some { IsTrue result → 1 ≤ length extents.now }
+    ensures most { IsTrue result → length extents.now ≤ 3 }
+    ensures sizes { IsTrue result → IsTrue (list_all is_extent extents.now) }
+    ensures cells { IsTrue result → product extents.now ≤ cell_limit }
+{
     match extents {
         [a] => is_small(*a),
         [a, b] => is_small(*a) && is_small(*b),
@@ -61,14 +73,120 @@ fn fit(extents: &[u32]) -> bool {
     }
 }
 
-fn is_small(extent: u32) -> bool {
-    extent >= 1 && extent <= 16
+fn spread(
+    grid: &[u32],
+    sizes: &[u32],
+    dists: &[Dist],
+    targets: &[Target],
+    shadow: &[(u32, u32)],
+    extents: &[u32],
+) -> Option<ArrayMap> {
+    let grid = Grid::new(grid).ok()?;
+    let template = Template::new(&grid, sizes, dists).ok()?;
+    if targets.len() == extents.len() && shadow.len() == extents.len() && fit(extents) {
+        ArrayMap::new(&template, extents, targets, shadow).ok()
+    } else {
+        None
+    }
+}
+
+fn to(dim: u32, offset: i32) -> Target {
+    Target {
+        dim: Some(dim),
+        offset,
+    }
+}
+
+fn line(
+    nodes: u32,
+    size: u32,
+    dist: Dist,
+    offset: i32,
+    shadow: (u32, u32),
+    extents: &[u32],
+) -> Option<ArrayMap> {
+    spread(
+        &[nodes],
+        &[size],
+        &[dist],
+        &[to(0, offset)],
+        &[shadow],
+        extents,
+    )
+}
+
+fn chunks() -> Dist {
+    Dist::Gblock(Lengths {
+        values: [3, 0, 5, 2, 0, 0, 0, 0, 0, 0, 0, 0, 0, 0, 0, 0],
+        count: 4,
+    })
+}
+
+fn columns(extents: &[u32]) -> Option<ArrayMap> {
+    let free = Target {
+        dim: None,
+        offset: 0,
+    };
+    spread(
+        &[4],
+        &[6],
+        &[Dist::Block],
+        &[free, to(0, 0)],
+        &[(0, 0), (1, 1)],
+        extents,
+    )
+}
+
+fn plane(
+    sizes: &[u32],
+    first: Dist,
+    high: (u32, u32),
+    wide: (u32, u32),
+    extents: &[u32],
+) -> Option<ArrayMap> {
+    spread(
+        &[2, 2],
+        sizes,
+        &[first, Dist::Block],
+        &[to(0, 0), to(1, 0)],
+        &[high, wide],
+        extents,
+    )
+}
+
+fn cube(extents: &[u32]) -> Option<ArrayMap> {
+    spread(
+        &[2, 2],
+        &[3, 4, 3],
+        &[Dist::Block, Dist::Whole, Dist::Cyclic(1)],
+        &[to(0, 0), to(1, 0), to(2, 0)],
+        &[(1, 1), (0, 0), (0, 0)],
+        extents,
+    )
+}
+
+fn map_of(form: Form, extents: &[u32]) -> Option<ArrayMap> {
+    match form {
+        Form::Copied => None,
+        Form::Blocks => line(4, 10, Dist::Block, 0, (1, 2), extents),
+        Form::Cyclic => line(4, 10, Dist::Cyclic(1), 0, (0, 0), extents),
+        Form::ByTwo => line(4, 10, Dist::Cyclic(2), 0, (0, 0), extents),
+        Form::Gblock => line(4, 10, chunks(), 0, (2, 1), extents),
+        Form::ByThree => line(4, 12, Dist::Cyclic(3), 2, (0, 0), extents),
+        Form::Shifted => line(4, 10, Dist::Block, 2, (1, 1), extents),
+        Form::Alone => line(1, 10, Dist::Block, 0, (1, 1), extents),
+        Form::Eight => line(3, 8, Dist::Block, 0, (0, 0), extents),
+        Form::Columns => columns(extents),
+        Form::Square => plane(&[4, 4], Dist::Block, (1, 1), (1, 1), extents),
+        Form::Mixed => plane(&[5, 6], Dist::Cyclic(2), (0, 0), (1, 0), extents),
+        Form::Cube => cube(extents),
+    }
 }
 
 pub fn home_of(shape: &Shape) -> Result<Home, Stop> {
-    match &shape.0 {
-        None => Ok(Home::Copy),
-        Some(over) => match map_of(over, shape.1) {
+    match shape.0 {
+        Form::Copied => Ok(Home::Copy),
+        form => match map_of(form, shape.1) {
             Some(map) => Ok(Home::Spread(0, map)),
             None => Err(Stop::Shape),
         },
@@ -77,8 +195,12 @@ pub fn home_of(shape: &Shape) -> Result<Home, Stop> {
 
 pub fn side_of(alloc: Global, shape: &Shape, base: u32) -> Result<Side, Stop> {
     let home = home_of(shape)?;
-    let extents = Items::from_slice(alloc, shape.1).map_err(|_| Stop::Memory)?;
-    let parts = Items::from_slice(alloc, shape.2).map_err(|_| Stop::Memory)?;
+    let Ok(extents) = Items::from_slice(alloc, shape.1) else {
+        return Err(Stop::Memory);
+    };
+    let Ok(parts) = Items::from_slice(alloc, shape.2) else {
+        return Err(Stop::Memory);
+    };
     Ok(Side {
         home,
         extents,
@@ -96,18 +218,28 @@ pub fn cells(extents: &[u32]) -> u32 {
     all
 }
 
-// The subscripts of a cell by its number.
-fn cell_of(map: &ArrayMap, n: u32) -> Option<Cell> {
+// The cell with these subscripts, where it is one.
+fn cell_at(map: &ArrayMap, at: [u32; 3]) -> Option<Cell>
+    ensures { IfSome result (λ c. IsCell map.now c.at) }
+{
     let [first, second, third] = &map.aligned;
+    if at[0] < first.extent && at[1] < second.extent && at[2] < third.extent {
+        Some(Cell { at })
+    } else {
+        None
+    }
+}
+
+// A cell by its number.
+fn cell_of(map: &ArrayMap, n: u32) -> Option<Cell>
+    ensures { IfSome result (λ c. IsCell map.now c.at) }
+{
+    let [_, second, third] = &map.aligned;
     let z = n.checked_rem(third.extent)?;
     let rest = n.checked_div(third.extent)?;
     let y = rest.checked_rem(second.extent)?;
     let x = rest.checked_div(second.extent)?;
-    if x < first.extent && y < second.extent && z < third.extent {
-        Some(Cell { at: [x, y, z] })
-    } else {
-        None
-    }
+    cell_at(map, [x, y, z])
 }
 
 // How many words a node has of an array.
@@ -124,13 +256,23 @@ pub fn words_of(home: &Home, extents: &[u32], node: u32) -> Result<u32, Stop> {
     }
 }
 
+fn map_slot(map: &ArrayMap, node: u32, n: u32) -> Result<Option<u32>, Stop> {
+    match cell_of(map, n) {
+        None => Err(Stop::Cell),
+        Some(cell) => {
+            if node < map.template.grid.count() {
+                Ok(map.slot(node, &cell))
+            } else {
+                Err(Stop::Cell)
+            }
+        }
+    }
+}
+
 // Where a node keeps a cell among them.
 pub fn slot_of(home: &Home, node: u32, n: u32) -> Result<Option<u32>, Stop> {
     match home {
-        Home::Spread(_, map) => match cell_of(map, n) {
-            Some(cell) if node < map.template.grid.count() => Ok(map.slot(node, &cell)),
-            _ => Err(Stop::Cell),
-        },
+        Home::Spread(_, map) => map_slot(map, node, n),
         _ => Ok(Some(n)),
     }
 }
