@@ -129,8 +129,12 @@ impl Leg {
         ensures most { result ≤ to }
         ensures none { (j : ℕ) → k ≤ j → j < result → leg_test self.now j ≡ false }
     {
-        let a = self.target.misses(k, self.count, &self.needs, self.extents.0);
-        let b = self.source.misses(k, self.count, &self.gives, self.extents.1);
+        let a = self
+            .target
+            .misses(k, self.count, &self.needs, self.extents.0);
+        let b = self
+            .source
+            .misses(k, self.count, &self.gives, self.extents.1);
         (k + a.max(b).max(1)).min(to)
     }
 
