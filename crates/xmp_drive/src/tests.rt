@@ -241,7 +241,11 @@ const VERDICTS: [(&[u8], Option<u32>, Is); 50] = [
         None,
         Is::Breaks('F', 5, 8, 42),
     ),
-    (b"int main() { printf(\"%d\\n\", 7); }", Some(1), Is::Program(1)),
+    (
+        b"int main() { printf(\"%d\\n\", 7); }",
+        Some(1),
+        Is::Program(1),
+    ),
     (
         b"#define N 8\nint a[N], b[N], i, s, x;\n#pragma xmp nodes p[4]\n#pragma xmp template t[N]\n#pragma xmp distribute t[block] onto p\n#pragma xmp align a[k] with t[k]\n#pragma xmp align b[k] with t[k]\n#pragma xmp shadow a[1]\nint main() {\n#pragma xmp loop (i) on t[i]\n  for (i = 0; i < N; i++) a[i] = i;\n  for (x = 0; x < 2; x++) {\n#pragma xmp reflect (a)\n#pragma xmp loop (i) on t[i]\n  for (i = 1; i < 7; i++) b[i] = a[i-1];\n#pragma xmp loop (i) on t[i]\n  for (i = 1; i < 7; i++) a[i] = b[i];\n  }\n#pragma xmp task on p[0]\n  printf(\"%d\\n\", s);\n}\n",
         None,

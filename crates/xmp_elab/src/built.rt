@@ -78,7 +78,12 @@ fn breaks(alloc: Global, t: &Tree, rule: u16) -> Option<Place>
 // Without a nodes array the directive with the least place breaks a rule, wherever it stands in the tree.
 #[test]
 fn the_least_directive_has_no_nodes(rt: HostRuntime) -> Result<(), Fail> {
-    for (lines, least) in [((2, 3, 4), 2), ((3, 2, 4), 2), ((4, 3, 2), 2), ((9, 9, 7), 7)] {
+    for (lines, least) in [
+        ((2, 3, 4), 2),
+        ((3, 2, 4), 2),
+        ((4, 3, 2), 2),
+        ((9, 9, 7), 7),
+    ] {
         let tree = with_barriers(rt.alloc(), lines)?;
         let found = breaks(rt.alloc(), &tree, 1);
         drop(tree);
