@@ -1,0 +1,10 @@
+pub mod Nodes
+pub mod Casting
+pub mod Rows
+pub mod Reflecting
+pub mod Moving
+pub mod Parts
+pub mod Tasks
+pub mod Lockstep
+pub mod Worlds
+pub mod Stands
