@@ -1,3 +1,4 @@
 pub mod Agrees
 pub mod Standing
 pub mod Leaves
+pub mod Follow
