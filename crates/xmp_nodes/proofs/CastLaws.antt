@@ -206,28 +206,30 @@ module _ (p : ProgParts) (set : NodeSet) (k : ℕ) (below : k < node_count p) wh
       not_same : (m n : ℕ) → m ≢ n → (m == n) ≡ false
       not_same m n e = ne_eqb m n e
 
+  not_true : (b : Bool) → (b ≡ true → ⊥) → b ≡ false
+  not_true true h = absurd (h refl)
+  not_true false h = refl
+
+  apart : (m n : ℕ) → (m == n) ≡ false → (2 * m == 2 * n) ≡ false
+  apart m n e = ne_eqb (2 * m) (2 * n) (λ f. grind (arith, nat_tests))
+
+  first_or_rest : (n : Name) (stale : ℕ → Bool) (slot : ℕ) (more : Bool) → stale (scalar_object n.number) ≡ false
+      → (more ≡ true → after_one n stale (scalar_object slot) ≡ false) → (n.number == slot || more) ≡ true → stale (scalar_object slot) ≡ false
+  first_or_rest n stale slot more first rest i = at_test (n.number == slot) refl i
+    where
+      at_test : (b : Bool) → (n.number == slot) ≡ b → (b || more) ≡ true → stale (scalar_object slot) ≡ false
+      at_test true e j = ap (λ m. stale (scalar_object m)) (sym (eqb-true n.number slot e)) ∙ first
+      at_test false e j = sym (one_other n stale (scalar_object slot) (apart n.number slot e)) ∙ rest j
+
   -- where the plan is safe at a node of the source, each variable is current there
   pub cast_current : (names : List Name) (stale : ℕ → Bool) → has (nodes_in p.grid set) k ≡ true → Safe k (cast_plan names) stale
       → (slot : ℕ) → is_in (map (λ n. n.number) names) slot ≡ true → stale (scalar_object slot) ≡ false
   cast_current [] stale member safe slot i = cc
-  cast_current (n ∷ names) stale member safe slot i = at_test (n.number == slot) refl i
-    where
-      first : stale (scalar_object n.number) ≡ false
-      first = not_true (stale (scalar_object n.number))
-          (safe_read k (scalar_object n.number) (nodes_in p.grid set) 11 n.at stale
-          (safe_front k (emit (Read (scalar_object n.number) (nodes_in p.grid set) 11 n.at)) (in_order (emit (Mark (scalar_object n.number) (all_nodes p) 0) ∷ [])) stale
-          (safe_front k (cast (outermost p) set n) (cast_plan names) stale safe)) member)
-        where
-          not_true : (b : Bool) → (b ≡ true → ⊥) → b ≡ false
-          not_true true h = absurd (h refl)
-          not_true false h = refl
-
-      rest : is_in (map (λ n. n.number) names) slot ≡ true → after_one n stale (scalar_object slot) ≡ false
-      rest j = cast_current names (after_one n stale) member (safe_back k (cast (outermost p) set n) (cast_plan names) stale safe (pair_of n) (pair_path n)) slot j
-
-      at_test : (b : Bool) → (n.number == slot) ≡ b → (b || is_in (map (λ n. n.number) names) slot) ≡ true → stale (scalar_object slot) ≡ false
-      at_test true e j = ap (λ m. stale (scalar_object m)) (sym (eqb-true n.number slot e)) ∙ first
-      at_test false e j = sym (one_other n stale (scalar_object slot) (apart n.number slot e)) ∙ rest j
-        where
-          apart : (m n : ℕ) → (m == n) ≡ false → (2 * m == 2 * n) ≡ false
-          apart m n e = ne_eqb (2 * m) (2 * n) (λ f. grind (arith, nat_tests))
+  cast_current (n ∷ names) stale member safe slot i =
+      first_or_rest n stale slot (is_in (map (λ n. n.number) names) slot)
+      (not_true (stale (scalar_object n.number))
+      (safe_read k (scalar_object n.number) (nodes_in p.grid set) 11 n.at stale
+      (safe_front k (emit (Read (scalar_object n.number) (nodes_in p.grid set) 11 n.at)) (in_order (emit (Mark (scalar_object n.number) (all_nodes p) 0) ∷ [])) stale
+      (safe_front k (cast (outermost p) set n) (cast_plan names) stale safe)) member))
+      (λ j. cast_current names (after_one n stale) member (safe_back k (cast (outermost p) set n) (cast_plan names) stale safe (pair_of n) (pair_path n)) slot j)
+      i

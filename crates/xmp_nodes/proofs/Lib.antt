@@ -6,7 +6,11 @@ pub mod Each
 pub mod NodeBits
 pub mod Words
 pub mod Saying
-pub mod CastLaws
+pub mod AllSteps
 pub mod CopiedLaws
-pub mod ReflectLaws
+pub mod CastLaws
 pub mod CastLeaf
+pub mod PackedRows
+pub mod ReflectLaws
+pub mod ReflectCounts
+pub mod ReflectLeaf
