@@ -14,3 +14,4 @@ pub mod PackedRows
 pub mod ReflectLaws
 pub mod ReflectCounts
 pub mod ReflectLeaf
+pub mod InStep
