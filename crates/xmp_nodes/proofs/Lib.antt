@@ -15,3 +15,7 @@ pub mod ReflectLaws
 pub mod ReflectCounts
 pub mod ReflectLeaf
 pub mod InStep
+pub mod PlainParts
+pub mod Stillness
+pub mod NumberLaws
+pub mod MoveStates
