@@ -10,3 +10,4 @@ pub mod CastLaws
 pub mod CopiedLaws
 pub mod ReflectLaws
 pub mod InStep
+pub mod MainSteps
