@@ -11,3 +11,5 @@ pub mod CopiedLaws
 pub mod ReflectLaws
 pub mod InStep
 pub mod MainSteps
+pub mod LoopsInStep
+pub mod CountedInStep
