@@ -6,9 +6,14 @@ pub mod Each
 pub mod NodeBits
 pub mod Words
 pub mod Saying
-pub mod CastLaws
+pub mod AllSteps
 pub mod CopiedLaws
+pub mod CastLaws
+pub mod CastLeaf
+pub mod PackedRows
 pub mod ReflectLaws
+pub mod ReflectCounts
+pub mod ReflectLeaf
 pub mod InStep
 pub mod MainSteps
 pub mod LoopsInStep
