@@ -1,4 +1,5 @@
 pub mod Nodes
+pub mod Lists
 pub mod Casting
 pub mod Rows
 pub mod Reflecting
