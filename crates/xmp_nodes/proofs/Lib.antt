@@ -5,3 +5,11 @@ pub mod MetEvents
 pub mod ReadEvents
 pub mod Readers
 pub mod Subscripts
+pub mod Follow
+pub mod Each
+pub mod NodeBits
+pub mod Words
+pub mod Saying
+pub mod CastLaws
+pub mod CopiedLaws
+pub mod ReflectLaws
