@@ -1,11 +1,12 @@
 pub mod Agrees
 pub mod Standing
 pub mod Leaves
+pub mod Follow
 pub mod MetEvents
 pub mod ReadEvents
 pub mod Readers
 pub mod Subscripts
-pub mod Follow
+pub mod PartSplits
 pub mod Each
 pub mod NodeBits
 pub mod Words

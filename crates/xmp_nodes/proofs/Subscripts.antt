@@ -69,7 +69,13 @@ low_side : (v f c : ℤ) (n x low : ℕ) → pos x ≡ v +ℤ c → int_le (neg_
 low_side v f c n x low e h = grind (arith, ints)
 
 high_side : (v f c : ℤ) (n x high : ℕ) → pos x ≡ v +ℤ c → int_le ((c +ℤ pos n) -ℤ f) (pos high) ≡ true → int_le (pos (x + n)) ((v +ℤ f) +ℤ pos high) ≡ true
-high_side v f c n x high e h = grind (arith, ints)
+high_side v f c n x high e h = subst (λ z. int_le z ((v +ℤ f) +ℤ pos high) ≡ true) (sym (moved v c n x e)) (beside (c +ℤ pos n) v f (pos high) h)
+  where
+    moved : (v c : ℤ) (n x : ℕ) → pos x ≡ v +ℤ c → pos (x + n) ≡ v +ℤ (c +ℤ pos n)
+    moved v c n x e = omega (arith, ints, e)
+
+    beside : (u v f h : ℤ) → int_le (u -ℤ f) h ≡ true → int_le (v +ℤ u) ((v +ℤ f) +ℤ h) ≡ true
+    beside u v f h e = grind (arith, ints)
 
 -- ---- what a subscript's form says of its value
 
@@ -96,6 +102,9 @@ pub record SmallIs (c k : ℤ) : Type 0 where
   pub same : c ≡ k
   pub low : int_le (neg_ℤ (pos 4194304)) k ≡ true
   pub high : int_le k (pos 4194304) ≡ true
+
+same_some : (x y : ℤ) → Some x ≡ Some y → x ≡ y
+same_some x y e = cc
 
 small_is : (c k : ℤ) → small c ≡ Some k → SmallIs c k
 small_is c k e = of_test (int_le (neg_ℤ (pos 4194304)) c && int_le c (pos 4194304)) refl e
@@ -191,7 +200,7 @@ module _ (known : ℕ → Option ℤ) where
               let made : _ = constant_form w (out-Expr b) d in
               let second : (seen known b).value ≡ Some w = ap (λ (w : Seen). w.value) (seen_out b) ∙ made.0 in
               sum_value o ty (Some w) v c x f h q
-              (λ u same. subst (λ z. (int_le (neg_ℤ (pos 4194304)) z ≡ true) × (int_le z (pos 4194304) ≡ true)) (let e : Some w ≡ Some u = same in cc) (made.1, made.2))
+              (λ u same. subst (λ z. (int_le (neg_ℤ (pos 4194304)) z ≡ true) × (int_le z (pos 4194304) ≡ true)) (same_some w u same) (made.1, made.2))
               (subst (λ r. IsKnown (joined_value o ty r (Some w)) (pos x)) first (subst (λ r. IsKnown (joined_value o ty (seen known a).value r) (pos x)) second n))
       at_test false e g = cc
   shifted_form slot v c (Expr-F.Const w ty) x k f h s n = cc
@@ -237,6 +246,9 @@ module _ (known : ℕ → Option ℤ) where
         of_slice None h = h
         of_slice (Some s) h = h
 
+    abbrev offset_by : AlignedDim → ℤ → ℤ → Offset
+    offset_by l g c = record { by = (c +ℤ l.target.offset) -ℤ g; low = l.low; high = l.high }
+
     -- the offset of one dimension
     at_offset : (s : SpreadDim) (l : AlignedDim) (e : Expr) (q : Option Point) (o : Offset) (x : ℕ) → point_for d l.target.dim ≡ q → offset_at l (Some e) q ≡ Some o → test o ≡ true
         → l.target.offset ≡ pos (offset_of l.target.offset) → x ≤ 4194304 → IsKnown (seen known e).value (pos x) → Beside (Some s) l x
@@ -248,15 +260,12 @@ module _ (known : ℕ → Option ℤ) where
         or_beside true b i = refl
         or_beside false b i = i
 
-        abbrev offset_by : ℤ → Offset
-        offset_by c = record { by = (c +ℤ l.target.offset) -ℤ g; low = l.low; high = l.high }
-
-        of_dim : (dim : Option ℕ) → l.target.dim ≡ dim → (z : Option ℤ) → shift_of slot e ≡ z → option_map offset_by z ≡ Some o → Beside (Some s) l x
+        of_dim : (dim : Option ℕ) → l.target.dim ≡ dim → (z : Option ℤ) → shift_of slot e ≡ z → option_map (offset_by l g) z ≡ Some o → Beside (Some s) l x
         of_dim None i z j w = let bad : None ≡ Some (point.Index slot g) = sym (ap (point_for d) i) ∙ at in cc
         of_dim (Some dim) i None j w = cc
         of_dim (Some dim) i (Some c) j w =
             let value : _ = at_index dim slot g (sym (ap (point_for d) i) ∙ at) in
-            let is : offset_by c ≡ o = let u : Some (offset_by c) ≡ Some o = w in cc in
+            let is : offset_by l g c ≡ o = let u : Some (offset_by l g c) ≡ Some o = w in cc in
             let sum : pos x ≡ value.0 +ℤ c = shifted slot value.0 c e x value.1 value.2 h j k in
             let wide_by : _ = wide l ((c +ℤ l.target.offset) -ℤ g) (subst (λ z. test z ≡ true) (sym is) t) in
             let there : position_of here l.target.dim ≡ value.0 +ℤ g = ap (position_of here) i ∙ value.3 in
@@ -294,34 +303,44 @@ module _ (known : ℕ → Option ℤ) where
     abbrev Small : List ℕ → Type 0
     Small ns = list_all (λ n. nat_lt n 4194305) ns ≡ true
 
+    abbrev Passes : List AlignedDim → List ℕ → Type 0
+    Passes ls xs = all_pass (map (λ l. is_beside_on (under ss l.target.dim) (position_of here l.target.dim) (offset_of l.target.offset) (lows l) (highs l)) ls) xs ≡ true
+
+    -- a dimension beyond the subscripts
+    beyond : (l : AlignedDim) (ls : List AlignedDim) (os : List Offset) (z : ℕ) (zs : List ℕ) → (b : Bool) → is_distributed (under ss l.target.dim) ≡ b
+        → (if b then None else offsets_along d ss ls []) ≡ Some os → (offsets_along d ss ls [] ≡ Some os → Passes ls zs) → Passes (l ∷ ls) (z ∷ zs)
+    unfolding all_pass
+    beyond l ls os z zs true e f rest = cc
+    beyond l ls os z zs false e f rest = both_true _ _ (undistributed (under ss l.target.dim) l z e) (rest f)
+
+    -- a dimension with its subscript
+    with_subscript : (l : AlignedDim) (ls : List AlignedDim) (e : Expr) (es : List Expr) (os : List Offset) (x : ℕ) (xs : List ℕ) → (b : Bool) → is_distributed (under ss l.target.dim) ≡ b
+        → (if b then with_offset (offset_at l (Some e) (point_for d l.target.dim)) (offsets_along d ss ls es) else offsets_along d ss ls es) ≡ Some os
+        → list_all test os ≡ true → is_target dims ss l ≡ true → x ≤ 4194304 → IsKnown (seen known e).value (pos x)
+        → ((more : List Offset) → offsets_along d ss ls es ≡ Some more → list_all test more ≡ true → Passes ls xs) → Passes (l ∷ ls) (x ∷ xs)
+    unfolding all_pass
+    with_subscript l ls e es os x xs true i f t fits below k rest =
+        let more : _ = rest_of (offset_at l (Some e) (point_for d l.target.dim)) (offsets_along d ss ls es) os f t in
+        both_true _ _ (one_beside (under ss l.target.dim) l e (offsets_along d ss ls es) os x refl i f t fits below k) (rest more.0 more.1 more.2)
+    with_subscript l ls e es os x xs false i f t fits below k rest = both_true _ _ (undistributed (under ss l.target.dim) l x i) (rest os f t)
+
+    small_one : (x n : ℕ) → x < n → nat_lt n 4194305 ≡ true → x ≤ 4194304
+    small_one x n lt e = let b : n < 4194305 = leb-true (suc n) 4194305 e in omega (arith, lt, b)
+
     pub all_beside : (ls : List AlignedDim) (es : List Expr) (os : List Offset) (ns xs zs : List ℕ) → offsets_along d ss ls es ≡ Some os → list_all test os ≡ true → list_all (is_target dims ss) ls ≡ true
-        → Small ns → MayBe (values es) ns xs → length es ≡ length ns → length ls ≤ length (xs ++ zs)
-        → all_pass (map (λ l. is_beside_on (under ss l.target.dim) (position_of here l.target.dim) (offset_of l.target.offset) (lows l) (highs l)) ls) (xs ++ zs) ≡ true
+        → Small ns → MayBe (values es) ns xs → length es ≡ length ns → length ls ≤ length (xs ++ zs) → Passes ls (xs ++ zs)
     unfolding all_pass
     all_beside [] es os ns xs zs o t fits small may len long = refl
     all_beside (l ∷ ls) [] os ns (x ∷ xs) zs o t fits small may len long = cc
     all_beside (l ∷ ls) [] os ns [] [] o t fits small may len long = absurd (omega (arith, long))
-    all_beside (l ∷ ls) [] os ns [] (z ∷ zs) o t fits small may len long = at_test (is_distributed (under ss l.target.dim)) refl o
-      where
-        at_test : (b : Bool) → is_distributed (under ss l.target.dim) ≡ b → (if b then None else offsets_along d ss ls []) ≡ Some os → _
-        at_test true e f = cc
-        at_test false e f = both_true _ _ (undistributed (under ss l.target.dim) l z e)
-            (all_beside ls [] os ns [] zs f t (and_right (is_target dims ss l) (list_all (is_target dims ss) ls) fits) small may len (let q : length ls ≤ length zs = omega (arith, long) in q))
+    all_beside (l ∷ ls) [] os ns [] (z ∷ zs) o t fits small may len long =
+        beyond l ls os z zs (is_distributed (under ss l.target.dim)) refl o
+        (λ f. all_beside ls [] os ns [] zs f t (and_right (is_target dims ss l) (list_all (is_target dims ss) ls) fits) small may len (let q : length ls ≤ length zs = omega (arith, long) in q))
     all_beside (l ∷ ls) (e ∷ es) os [] xs zs o t fits small may len long = absurd (omega (arith, len))
     all_beside (l ∷ ls) (e ∷ es) os (n ∷ ns) [] zs o t fits small may len long = absurd may
-    all_beside (l ∷ ls) (e ∷ es) os (n ∷ ns) (x ∷ xs) zs o t fits small may len long = at_test (is_distributed (under ss l.target.dim)) refl o
-      where
-        below : x ≤ 4194304
-        below = let a : x < n = may.0 in let b : (n < 4194305) = leb-true (suc n) 4194305 (and_left (nat_lt n 4194305) _ small) in omega (arith, a, b)
-
-        at_test : (b : Bool) → is_distributed (under ss l.target.dim) ≡ b
-            → (if b then with_offset (offset_at l (Some e) (point_for d l.target.dim)) (offsets_along d ss ls es) else offsets_along d ss ls es) ≡ Some os → _
-        at_test true i f =
-            let more : _ = rest_of (offset_at l (Some e) (point_for d l.target.dim)) (offsets_along d ss ls es) os f t in
-            both_true _ _
-            (one_beside (under ss l.target.dim) l e (offsets_along d ss ls es) os x refl i f t (and_left (is_target dims ss l) (list_all (is_target dims ss) ls) fits) below may.1)
-            (all_beside ls es more.0 ns xs zs more.1 more.2 (and_right (is_target dims ss l) (list_all (is_target dims ss) ls) fits) (and_right (nat_lt n 4194305) _ small) may.2
-            (let q : length es ≡ length ns = omega (arith, len) in q) (let q : length ls ≤ length (xs ++ zs) = omega (arith, long) in q))
-        at_test false i f = both_true _ _ (undistributed (under ss l.target.dim) l x i)
-            (all_beside ls es os ns xs zs f t (and_right (is_target dims ss l) (list_all (is_target dims ss) ls) fits) (and_right (nat_lt n 4194305) _ small) may.2
-            (let q : length es ≡ length ns = omega (arith, len) in q) (let q : length ls ≤ length (xs ++ zs) = omega (arith, long) in q))
+    all_beside (l ∷ ls) (e ∷ es) os (n ∷ ns) (x ∷ xs) zs o t fits small may len long =
+        with_subscript l ls e es os x (xs ++ zs) (is_distributed (under ss l.target.dim)) refl o t (and_left (is_target dims ss l) (list_all (is_target dims ss) ls) fits)
+        (small_one x n may.0 (and_left (nat_lt n 4194305) (list_all (λ n. nat_lt n 4194305) ns) small)) may.1
+        (λ more f u. all_beside ls es more ns xs zs f u (and_right (is_target dims ss l) (list_all (is_target dims ss) ls) fits)
+        (and_right (nat_lt n 4194305) (list_all (λ n. nat_lt n 4194305) ns) small) may.2
+        (let q : length es ≡ length ns = omega (arith, len) in q) (let q : length ls ≤ length (xs ++ zs) = omega (arith, long) in q))
