@@ -15,3 +15,5 @@ pub mod CastLaws
 pub mod CopiedLaws
 pub mod ReflectLaws
 pub mod InStep
+pub mod SameRuns
+pub mod ReadsMark

@@ -215,18 +215,18 @@ ifs_fit p e x y f =
 pub whiles_fit : WhilesFit
 whiles_fit p e body at f =
     let parts : _ = head_fits p _ (statements_of body) (walk_of p (stmt.While e body at) _ (at_while Walked WalkedTask walk_step walk_task e body at) f) in
-    record { test = parts.0.terms; body = of_list p body parts.1 }
+    record { test = parts.0.terms; inner = of_list p body parts.1 }
 
 pub counteds_fit : CountedsFit
 counteds_fit p head body f =
     let parts : _ = head_fits p (Stmt-F.Counted head (writes_of body)) (statements_of body) (walk_of p (stmt.Counted head body) _ (at_counted Walked WalkedTask walk_step walk_task head body) f) in
     let terms : _ = all_apart (TermStands p) (terms_of p head.from) (terms_of p head.to) parts.0.terms in
-    record { from = terms.0; to = terms.1; index = parts.0.slots.0; counted = parts.0.stands.counted; body = of_list p body parts.1 }
+    record { from = terms.0; to = terms.1; index = parts.0.slots.0; counted = parts.0.stands.counted; inner = of_list p body parts.1 }
 
 pub loops_fit : LoopsFit
 loops_fit p d body f =
     let parts : _ = head_fits p (Stmt-F.Loop d (writes_of body)) (statements_of body) (walk_of p (stmt.Loop d body) _ (at_loop Walked WalkedTask walk_step walk_task d body) f) in
-    record { step = parts.0; body = of_list p body parts.1 }
+    record { step = parts.0; inner = of_list p body parts.1 }
 
 pub all_tasks_fit : AllTasksFit
 all_tasks_fit p all at f =
