@@ -2,6 +2,11 @@ pub mod Agrees
 pub mod Standing
 pub mod Leaves
 pub mod Follow
+pub mod MetEvents
+pub mod ReadEvents
+pub mod Readers
+pub mod Subscripts
+pub mod PartSplits
 pub mod Each
 pub mod NodeBits
 pub mod Words
@@ -18,3 +23,5 @@ pub mod InStep
 pub mod MainSteps
 pub mod LoopsInStep
 pub mod CountedInStep
+pub mod SameRuns
+pub mod ReadsMark
