@@ -1,6 +1,6 @@
 -- What it means that a node's run follows the serial run, along a plan; that a node outside a task is left as it was;
 -- and that all nodes in step follow the run that notes each exchange.
-use Rattle.std.specs.Prelude.{◌≡◌, ◌≢◌, ◌<◌, ◌++◌, ℕ, zero, suc, ℤ, Bool, true, false, IsTrue, List, [], ◌∷◌, length, map, slice_get, unwrap_or, Option, Some, None}
+use Rattle.std.specs.Prelude.{◌≡◌, ◌≢◌, ◌<◌, ◌++◌, ℕ, zero, suc, ℤ, pos, Bool, true, false, IsTrue, List, [], ◌∷◌, length, map, slice_get, unwrap_or, Option, Some, None}
 use Rattle.std.specs.List.{AllByRecursion}
 use Rattle.xmp_num.specs.declared.types.Ty.{Ty}
 use Rattle.xmp_num.specs.declared.types.RedOp.{RedOp}
@@ -42,11 +42,13 @@ use Rattle.xmp_nodes.specs.Worlds.{out_of}
 
 -- ---- where a node's run stands
 
--- The program, the node, what was printed before the node's own text where that is known, and the setting.
+-- The program, the node, what was printed before the node's own text where that is known, what the other nodes have of
+-- each reduction variable, and the setting.
 pub record Stand : Type 0 where
   pub program : ProgParts
   pub node : ℕ
   pub base : Option (List ℕ)
+  pub rest : ℕ → ℤ
   pub set : Setting
 
 -- ---- two states
@@ -57,15 +59,21 @@ pub record IsWhole (p : ProgParts) (s : State Notes) : Type 0 where
   pub rows : map length s.arrays ≡ map (row_length Whole p) p.arrays
   pub values : ValuesLie Notes p s
 
+-- a value is what others have, combined with one's own; all lie in the type
+pub record IsSum (op : RedOp) (ty : Ty) (others all own : ℤ) : Type 0 where
+  pub fits : FitsType ty others
+  pub whole : all ≡ combine_of op ty others own
+
 -- The node has the serial value of each scalar and each copy that isn't out of date, of the indices of a loop directive
 -- round it, and of each cell that it owns; of a cell that it holds otherwise it has the value of the last reflect, which
--- is the serial one while the shadow is current.
+-- is the serial one while the shadow is current; with what the others have a reduction variable is the serial one.
 pub record Agrees (a : Stand) (stale : ℕ → Bool) (s : State Notes) (n : State (Unit {0})) : Type 0 where
   pub whole : IsWhole a.program s
   pub packed : IsNodeState a.program a.node n
   pub typed : (slot : ℕ) → FitsType (scalar_type a.program slot) (scalar_in n slot)
   pub scalars : (slot : ℕ) → is_reduced (a.set.roles slot) ≡ false → stale (scalar_object slot) ≡ false → scalar_in n slot ≡ scalar_in s slot
   pub indices : (slot : ℕ) → a.set.roles slot ≡ Index → scalar_in n slot ≡ scalar_in s slot
+  pub sums : (slot : ℕ) (op : RedOp) → a.set.roles slot ≡ Reduced op → IsSum op (scalar_type a.program slot) (a.rest slot) (scalar_in s slot) (scalar_in n slot)
   pub copies : (array : ℕ) → home_of a.program array ≡ home.Copy → stale (array_object array) ≡ false → row_in n.arrays array ≡ row_in s.arrays array
   pub owned : (array t : ℕ) (m : ArrayMap) → home_of a.program array ≡ home.Spread t m
       → Shows (extents a.program array) (owns_cell (home.Spread t m) a.node) (position (home.Spread t m) (extents a.program array) a.node)
@@ -106,18 +114,6 @@ pub record Framed (a : Stand) (s t : State Notes) : Type 0 where
   pub steps : a.set.inside ≡ true → t.steps ≡ s.steps
   pub turn : (d : LoopDirective) → a.set.over ≡ Some d → TurnLeaves a s t
 
--- ---- reduction variables
-
--- both runs combine the variable with one value of its type
-pub record SumUp (op : RedOp) (ty : Ty) (slot : ℕ) (s t : State Notes) (n m : State (Unit {0})) : Type 0 where
-  pub more : ℤ
-  pub fits : FitsType ty more
-  pub serial : scalar_in t slot ≡ combine_of op ty (scalar_in s slot) more
-  pub own : scalar_in m slot ≡ combine_of op ty (scalar_in n slot) more
-
-abbrev pub SumsUp : Stand → (s t : State Notes) → (n m : State (Unit {0})) → Type 0
-SumsUp a s t n m = (slot : ℕ) (op : RedOp) → a.set.roles slot ≡ Reduced op → SumUp op (scalar_type a.program slot) slot s t n m
-
 -- ---- a node follows
 
 -- both give one value, of which something is said, and agree along some way through the plan
@@ -129,7 +125,6 @@ pub record GoesOn {A : Type 0} (a : Stand) (V : A → Type 0) (plan : Plan Event
   pub path : Path plan way
   pub agrees : Agrees a (left a.node way stale) t m
   pub framed : Framed a s t
-  pub sums : SumsUp a s t n m
 
 -- both come to one end, with one text
 pub record EndsSo (a : Stand) (e : End) (t : State Notes) (f : End) (m : State (Unit {0})) : Type 0 where
@@ -156,12 +151,13 @@ IsNext flow = flow ≡ Next
 
 -- ---- a node outside
 
--- the serial run leaves what the node, which does nothing, agrees on
+-- the serial run leaves what the node, which does nothing, agrees on; nothing becomes current there
 pub record StandsStill {A : Type 0} (a : Stand) (V : A → Type 0) (plan : Plan Event) (stale : ℕ → Bool) (s : State Notes) (n : State (Unit {0}))
     (v : A) (t : State Notes) : Type 0 where
   pub value : V v
   pub way : List Event
   pub path : Path plan way
+  pub kept : (object : ℕ) → stale object ≡ true → left a.node way stale object ≡ true
   pub agrees : Agrees a (left a.node way stale) t n
   pub framed : Framed a s t
 
@@ -181,7 +177,7 @@ base_at (suc k) = None
 
 -- a node at the body of main
 abbrev pub at_main : ProgParts → (node : ℕ) → Stand
-at_main p node = record { program = p; node = node; base = base_at node; set = outermost p }
+at_main p node = record { program = p; node = node; base = base_at node; rest = λ slot. pos 0; set = outermost p }
 
 -- a node agrees, and the plan is safe there from what it has out of date
 pub record ReadyAt (p : ProgParts) (node : ℕ) (plan : Plan Event) (s : State Notes) (n : State (Unit {0})) : Type 0 where

@@ -20,7 +20,7 @@ use Rattle.xmp_prog.specs.Counted.{is_counted}
 use Rattle.xmp_prog.specs.Terms.{terms_of, type_of}
 use Rattle.xmp_prog.specs.Tests.{is_return}
 use Rattle.xmp_prog.specs.Fits.{node_count}
-use Rattle.xmp_prog.specs.Statements.{terms_of_head, writes_of}
+use Rattle.xmp_prog.specs.Statements.{Statement, terms_in, slots_in, writes_of}
 use Rattle.xmp_paths.specs.declared.event.Event.{Event}
 use Rattle.xmp_paths.specs.NodeSets.{has}
 use Rattle.xmp_paths.specs.Plans.{Plan, Path, in_order}
@@ -51,7 +51,7 @@ use Rattle.xmp_nodes.specs.Parts.{loop_all}
 use Rattle.xmp_nodes.specs.Tasks.{TaskOf, tasks_all}
 use Rattle.xmp_nodes.specs.Lockstep.{lockstep}
 use Rattle.xmp_nodes.proofs.Agrees.{Stand, Carried, Skipped, AllFollow, IsNext, Anything}
-use Rattle.xmp_nodes.proofs.Standing.{IsGlobal, TermStands, PartFits, NoReturn, IsSetting, WritesFit}
+use Rattle.xmp_nodes.proofs.Standing.{IsGlobal, TermStands, StatementStands, PartFits, NoReturn, IsSetting, WritesFit}
 
 -- the serial run that notes, and a node's run
 abbrev pub serial_cx : ProgParts → (input : List ℕ) → Context
@@ -93,11 +93,28 @@ pub record CountedFits (p : ProgParts) (head : LoopHead) (body : Stmt) : Type 0 
 abbrev pub CountedsFit : Type 0
 CountedsFit = (p : ProgParts) (head : LoopHead) (body : Stmt) → PartFits p (stmt.Counted head body) → CountedFits p head body
 
-abbrev pub LoopBodiesFit : Type 0
-LoopBodiesFit = (p : ProgParts) (d : LoopDirective) (body : Stmt) → PartFits p (stmt.Loop d body) → PartFits p body
+-- a statement itself, the statements in it apart
+pub record StepFits (p : ProgParts) (y : Statement) : Type 0 where
+  pub terms : AllByRecursion (TermStands p) (terms_in p y)
+  pub stands : StatementStands p y
+  pub slots : AllByRecursion (λ n. n < length p.scalars) (slots_in p y)
 
-abbrev pub TaskBodiesFit : Type 0
-TaskBodiesFit = (p : ProgParts) (all : List Task) (at : Place) → PartFits p (stmt.Tasks all at) → AllByRecursion (λ t. PartFits p t.body) all
+abbrev pub PlainFits : Type 0
+PlainFits = (p : ProgParts) (q : Plain) → PartFits p (stmt.Plain q) → StepFits p (Stmt-F.Plain q)
+
+pub record LoopFits (p : ProgParts) (d : LoopDirective) (body : Stmt) : Type 0 where
+  pub step : StepFits p (Stmt-F.Loop d (writes_of body))
+  pub body : PartFits p body
+
+abbrev pub LoopsFit : Type 0
+LoopsFit = (p : ProgParts) (d : LoopDirective) (body : Stmt) → PartFits p (stmt.Loop d body) → LoopFits p d body
+
+pub record TasksFit (p : ProgParts) (all : List Task) (at : Place) : Type 0 where
+  pub step : StepFits p (Stmt-F.Tasks (map (λ t. t.nodes) all) at)
+  pub bodies : AllByRecursion (λ t. PartFits p t.body) all
+
+abbrev pub AllTasksFit : Type 0
+AllTasksFit = (p : ProgParts) (all : List Task) (at : Place) → PartFits p (stmt.Tasks all at) → TasksFit p all at
 
 -- a node's own run of a statement is the erased one over its packed store
 abbrev pub AloneIsErased : Type 0

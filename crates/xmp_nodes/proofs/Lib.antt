@@ -1,3 +1,11 @@
 pub mod Agrees
 pub mod Standing
 pub mod Leaves
+pub mod Follow
+pub mod Each
+pub mod NodeBits
+pub mod Words
+pub mod Saying
+pub mod CastLaws
+pub mod CopiedLaws
+pub mod ReflectLaws
