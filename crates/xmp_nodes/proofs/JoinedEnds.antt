@@ -35,11 +35,12 @@ pub comes_one_way : (a b : List ℤ) → comes_before a b ≡ true → comes_bef
 comes_one_way [] [] h = refl
 comes_one_way [] (b ∷ bs) h = refl
 comes_one_way (a ∷ vs) [] h = refl
-comes_one_way (a ∷ vs) (b ∷ bs) h = at_test (int_eq a b) refl h
+comes_one_way (a ∷ vs) (b ∷ bs) h = at_test (comes_one_way vs bs) (int_eq a b) refl h
   where
-    at_test : (c : Bool) → int_eq a b ≡ c → (if c then comes_before vs bs else int_lt a b) ≡ true → comes_before (b ∷ bs) (a ∷ vs) ≡ false
-    at_test true e f = ap (λ c. if c then comes_before bs vs else int_lt b a) (equal_back a b true e) ∙ comes_one_way vs bs f
-    at_test false e f = ap (λ c. if c then comes_before bs vs else int_lt b a) (equal_back a b false e) ∙ less_one_way a b (int_lt b a) refl f
+    at_test : (comes_before vs bs ≡ true → comes_before bs vs ≡ false) → (c : Bool) → int_eq a b ≡ c → (if c then comes_before vs bs else int_lt a b) ≡ true
+        → comes_before (b ∷ bs) (a ∷ vs) ≡ false
+    at_test rest true e f = ap (λ c. if c then comes_before bs vs else int_lt b a) (equal_back a b true e) ∙ rest f
+    at_test rest false e f = ap (λ c. if c then comes_before bs vs else int_lt b a) (equal_back a b false e) ∙ less_one_way a b (int_lt b a) refl f
 
 -- ---- two ends
 
@@ -86,7 +87,7 @@ module _ (p : ProgParts) (rs : List Reduction) where
       ∙ joined_from e n (suc i) ∙ ap (joined_first e) (let q : suc i + n ≡ i + suc n = omega arith in q)
 
   pub all_are_joined : (e : ℕ → PartEnd) (n : ℕ) → all_joined p rs (no_turn p rs) (map e (range_with_len 0 n)) ≡ joined_first e n
-  all_are_joined e n = joined_from e n 0
+  all_are_joined e n = joined_from e n 0 ∙ ap (joined_first e) (let q : 0 + n ≡ n = omega arith in q)
 
   -- the end that comes first is that of all
   module _ (e : ℕ → PartEnd) (count node : ℕ) (end : End) (fell : (e node).ended ≡ Some end)

@@ -8,6 +8,7 @@ use Rattle.xmp_paths.specs.Plans.{Plan, emit, sequence, branch, loop, in_order, 
 use Rattle.xmp_paths.specs.Safe.{NothingWrong}
 use Rattle.xmp_paths.specs.declared.event.Event.{Event}
 use Rattle.xmp_paths.specs.declared.event.Event.TheVariants.{Wrong}
+use Rattle.xmp_map.specs.declared.grid.NodeSet.{NodeSet}
 use Rattle.xmp_prog.specs.declared.expressions.Access.{Access}
 use Rattle.xmp_prog.specs.declared.expressions.Expr.{Expr}
 use Rattle.xmp_prog.specs.declared.expressions.Expr.TheFolds.{fold-roll-Access}
@@ -25,7 +26,7 @@ use Rattle.xmp_prog.specs.declared.statements.Task.{Task, map-Task}
 use Rattle.xmp_prog.specs.declared.statements.Stmt.TheOpen.{Stmt-F, Task-F}
 use Rattle.xmp_prog.specs.declared.statements.Stmt.TheFolds.{ind-Stmt, fold-Task, fold-roll-Stmt}
 use Rattle.xmp_prog.specs.declared.statements.Stmt.TheViews.{roll-Stmt, roll-Task, roll-out-Stmt}
-use Rattle.xmp_prog.specs.Statements.{Statement, Walked, WalkedTask, walk_step, walk_task, walked, statements_of, terms_in}
+use Rattle.xmp_prog.specs.Statements.{Statement, Walked, WalkedTask, statement_of, statements_below, walk_step, walk_task, walked, statements_of, terms_in}
 use Rattle.xmp_prog.specs.Terms.{Typed, typed_step, access_step, terms_of, terms_of_access}
 use Rattle.xmp_prog.specs.Tests.{subscripts_fit, element_fits}
 use Rattle.xmp_meaning.specs.Declarations.{home_of_array, home_of}
@@ -108,7 +109,7 @@ module _ (set : Setting) (d : LoopDirective) (over : set.over ≡ Some d) (insid
       (record { array = a.array; subscripts = a.subscripts; image = a.image; at = a.at }))) t in
       written_fits a.array a.subscripts a.at (slice_get set.program.arrays a.array) _ refl first.0.element n c
 
-  set_facts : (to : Target) (c : Option Compound) (value : Expr) → AllByRecursion (TermStands set.program) (terms_in {List ℕ} {_} set.program (Stmt-F.Plain (plain.Set to c value)))
+  set_facts : (to : Target) (c : Option Compound) (value : Expr) → AllByRecursion (TermStands set.program) (terms_in {A = List ℕ} {B = NodeSet} set.program (Stmt-F.Plain (plain.Set to c value)))
       → NothingWrong (assignment_events set c value to) → AllByRecursion IsNoCopy (target_arrays to)
   set_facts (target.Scalar slot at) c value t n = tt
   set_facts (target.Cell a) c value t n = (
@@ -122,7 +123,7 @@ module _ (set : Setting) (d : LoopDirective) (over : set.over ≡ Some d) (insid
       last_of [] m = nothing_in (old_element set a c ∷ reads_of value set ∷ []) (element_write set a.array a.subscripts a.at) [] m
       last_of (r ∷ reads) m = last_of reads (λ rule at s. m rule at (inr s))
 
-  plain_facts : (q : Plain) → AllByRecursion (TermStands set.program) (terms_in {List ℕ} {_} set.program (Stmt-F.Plain q)) → NothingWrong (plain_events q set)
+  plain_facts : (q : Plain) → AllByRecursion (TermStands set.program) (terms_in {A = List ℕ} {B = NodeSet} set.program (Stmt-F.Plain q)) → NothingWrong (plain_events q set)
       → BodyFacts (Stmt-F.Plain q ∷ []) (plain_arrays q)
   plain_facts (plain.Declare slot value at) t n = alone _ refl
   plain_facts (plain.Set to c value) t n = record { prints = (refl, tt); copies = set_facts to c value t n }
@@ -134,7 +135,7 @@ module _ (set : Setting) (d : LoopDirective) (over : set.over ≡ Some d) (insid
   plain_facts (plain.Reflect arrays at) t n = alone _ refl
   plain_facts (plain.Barrier at) t n = alone _ refl
   plain_facts (plain.Cast variables from at) t n = alone _ refl
-  plain_facts (plain.Gmove to from at) t n = wrong_inside at (nothing_in [] (wrong_where set.inside 10 at) _ n)
+  plain_facts (plain.Gmove to from at) t n = wrong_inside at (λ rule at s. n rule at (inl s))
 
   -- ---- all statements
 
@@ -235,6 +236,9 @@ module _ (set : Setting) (d : LoopDirective) (over : set.over ≡ Some d) (insid
     abbrev of_events : Stmt-F C D → Plan Event
     of_events y = events_in (map-Stmt Stmt Task Told ToldTask told told_task (mapped y)) set
 
+    abbrev walked_form : Stmt-F C D → Stmt-F Walked WalkedTask
+    walked_form y = map-Stmt Stmt Task Walked WalkedTask walked walked_task (mapped y)
+
     abbrev AllStand : List Statement → Type 0
     AllStand ys = AllByRecursion (TermStands set.program) (flat_map (terms_in set.program) ys)
 
@@ -245,8 +249,11 @@ module _ (set : Setting) (d : LoopDirective) (over : set.over ≡ Some d) (insid
         let rest : _ = stand_apart ys zs first.1 in
         (all_together (TermStands set.program) (terms_in set.program y) (flat_map (terms_in set.program) ys) first.0 rest.0, rest.1)
 
-    behind_first : (y : Statement) (ys : List Statement) → AllStand (y ∷ ys) → AllStand ys
-    behind_first y ys h = (all_apart (TermStands set.program) (terms_in set.program y) (flat_map (terms_in set.program) ys) h).1
+    behind_first : (y : Stmt-F C D) → AllStand (of_walk y) → AllStand (statements_below (walked_form y))
+    behind_first y h = (all_apart (TermStands set.program) (terms_in set.program (statement_of (walked_form y))) (flat_map (terms_in set.program) (statements_below (walked_form y))) h).1
+
+    with_it : (y : Stmt-F C D) (xs : List ℕ) → is_no_print (statement_of (walked_form y)) ≡ true → BodyFacts (statements_below (walked_form y)) xs → BodyFacts (of_walk y) xs
+    with_it y xs e f = with_first (statement_of (walked_form y)) (statements_below (walked_form y)) xs e f
 
     block_facts : (cs : List C) → AllStand (flat_map (λ s. s.statements) (map walked (map p cs))) → NothingWrong (in_order (map (λ t. t.events set) (map told (map p cs))))
         → BodyFacts (flat_map (λ s. s.statements) (map walked (map p cs))) (concat (map arrays_written (map p cs)))
@@ -257,25 +264,25 @@ module _ (set : Setting) (d : LoopDirective) (over : set.over ≡ Some d) (insid
         (j c both.0 (λ rule at s. n rule at (inl s))) (block_facts cs both.1 (λ rule at s. n rule at (inr s)))
 
     facts_of_step : (y : Stmt-F C D) → AllStand (of_walk y) → NothingWrong (of_events y) → BodyFacts (of_walk y) (of_arrays y)
-    facts_of_step (Stmt-F.Plain s) t n = plain_facts s (all_apart (TermStands set.program) (terms_in {List ℕ} {_} set.program (Stmt-F.Plain s)) [] t).0 n
-    facts_of_step (Stmt-F.Block all) t n = with_first _ _ _ refl (block_facts all (behind_first _ _ t) n)
+    facts_of_step (Stmt-F.Plain s) t n = plain_facts s (all_apart (TermStands set.program) (terms_in {A = List ℕ} {B = NodeSet} set.program (Stmt-F.Plain s)) [] t).0 n
+    facts_of_step (Stmt-F.Block all) t n =
+        with_it (Stmt-F.Block all) (of_arrays (Stmt-F.Block all)) refl (block_facts all (behind_first (Stmt-F.Block all) t) n)
     facts_of_step (Stmt-F.If test a b) t n =
-        let terms : _ = stand_apart (statements_of (p a)) (statements_of (p b)) (behind_first _ _ t) in
+        let terms : _ = stand_apart (statements_of (p a)) (statements_of (p b)) (behind_first (Stmt-F.If test a b) t) in
         let told_so : NothingWrong (in_form set (in_order (reads_of test set ∷ branch (events_of (p a) set) (events_of (p b) set) ∷ [])) (if_form set test (p a) (p b))) =
         subst (λ z. NothingWrong (in_form set (in_order (reads_of test set ∷ branch (events_of (p a) set) (events_of (p b) set) ∷ [])) (if_form set test (p a) z))) (statement-told (p b))
         (subst (λ z. NothingWrong (in_form set (in_order (reads_of test set ∷ branch (events_of (p a) set) (events_of (p b) set) ∷ [])) (if_form set test z (told (p b)).statement))) (statement-told (p a)) n) in
         let both : _ = branch_facts test (p a) (p b) (if_form set test (p a) (p b)) refl told_so (j a terms.0) (j b terms.1) in
-        with_first _ _ _ refl (both_facts (statements_of (p a)) (statements_of (p b)) (arrays_written (p a)) (arrays_written (p b)) both.0 both.1)
+        with_it (Stmt-F.If test a b) (of_arrays (Stmt-F.If test a b)) refl
+        (both_facts (statements_of (p a)) (statements_of (p b)) (arrays_written (p a)) (arrays_written (p b)) both.0 both.1)
     facts_of_step (Stmt-F.While test body at) t n =
-        with_first _ _ _ refl (j body (behind_first _ _ t)
-        (nothing_in (reads_of test set ∷ []) (events_of (p body) set) []
-        (nothing_in (wrong_where set.inside 9 at ∷ []) (loop (in_order (reads_of test set ∷ events_of (p body) set ∷ []))) (reads_of test set ∷ []) n)))
+        with_it (Stmt-F.While test body at) (of_arrays (Stmt-F.While test body at)) refl (j body (behind_first (Stmt-F.While test body at) t)
+        (λ rule place s. n rule place (inr (inl (inr (inl s))))))
     facts_of_step (Stmt-F.Counted head body) t n =
-        with_first _ _ _ refl (j body (behind_first _ _ t)
-        (nothing_in (reads_of head.to set ∷ []) (events_of (p body) set) _
-        (nothing_in (_ ∷ reads_of head.from set ∷ _ ∷ []) (loop _) (reads_of head.to set ∷ []) n)))
-    facts_of_step (Stmt-F.Loop directive body) t n = wrong_inside directive.at (nothing_in [] (wrong_where set.inside 10 directive.at) _ n)
-    facts_of_step (Stmt-F.Tasks all at) t n = wrong_inside at (nothing_in [] (wrong_where set.inside 10 at) _ n)
+        with_it (Stmt-F.Counted head body) (of_arrays (Stmt-F.Counted head body)) refl (j body (behind_first (Stmt-F.Counted head body) t)
+        (λ rule place s. n rule place (inr (inr (inr (inl (inr (inl s))))))))
+    facts_of_step (Stmt-F.Loop directive body) t n = wrong_inside directive.at (λ rule at s. n rule at (inl s))
+    facts_of_step (Stmt-F.Tasks all at) t n = wrong_inside at (λ rule at s. n rule at (inl s))
 
   rolled : {w w' : Walked} {u u' : List ℕ} {v v' : Told} → w ≡ w' → u ≡ u' → v ≡ v'
       → (AllByRecursion (TermStands set.program) (flat_map (terms_in set.program) w'.statements) → NothingWrong (v'.events set) → BodyFacts w'.statements u')

@@ -93,21 +93,22 @@ module _ {X : Type 0} (slots : List ℕ) (apart_all : Apart slots) (body : Run X
       → (s : State X) → Exists s slots → IsLater slots first (for_each slots ts body s)
   later first [] c l s there = tt
   later first (vs ∷ ts) c l s there =
-      at_step (body (at_tuple slots vs s)) (stays.goes (at_tuple slots vs s)) (indices_after vs s l.0 there) (there_after vs s there)
+      at_step (later first ts c.1 l.1) (body (at_tuple slots vs s)) (stays.goes (at_tuple slots vs s)) (indices_after vs s l.0 there) (there_after vs s there)
     where
-      at_step : (r : Step X Flow) → GoesOn r → values_of (state_of r) slots ≡ vs → Exists (state_of r) slots
+      at_step : ((u : State X) → Exists u slots → IsLater slots first (for_each slots ts body u))
+          → (r : Step X Flow) → GoesOn r → values_of (state_of r) slots ≡ vs → Exists (state_of r) slots
           → IsLater slots first (and_then r (λ flow. after flow (for_each slots ts body)))
-      at_step (Gave Next u) g i e = later first ts c.1 l.1 u e
-      at_step (Gave (Returned v) u) g i e = absurd g
-      at_step (Ended end u) g i e = subst (λ ws. comes_before first ws ≡ true) (sym i) c.0
+      at_step rest (Gave Next u) g i e = rest u e
+      at_step rest (Gave (Returned v) u) g i e = absurd g
+      at_step rest (Ended end u) g i e = subst (λ ws. comes_before first ws ≡ true) (sym i) c.0
 
 all_filtered : {A : Type 0} (P : A → Type 0) (test : A → Bool) (xs : List A) → AllByRecursion P xs → AllByRecursion P (filter test xs)
 all_filtered P test [] h = tt
-all_filtered P test (x ∷ xs) h = at_test (test x)
+all_filtered P test (x ∷ xs) h = at_test (all_filtered P test xs h.1) (test x)
   where
-    at_test : (b : Bool) → AllByRecursion P (cond b (x ∷ filter test xs) (filter test xs))
-    at_test true = (h.0, all_filtered P test xs h.1)
-    at_test false = all_filtered P test xs h.1
+    at_test : AllByRecursion P (filter test xs) → (b : Bool) → AllByRecursion P (cond b (x ∷ filter test xs) (filter test xs))
+    at_test rest true = (h.0, rest)
+    at_test rest false = rest
 
 -- ---- all parts
 
@@ -190,7 +191,7 @@ module _ (slots : List ℕ) (count : ℕ) (f : Run Notes Flow) (g : ℕ → Run 
         → Sides (for_each slots ts f s) (λ k. part k ts (m k))
     sides [] l rise s m i = record { states = m; gave = λ k b. refl; holds = i }
     sides (vs ∷ ts) l rise s m i =
-        at_turn (f (at_tuple slots vs s)) (g own.node (at_tuple slots vs (m own.node))) refl (turn vs l.0 ts s m i)
+        at_turn (sides ts l.1 (and_right (list_all (comes_before vs) ts) (pairwise comes_before ts) rise)) (f (at_tuple slots vs s)) (g own.node (at_tuple slots vs (m own.node))) refl (turn vs l.0 ts s m i)
       where
         own : Owner count owns vs
         own = owner vs l.0
@@ -210,16 +211,17 @@ module _ (slots : List ℕ) (count : ℕ) (f : Run Notes Flow) (g : ℕ → Run 
                 let ne : k ≢ own.node = λ same. true≢false (sym (eq-eqb k own.node same) ∙ other) in
                 ap (part k ts) (with_state_else own.node u m k ne) ∙ sym (part_other k vs ts (m k) (own.alone k b ne))
 
-        at_turn : (r : Step Notes Flow) (q : Step (Unit {0}) Flow) → g own.node (at_tuple slots vs (m own.node)) ≡ q → Turn ts own.node m r q
+        at_turn : ((t : State Notes) (n : ℕ → State (Unit {0})) → I ts t n → Sides (for_each slots ts f t) (λ k. part k ts (n k)))
+            → (r : Step Notes Flow) (q : Step (Unit {0}) Flow) → g own.node (at_tuple slots vs (m own.node)) ≡ q → Turn ts own.node m r q
             → Sides (and_then r (λ flow. after flow (for_each slots ts f))) (λ k. part k (vs ∷ ts) (m k))
-        at_turn (Gave Next t) (Gave Next u) e h =
+        at_turn rest (Gave Next t) (Gave Next u) e h =
             sides_same (for_each slots ts f t) (λ k. part k ts (with_state own.node u m k)) (λ k. part k (vs ∷ ts) (m k)) (this u e)
-            (sides ts l.1 (and_right (list_all (comes_before vs) ts) (pairwise comes_before ts) rise) t (with_state own.node u m) h)
-        at_turn (Gave Next t) (Gave (Returned v) u) e h = absurd h
-        at_turn (Gave Next t) (Ended z u) e h = absurd h
-        at_turn (Gave (Returned v) t) q e h = absurd h
-        at_turn (Ended z t) (Gave v u) e h = absurd h
-        at_turn (Ended z t) (Ended y u) e h =
+            (rest t (with_state own.node u m) h)
+        at_turn rest (Gave Next t) (Gave (Returned v) u) e h = absurd h
+        at_turn rest (Gave Next t) (Ended z u) e h = absurd h
+        at_turn rest (Gave (Returned v) t) q e h = absurd h
+        at_turn rest (Ended z t) (Gave v u) e h = absurd h
+        at_turn rest (Ended z t) (Ended y u) e h =
             let indices : values_of u slots ≡ vs =
             subst (λ (r : Step (Unit {0}) Flow). values_of (state_of r) slots ≡ vs) e
             (indices_after slots apart_all (g own.node) (stays own.node own.below) vs (m own.node) l.0 (there (vs ∷ ts) s m i own.node own.below)) in record {
