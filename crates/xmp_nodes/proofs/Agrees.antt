@@ -186,12 +186,12 @@ pub record ReadyAt (p : ProgParts) (node : ℕ) (plan : Plan Event) (s : State N
   pub agrees : Agrees (at_main p node) stale s n
 
 -- the nodes' counts are those of the notes
-pub record Counted (p : ProgParts) (notes : Notes) (turns : List ℕ) (rows : List (List ℕ)) : Type 0 where
-  pub many : length turns ≡ node_count p
-  pub turns : turns ≡ notes.turns
-  pub rows : length rows ≡ node_count p
-  pub row : (from : ℕ) (row : List ℕ) → slice_get rows from ≡ Some row → length row ≡ node_count p
-  pub sent : (from to n : ℕ) (row : List ℕ) → slice_get rows from ≡ Some row → slice_get row to ≡ Some n → n ≡ sent p notes.exchanges from to
+pub record Counted (p : ProgParts) (notes : Notes) (made : List ℕ) (lines : List (List ℕ)) : Type 0 where
+  pub many : length made ≡ node_count p
+  pub turns : made ≡ notes.turns
+  pub rows : length lines ≡ node_count p
+  pub row : (from : ℕ) (row : List ℕ) → slice_get lines from ≡ Some row → length row ≡ node_count p
+  pub sent : (from to n : ℕ) (row : List ℕ) → slice_get lines from ≡ Some row → slice_get row to ≡ Some n → n ≡ sent p notes.exchanges from to
 
 -- every node is ready for a plan
 pub record Ready (p : ProgParts) (plan : Plan Event) (s : State Notes) (w : Nodes) : Type 0 where

@@ -39,7 +39,7 @@ use Rattle.xmp_meaning.specs.Handlers.{TaskRun, erased}
 use Rattle.xmp_meaning.specs.Expressions.{expr_of}
 use Rattle.xmp_meaning.specs.Loops.{nest}
 use Rattle.xmp_meaning.specs.Statements.{plain_of, stmt_of}
-use Rattle.xmp_meaning.specs.Programs.{main_context}
+use Rattle.xmp_meaning.specs.Calls.{main_context}
 use Rattle.xmp_meaning.specs.Writes.{scalars_written}
 use Rattle.xmp_meaning.specs.Exchanges.{Notes, traced}
 use Rattle.xmp_meaning.specs.Traffic.{node_context}
@@ -78,7 +78,7 @@ IfsFit = (p : ProgParts) (e : Expr) (x y : Stmt) → PartFits p (stmt.If e x y) 
 
 pub record WhileFits (p : ProgParts) (e : Expr) (body : Stmt) : Type 0 where
   pub test : AllByRecursion (TermStands p) (terms_of p e)
-  pub body : PartFits p body
+  pub inner : PartFits p body
 
 abbrev pub WhilesFit : Type 0
 WhilesFit = (p : ProgParts) (e : Expr) (body : Stmt) (at : Place) → PartFits p (stmt.While e body at) → WhileFits p e body
@@ -88,7 +88,7 @@ pub record CountedFits (p : ProgParts) (head : LoopHead) (body : Stmt) : Type 0 
   pub to : AllByRecursion (TermStands p) (terms_of p head.to)
   pub index : head.index.number < length p.scalars
   pub counted : is_counted p head (writes_of body) ≡ true
-  pub body : PartFits p body
+  pub inner : PartFits p body
 
 abbrev pub CountedsFit : Type 0
 CountedsFit = (p : ProgParts) (head : LoopHead) (body : Stmt) → PartFits p (stmt.Counted head body) → CountedFits p head body
@@ -104,7 +104,7 @@ PlainFits = (p : ProgParts) (q : Plain) → PartFits p (stmt.Plain q) → StepFi
 
 pub record LoopFits (p : ProgParts) (d : LoopDirective) (body : Stmt) : Type 0 where
   pub step : StepFits p (Stmt-F.Loop d (writes_of body))
-  pub body : PartFits p body
+  pub inner : PartFits p body
 
 abbrev pub LoopsFit : Type 0
 LoopsFit = (p : ProgParts) (d : LoopDirective) (body : Stmt) → PartFits p (stmt.Loop d body) → LoopFits p d body
@@ -145,7 +145,7 @@ ExpressionsCarry = (a : Stand) → IsSetting a → has a.set.nodes a.node ≡ tr
 
 -- what a plain statement gives: it goes on, unless it is `return`
 abbrev pub GivesNext : Plain → Flow → Type 0
-GivesNext q flow = is_return {List ℕ} {NodeSet} (Stmt-F.Plain q) ≡ false → IsNext flow
+GivesNext q flow = is_return {A = List ℕ} {B = NodeSet} (Stmt-F.Plain q) ≡ false → IsNext flow
 
 abbrev pub PlainsCarry : Type 0
 PlainsCarry = (a : Stand) → IsSetting a → has a.set.nodes a.node ≡ true → (input : List ℕ) (q : Plain) → is_plain q ≡ true

@@ -9,3 +9,4 @@ pub mod Saying
 pub mod CastLaws
 pub mod CopiedLaws
 pub mod ReflectLaws
+pub mod InStep
