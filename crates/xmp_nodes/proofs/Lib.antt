@@ -2,6 +2,11 @@ pub mod Agrees
 pub mod Standing
 pub mod Leaves
 pub mod Follow
+pub mod MetEvents
+pub mod ReadEvents
+pub mod Readers
+pub mod Subscripts
+pub mod PartSplits
 pub mod Each
 pub mod NodeBits
 pub mod Words
@@ -19,3 +24,8 @@ pub mod PlainParts
 pub mod Stillness
 pub mod NumberLaws
 pub mod MoveStates
+pub mod MainSteps
+pub mod LoopsInStep
+pub mod CountedInStep
+pub mod SameRuns
+pub mod ReadsMark
