@@ -29,3 +29,14 @@ pub mod LoopsInStep
 pub mod CountedInStep
 pub mod SameRuns
 pub mod ReadsMark
+pub mod AimLaws
+pub mod BodiesGo
+pub mod BoundReads
+pub mod JoinedEnds
+pub mod LoopBodies
+pub mod MoveCounts
+pub mod Totals
+pub mod Turns
+pub mod MoveAgrees
+pub mod MoveSides
+pub mod MoveLeaf
