@@ -39,4 +39,5 @@ pub mod Totals
 pub mod Turns
 pub mod MoveAgrees
 pub mod MoveSides
+pub mod MoveAfter
 pub mod MoveLeaf

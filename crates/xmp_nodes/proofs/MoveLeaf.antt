@@ -1,5 +1,5 @@
 -- All nodes follow a gmove.
-use Rattle.std.proofs.Common.{◌⊎◌, inl, inr, append-nil, ◌≡◌, ◌≢◌, ◌<◌, ◌≤◌, ◌+◌, ◌*◌, ◌++◌, ◌==◌, ◌&&◌, if◌then◌else◌, ℕ, zero, suc, ℤ, pos, Bool, true, false, List, [], ◌∷◌, map, length, Option, Some, None, option_map, refl, sym, ap, subst, ◌∙◌, arith}
+use Rattle.std.proofs.Common.{◌⊎◌, inl, inr, append-nil, ◌≡◌, ◌≢◌, ◌<◌, ◌≤◌, ◌+◌, ◌*◌, ◌++◌, ◌==◌, ◌&&◌, if◌then◌else◌, ℕ, zero, suc, ℤ, pos, Bool, true, false, List, [], ◌∷◌, map, length, Option, Some, None, option_map, refl, sym, ap, subst, subst₂, ◌∙◌, arith}
 use Rattle.std.specs.Prelude.{slice_get, slice_set, unwrap_or}
 use Rattle.std.specs.List.{AllByRecursion, range_with_len}
 use Rattle.std.proofs.lemmas.List.{length-map}
@@ -36,7 +36,7 @@ use Rattle.xmp_flow.specs.Program.{outermost}
 use Rattle.xmp_meaning.specs.declared.ends.Flow.{Flow}
 use Rattle.xmp_meaning.specs.declared.ends.Flow.TheVariants.{Next}
 use Rattle.xmp_meaning.specs.Cells.{row_in}
-use Rattle.xmp_meaning.specs.Runs.{State, Step, StepIn, Gave, Ended, Run, and_then, state_of}
+use Rattle.xmp_meaning.specs.Runs.{State, Step, StepIn, Gave, Ended, Run, and_then, ◌>>=◌, state_of}
 use Rattle.xmp_meaning.specs.Blocks.{each, then_run}
 use Rattle.xmp_meaning.specs.Handlers.{Aim, erased}
 use Rattle.xmp_meaning.specs.Declarations.{extents, home_of, scalar_type}
@@ -56,6 +56,7 @@ use Rattle.xmp_move.proofs.Writes.{length-write_all}
 use Rattle.xmp_move.proofs.Boxes.{in_range, range_in}
 use Rattle.xmp_move.proofs.Assigning.{assignment, source_inside, aims_are_pairs, gmoves_arrays, rows_are_kept}
 use Rattle.xmp_nodes.specs.Nodes.{Nodes, store_at, all_do, each_does, with_steps, led}
+use Rattle.xmp_nodes.specs.Worlds.{out_of}
 use Rattle.xmp_nodes.specs.Rows.{home_of_side, extents_of_side, type_of_side, row_of, with_row}
 use Rattle.xmp_nodes.specs.Moving.{move_ways, pairs_of_aim, source_row, move_said, moved_row, move_all, gmove_all}
 use Rattle.xmp_nodes.proofs.Agrees.{IsWhole, Agrees, ReadyAt, Ready, at_main, AllEnd, AllAlong, IsNext}
@@ -77,280 +78,7 @@ use Rattle.xmp_nodes.proofs.MoveStates.{moved_rows, moved_scalar}
 use Rattle.xmp_nodes.proofs.MoveCounts.{InSideOf, move_counts}
 use Rattle.xmp_nodes.proofs.MoveAgrees.{scalar_marks, spread_marks, scalar_agrees, copy_agrees, spread_agrees}
 use Rattle.xmp_nodes.proofs.MoveSides.{array_of_side, is_array, ArrayRow, array_row, side_long, SerialRow, serial_row, no_image, whole_rows, home_in_is, source_quiet, source_current, source_shows}
-
--- ---- every node leaves its state
-
-stores_stay : {A : Type 0} (run : ℕ → Run (Unit {0}) A) (o : Came A) (k : ℕ) (ss : List Alone)
-    → ((i : ℕ) (n : Alone) → slice_get ss i ≡ Some n → run (k + i) n ≡ as_step o n) → map state_of (each_does run k ss) ≡ ss
-stores_stay run o k [] h = refl
-stores_stay run o k (n ∷ ss) h =
-    let first : run k n ≡ as_step o n = ap (λ j. run j n) (none_more k) ∙ h 0 n refl in
-    (λ i. state_of (first i) ∷ map state_of (each_does run (suc k) ss))
-    ∙ ap (λ m. m ∷ map state_of (each_does run (suc k) ss)) (state_as o n)
-    ∙ ap (λ l. n ∷ l) (stores_stay run o (suc k) ss (λ i m e. ap (λ j. run j m) (next_on k i) ∙ h (suc i) m e))
-  where
-    none_more : (k : ℕ) → k ≡ k + 0
-    none_more k = omega arith
-
-    next_on : (k i : ℕ) → suc k + i ≡ k + suc i
-    next_on k i = omega arith
-
-    state_as : {A : Type 0} (o : Came A) (n : Alone) → state_of (as_step o n) ≡ n
-    state_as (Value a) n = refl
-    state_as (Stopped e) n = refl
-
-pub all_still : {A : Type 0} (none : A) (run : ℕ → Run (Unit {0}) A) (o : Came A) (w : Nodes) → 0 < length w.stores
-    → ((k : ℕ) (n : Alone) → slice_get w.stores k ≡ Some n → run k n ≡ as_step o n) → all_do none run w ≡ as_step o w
-all_still {A} none run o w some h = at_stores w.stores refl
-  where
-    same : with_steps (each_does run 0 w.stores) w ≡ w
-    same = ap (λ ss. record w { stores = ss }) (stores_stay run o 0 w.stores (λ i n e. ap (λ j. run j n) (zero_add i) ∙ h i n e))
-      where
-        zero_add : (i : ℕ) → 0 + i ≡ i
-        zero_add i = omega arith
-
-    leads : (o : Came A) (n : Alone) (rest : List (Step (Unit {0}) A)) (v : Nodes) → led none (as_step o n ∷ rest) v ≡ as_step o v
-    leads (Value a) n rest v = refl
-    leads (Stopped e) n rest v = refl
-
-    at_stores : (ss : List Alone) → w.stores ≡ ss → led none (each_does run 0 w.stores) (with_steps (each_does run 0 w.stores) w) ≡ as_step o w
-    at_stores [] e = absurd (omega (arith, some, ap (λ l. length l) e))
-    at_stores (n ∷ ss) e =
-        ap (λ v. led none (each_does run 0 w.stores) v) same
-        ∙ ap (λ l. led none (each_does run 0 l) w) e
-        ∙ ap (λ q. led none (q ∷ each_does run 1 ss) w) (h 0 n (ap (λ l. slice_get l 0) e))
-        ∙ leads o n (each_does run 1 ss) w
-
--- ---- a good gmove
-
-traced_plainly : (p : ProgParts) → Plainly (traced p)
-traced_plainly p = record { get = λ array at s. refl; put = λ array at v s. refl }
-
--- a scalar's pairs are one
-no_numbers : (to : List Chosen) → length to ≡ length {A = ℕ} [] → to ≡ []
-no_numbers [] e = refl
-no_numbers (c ∷ to) e = absurd (omega (arith, e))
-
-one_target : (from : List Chosen) → map (λ q. row_major [] q.0) (pairs_between [] from) ≡ 0 ∷ []
-unfolding indices counts cell_at row_major
-one_target from = refl
-
-one_assigned : (conv : ℤ → ℤ) (se : List ℕ) (from : List Chosen) (source : List ℤ) (old : ℤ)
-    → assigned conv [] se (pairs_between [] from) source (old ∷ []) ≡ conv (word_at source (row_major se (cell_at from []))) ∷ []
-unfolding indices counts row_major write_all cell_at
-one_assigned conv se from source old = refl
-
-product_none : product [] ≡ 1
-unfolding product
-product_none = refl
-
-nothing_inside : IsInside [] []
-unfolding IsInside
-nothing_inside = tt
-
-row_none : (cell : List ℕ) → row_major [] cell ≡ 0
-unfolding row_major
-row_none cell = refl
-
-in_side : (p : ProgParts) (m : MoveSide) (cell : List ℕ) → InSide m (row_major (extents_of_side p m) cell)
-in_side p (side.Scalar name) cell = row_none cell
-in_side p (side.Array name parts) cell = tt
-
-one_item : (row : List ℤ) (v : ℤ) → length row ≡ 1 → word_at row 0 ≡ v → row ≡ v ∷ []
-one_item [] v l e = absurd (omega (arith, l))
-one_item (w ∷ []) v l e = ap (λ x. x ∷ []) e
-one_item (w ∷ x ∷ row) v l e = absurd (omega (arith, l))
-
--- what the nodes and the serial run come to
-abbrev meant : (p : ProgParts) → (target source : MoveSide) → (to from : List Chosen) → Aim
-meant p target source to from = aim_of (extents_of_side p target) (extents_of_side p source) (pairs_between to from)
-
-abbrev values : MoveSide → Aim → State Notes → List ℤ
-values source a s = map (value_in source s) a.sources
-
-abbrev exchange : (target source : MoveSide) → Aim → State Notes → Exchange
-exchange target source a s = Moved target source a (values source a s)
-
--- a node's row is assigned, whatever array it showed before
-abbrev RowAssigned : (p : ProgParts) → (target source : MoveSide) → (to from : List Chosen) → (k : ℕ) → State Notes → Alone → List ℤ → Type 0
-RowAssigned p target source to from k s n new = (target_values : List ℤ) → length target_values ≡ product (extents_of_side p target)
-    → Shows (extents_of_side p target) (owns_cell (home_of_side p target) k) (position (home_of_side p target) (extents_of_side p target) k) (words_of_side target n) target_values
-    → IsAssigned (wrap (type_of_side p target)) (home_of_side p target) (extents_of_side p target) (extents_of_side p source) (pairs_between to from) k
-    (position (home_of_side p target) (extents_of_side p target) k) (words_of_side source s) target_values (words_of_side target n) new
-
--- a node that agrees after
-pub record NodeAfter (p : ProgParts) (target : MoveSide) (k : ℕ) (stale : ℕ → Bool) (t : State Notes) (m : Alone) : Type 0 where
-  pub way : List Event
-  pub path : Path (moved (outermost p) target) way
-  pub agrees : Agrees (at_main p k) (left k way stale) t m
-
--- the serial state after, and each node's
-pub record After (p : ProgParts) (input : List ℕ) (target source : MoveSide) (to from : List Chosen) (s : State Notes) : Type 0 where
-  pub state : State Notes
-  pub extra : state.extra ≡ (noting_one (exchange target source (meant p target source to from) s) s).extra
-  pub serial : store_all (traced p) (serial_cx p input) target (meant p target source to from).targets (values source (meant p target source to from) s)
-      (noting_one (exchange target source (meant p target source to from) s) s) ≡ Gave Next state
-  pub nodes : (k : ℕ) → k < node_count p → (stale : ℕ → Bool) (n : Alone) → Agrees (at_main p k) stale s n → (new : List ℤ)
-      → RowAssigned p target source to from k s n new → NodeAfter p target k stale state (with_row target new n)
-
-values_are : (p : ProgParts) (target source : MoveSide) (to from : List Chosen) (s : State Notes)
-    → values source (meant p target source to from) s ≡ packed (words_of_side source s) (meant p target source to from).sources
-values_are p target source to from s = values_packed source s (λ q. row_major (extents_of_side p source) q.1) (pairs_between to from) (λ q. in_side p source q.1)
-
--- ---- a scalar
-
-scalar_after : (p : ProgParts) (input : List ℕ) (name : Name) (source : MoveSide) (to from : List Chosen) (s : State Notes) → length to ≡ length {A = ℕ} []
-    → (first : Alone) (stale : ℕ → Bool) → Agrees (at_main p 0) stale s first → After p input (side.Scalar name) source to from s
-unfolding indices counts cell_at row_major write_all
-scalar_after p input name source (c ∷ to) from s l first stale g = absurd (omega (arith, l))
-scalar_after p input name source [] from s l first stale g = record {
-  state = t;
-  extra = refl;
-  serial = refl;
-  nodes = λ k below bits n h new is.
-      let own : List ℤ = words_of_side (side.Scalar name) n in
-      let a = is own (sym product_none) (λ cell i o. refl) in
-      let single : new ≡ v ∷ [] = one_item new v a.long (ap (word_at new) (sym (row_none [])) ∙ a.whole [] nothing_inside refl ∙ same_value k) in
-      record {
-        way = scalar_marks p k below x (moved_copies (side.Scalar name) source (meant p (side.Scalar name) source [] from) (values source (meant p (side.Scalar name) source [] from) s)) bits s n h slot v fits whole;
-        path = refl;
-        agrees = subst (λ r. Agrees (at_main p k) (left k (scalar_marks p k below x (moved_copies (side.Scalar name) source (meant p (side.Scalar name) source [] from) (values source (meant p (side.Scalar name) source [] from) s)) bits s n h slot v fits whole) bits) t (with_row (side.Scalar name) r n)) (sym single)
-            (scalar_agrees p k below x (moved_copies (side.Scalar name) source (meant p (side.Scalar name) source [] from) (values source (meant p (side.Scalar name) source [] from) s)) bits s n h slot v fits whole);
-      };
-}
-  where
-    slot : ℕ
-    slot = name.number
-
-    x : Exchange
-    x = exchange (side.Scalar name) source (meant p (side.Scalar name) source [] from) s
-
-    given : ℤ
-    given = value_in source s (row_major (extents_of_side p source) (cell_at from []))
-
-    v : ℤ
-    v = wrap (scalar_type p slot) given
-
-    t : State Notes
-    t = record (noting_one x s) { scalars = slice_set s.scalars slot v }
-
-    fits : FitsType (scalar_type p slot) v
-    fits = wrap_fits (scalar_type p slot) given
-
-    whole : IsWhole p t
-    whole = moved_scalar p slot (noting_one x s) given (record { scalars = g.whole.scalars; rows = g.whole.rows; values = record { scalars = g.whole.values.scalars; cells = g.whole.values.cells } })
-
-    same_value : (k : ℕ) → wrap (scalar_type p slot) (word_at (words_of_side source s) (row_major (extents_of_side p source) (cell_at from []))) ≡ v
-    same_value k = ap (wrap (scalar_type p slot)) (sym (value_word source s (row_major (extents_of_side p source) (cell_at from [])) (in_side p source (cell_at from []))))
-
--- ---- an array
-
-module _ (p : ProgParts) (global : IsGlobal p) (input : List ℕ) (name : Name) (parts : List Part) (source : MoveSide) (to from : List Chosen) (s : State Notes)
-    (fits : side_fits p (side.Array name parts) ≡ true) (first : Alone) (stale : ℕ → Bool) (g : Agrees (at_main p 0) stale s first) where
-  abbrev array : ℕ
-  array = name.number
-
-  abbrev target : MoveSide
-  target = side.Array name parts
-
-  abbrev a : Aim
-  a = meant p target source to from
-
-  abbrev x : Exchange
-  x = exchange target source a s
-
-  abbrev conv : ℤ → ℤ
-  conv = wrap (type_of_side p target)
-
-  its : (b : Array) × (slice_get p.arrays array ≡ Some b)
-  its = array_of_side p name parts fits
-
-  image_none : is_image its.0.home ≡ false
-  image_none = no_image p 0 array its.0 first its.1 g.packed
-
-  sr : SerialRow p array s
-  sr = serial_row p array its.0 s its.1 image_none g.whole
-
-  abbrev new_whole : List ℤ
-  new_whole = write_all sr.row a.targets (map conv (values source a s))
-
-  abbrev after_state : State Notes
-  after_state = record (noting_one x s) { arrays = slice_set s.arrays array new_whole }
-
-  whole_then : IsWhole p after_state
-  whole_then =
-      moved_rows p array (noting_one x s) (record { scalars = g.whole.scalars; rows = g.whole.rows; values = record { scalars = g.whole.values.scalars; cells = g.whole.values.cells } })
-      sr.row sr.at a.targets (values source a s)
-
-  assigned_is : assigned conv (extents p array) (extents_of_side p source) (pairs_between to from) (words_of_side source s) sr.row ≡ new_whole
-  assigned_is = ap (λ vs. write_all sr.row a.targets (map conv vs)) (sym (values_are p target source to from s))
-
-  Assigned : ℕ → Alone → List ℤ → Type 0
-  Assigned k n new = RowAssigned p target source to from k s n new
-
-  node_row : (k : ℕ) (bits : ℕ → Bool) (n : Alone) → Agrees (at_main p k) bits s n → ArrayRow p k array n
-  node_row k bits n h = array_row p k array its.0 n its.1 h.packed
-
-  at_home : (k : ℕ) (below : k < node_count p) (bits : ℕ → Bool) (n : Alone) (h : Agrees (at_main p k) bits s n) (new : List ℤ) → RowAssigned p target source to from k s n new
-      → (lies : Home) → home_of p array ≡ lies → NodeAfter p target k bits after_state (with_row target new n)
-  at_home k below bits n h new is (home.Spread u q) e =
-      let r = node_row k bits n h in
-      let target_is : home.Spread u q ≡ home_of_side p target = sym e in
-      let b = is sr.row sr.long (λ cell i o.
-      ap (λ (l : Home). word_at (words_of_side target n) (position l (extents p array) k cell)) e
-      ∙ h.owned array u q e cell i (ap (λ (l : Home). owns_cell l k cell) (sym e) ∙ o)
-      ∙ ap (λ l. word_at l (row_major (extents p array) cell)) sr.is) in
-      record {
-        way = spread_marks p k below x (moved_copies target source a (values source a s)) bits s n h array r.row sr.row new new_whole r.at sr.at (b.long ∙ ap length r.is) whole_then;
-        path = subst (λ o. Path (moved_at (outermost p) name o) (spread_marks p k below x (moved_copies target source a (values source a s)) bits s n h array r.row sr.row new new_whole r.at sr.at (b.long ∙ ap length r.is) whole_then))
-            (sym (home_in_is p array its.0 its.1 ∙ ap Some e)) refl;
-        agrees = spread_agrees p k below x (moved_copies target source a (values source a s)) bits s n h array r.row sr.row new new_whole r.at sr.at (b.long ∙ ap length r.is) whole_then u q e
-            (λ cell i o.
-            ap (λ (l : Home). word_at new (position l (extents p array) k cell)) (sym e)
-            ∙ b.whole cell i (ap (λ (l : Home). owns_cell l k cell) e ∙ o)
-            ∙ ap (λ l. word_at l (row_major (extents p array) cell)) assigned_is)
-            (λ cell i held o.
-            ap (λ (l : Home). word_at new (position l (extents p array) k cell)) (sym e)
-            ∙ b.copies cell i (ap (λ (l : Home). holds_cell l k cell) e ∙ held) (ap (λ (l : Home). owns_cell l k cell) e ∙ o)
-            ∙ ap (λ (l : Home). word_at (words_of_side target n) (position l (extents p array) k cell)) e
-            ∙ ap (λ l. word_at l (position (home.Spread u q) (extents p array) k cell)) r.is);
-      }
-  at_home k below bits n h new is home.Copy e =
-      let r = node_row k bits n h in
-      let own : List ℤ = row_in n.arrays array in
-      let own_long : length own ≡ product (extents p array) = ap length r.is ∙ r.long ∙ ap (λ (l : Home). words_of (Packed k) l (product (extents p array))) e in
-      let b = is own own_long (λ cell i o. ap (λ (l : Home). word_at own (position l (extents p array) k cell)) e) in
-      record {
-        way = [];
-        path = subst (λ o. Path (moved_at (outermost p) name o) []) (sym (home_in_is p array its.0 its.1 ∙ ap Some e)) refl;
-        agrees = copy_agrees p k below x (moved_copies target source a (values source a s)) bits s n h array r.row sr.row new new_whole r.at sr.at (b.long ∙ ap length r.is) whole_then e
-            (λ current.
-            let same : own ≡ sr.row = h.copies array e current ∙ sr.is in
-            whole_rows (extents p array) new new_whole (b.long ∙ own_long) (length-write_all sr.row a.targets (map conv (values source a s)) ∙ sr.long)
-            (λ cell i.
-            ap (λ (l : Home). word_at new (position l (extents p array) k cell)) (sym e)
-            ∙ b.whole cell i (ap (λ (l : Home). owns_cell l k cell) e)
-            ∙ ap (λ l. word_at l (row_major (extents p array) cell))
-            (ap (assigned conv (extents p array) (extents_of_side p source) (pairs_between to from) (words_of_side source s)) same ∙ assigned_is)));
-      }
-  at_home k below bits n h new is home.Image e = absurd (no (sym (ap is_image (sym (home_there p array its.0 its.1) ∙ e)) ∙ image_none))
-    where
-      no : true ≡ false → ⊥
-      no e = cc
-
-  array_after : After p input target source to from s
-  array_after = record {
-    state = after_state;
-    extra = refl;
-    serial = stores_array (traced p) (traced_plainly p) (serial_cx p input) name parts a.targets (values source a s) (noting_one x s) sr.row sr.at;
-    nodes = λ k below bits n h new is. at_home k below bits n h new is (home_of p array) refl;
-  }
-
--- whichever the target is
-side_after : (p : ProgParts) → IsGlobal p → (input : List ℕ) (target source : MoveSide) (to from : List Chosen) (s : State Notes) → side_fits p target ≡ true
-    → length to ≡ length (extents_of_side p target) → (first : Alone) (stale : ℕ → Bool) → Agrees (at_main p 0) stale s first → After p input target source to from s
-side_after p global input (side.Scalar name) source to from s fits l first stale g = scalar_after p input name source to from s l first stale g
-side_after p global input (side.Array name parts) source to from s fits l first stale g = array_after p global input name parts source to from s fits first stale g
+use Rattle.xmp_nodes.proofs.MoveAfter.{traced_plainly, all_still, meant, values, exchange, RowAssigned, NodeAfter, After, side_after}
 
 -- ---- a way through the plan
 
@@ -451,3 +179,158 @@ module _ (p : ProgParts) (global : IsGlobal p) (input : List ℕ) (target source
         (marked_behind k (side_events (outermost p) source) from_source way source_alike.quiet
         (marked_behind k (source_events (outermost p) source) last_part way source_read
         (marked_last k (moved (outermost p) target) way h))))
+
+  abbrev none_there : Alone
+  none_there = node_beginning p 0 0
+
+  some : 0 < node_count p
+  some = some_nodes p
+
+  abbrev node_at : ℕ → Alone
+  node_at k = store_at none_there w k
+
+  there_at : (k : ℕ) → k < node_count p → slice_get w.stores k ≡ Some (node_at k)
+  there_at k lt = store_there none_there w k (let l = ready.many in omega (arith, l, lt))
+
+  ready_at : (k : ℕ) → k < node_count p → ReadyAt p k (sequence plan rest) s (node_at k)
+  ready_at k lt = ready.nodes k (node_at k) (there_at k lt)
+
+  -- ---- the aim
+
+  abbrev serial_aim : Step Notes Aim
+  serial_aim = aim (traced p) (serial_cx p input) target source s
+
+  abbrev node_aim : ℕ → Run (Unit {0}) Aim
+  node_aim node = aim erased (node_context p node input) target source
+
+  abbrev no_aim : Aim
+  no_aim = record { targets = []; sources = [] }
+
+  still_at : (k : ℕ) (lt : k < node_count p) (n : Alone) → slice_get w.stores k ≡ Some n → Still (aim (traced p) (serial_cx p input) target source) s (node_aim k) n
+  still_at k lt n e = let r = ready.nodes k n e in node_aims k lt r.stale r.safe n r.agrees
+
+  serial_still : serial_aim ≡ as_step (came_to serial_aim) s
+  serial_still = (still_at 0 some (node_at 0) (there_at 0 some)).first
+
+  nodes_still : all_do no_aim node_aim w ≡ as_step (came_to serial_aim) w
+  nodes_still = all_still no_aim node_aim (came_to serial_aim) w (let l = ready.many in let z = some in omega (arith, l, z))
+      (λ k n e. (still_at k (let i = slice_get_within w.stores k n e in let l = ready.many in omega (arith, i, l)) n e).second)
+
+  -- ---- what follows it
+
+  abbrev behind_aim : Aim → Run Notes Flow
+  behind_aim a = each (map (read_cell (traced p) source) a.sources) [] >>= (λ vs. then_run (note (Moved target source a vs)) (store_all (traced p) (serial_cx p input) target a.targets vs))
+
+  module _ (to from : List Chosen) (good : AreGood (extents_of_side p target) to (extents_of_side p source) from) where
+    abbrev te : List ℕ
+    te = extents_of_side p target
+
+    abbrev se : List ℕ
+    se = extents_of_side p source
+
+    abbrev pairs : List Pair
+    pairs = pairs_between to from
+
+    abbrev a : Aim
+    a = meant p target source to from
+
+    abbrev vs : List ℤ
+    vs = values source a s
+
+    after : After p input target source to from s
+    after = side_after p global input target source to from s target_fits good.target (node_at 0) (ready_at 0 some).stale (ready_at 0 some).agrees
+
+    serial_is : behind_aim a s ≡ Gave Next after.state
+    serial_is =
+        ap (λ r. and_then r (λ vs. then_run (note (Moved target source a vs)) (store_all (traced p) (serial_cx p input) target a.targets vs))) (reads_all (traced p) (traced_plainly p) source s a.sources)
+        ∙ after.serial
+
+    peers : AreNodes (node_count p) (range_with_len 0 (node_count p))
+    peers = record {
+      all = λ node lt. in_range 0 (node_count p) node (omega arith) (omega (arith, lt));
+      only = λ node i. let r = range_in 0 (node_count p) node i in omega (arith, r);
+    }
+
+    given_at : (k : ℕ) (below : k < node_count p) (j : ℕ) → j < node_count p
+        → Shows se (gives_cell (home_of_side p source) j k) (position (home_of_side p source) se j) (source_row p source w j) (words_of_side source s)
+    given_at k below j lt =
+        let r = ready_at j lt in
+        let o = ready_at k below in
+        subst (λ row. Shows se (gives_cell (home_of_side p source) j k) (position (home_of_side p source) se j) row (words_of_side source s)) (sym (row_of_is source (node_at j)))
+        (source_shows p source source_fits j k r.stale s (node_at j) (node_at k) r.agrees (λ e. ap (λ i. node_at i) e) (source_is k below o.stale o.safe (node_at k) o.agrees))
+
+    row_assigned : (k : ℕ) → k < node_count p → RowAssigned p target source to from k s (node_at k) (moved_row p target source a w k)
+    row_assigned k below tv long shows =
+        let r = ready_at k below in
+        let own : List ℤ = words_of_side target (node_at k) in
+        let t = is_array p global target in
+        subst (λ new. IsAssigned (wrap (type_of_side p target)) (home_of_side p target) te se pairs k (position (home_of_side p target) te k) (words_of_side source s) tv own new)
+        (λ i. unpacked_of (wrap (type_of_side p target)) (move_ways p target source) (sym (aims_are_pairs te se to from good) i) (source_row p source w) (sym (row_of_is target (node_at k)) i) k (range_with_len 0 (node_count p)))
+        (gmoves_arrays (wrap (type_of_side p target)) (home_of_side p target) (home_of_side p source) te se (position (home_of_side p target) te) (position (home_of_side p source) se) to from
+        (node_count p) k (range_with_len 0 (node_count p)) (source_row p source w) own (words_of_side source s) tv good t (is_array p global source) below peers
+        (rows_are_kept (home_of_side p target) te k own t.code t.map (side_long p k target (node_at k) target_fits r.agrees.packed))
+        long shows (given_at k below))
+
+    at_node : (k : ℕ) → k < node_count p → (m : Alone) × (◌≡◌ {A = Step (Unit {0}) Flow} (Gave Next (with_row target (moved_row p target source a w k) (node_at k))) (Gave Next m)) × ReadyAt p k rest after.state m
+    at_node k below =
+        let r = ready_at k below in
+        let na = after.nodes k below r.stale (node_at k) r.agrees (moved_row p target source a w k) (row_assigned k below) in
+        let mk = whole_way k below na.way na.path in (
+          with_row target (moved_row p target source a w k) (node_at k),
+          refl,
+          record {
+            stale = left k mk.full r.stale;
+            safe = safe_back k plan rest r.stale r.safe mk.full mk.path;
+            agrees = agrees_fewer (at_main p k) (left k na.way r.stale) (left k mk.full r.stale) after.state (with_row target (moved_row p target source a w k) (node_at k)) (λ o e. sym (mk.same r.stale o) ∙ e) na.agrees;
+          },
+        )
+
+    targets_in : AllByRecursion (InSideOf p global target) a.targets
+    targets_in = all_mapped (λ n. n < product te) (λ (q : Pair). row_major te q.0) pairs (λ q i. row_major-lt q.0 te (inside_below q.0 te ((assignment te se to from good).inside q i)))
+
+    sources_in : AllByRecursion (InSideOf p global source) a.sources
+    sources_in = all_mapped (λ n. n < product se) (λ (q : Pair). row_major se q.1) pairs (λ q i. row_major-lt q.1 se (inside_below q.1 se (source_inside te se to from good q i)))
+
+    moves_follow : AllAlong p IsNext rest (behind_aim a s) (move_all p target source a w)
+    moves_follow =
+        subst (λ r. AllAlong p IsNext rest r (move_all p target source a w)) (sym serial_is)
+        (say_and_do p rest IsNext Next Next (λ node u. Gave Next (with_row target (moved_row p target source a w node) u)) s after.state w (move_said p target source a w) (exchange target source a s)
+        some ready.many refl ready.counts
+        (move_counts p global target source a vs w (length-map a.sources (value_in source s)) targets_in sources_in) after.extra
+        (λ k n e.
+        let lt : k < node_count p = (let i = slice_get_within w.stores k n e in let l = ready.many in omega (arith, i, l)) in
+        subst (λ u. (m : Alone) × (◌≡◌ {A = Step (Unit {0}) Flow} (Gave Next (with_row target (moved_row p target source a w k) u)) (Gave Next m)) × ReadyAt p k rest after.state m) (store_is none_there w k n e) (at_node k lt)))
+
+  -- ---- and its traps
+
+  first_out : (ss : List Alone) (n : Alone) → slice_get ss 0 ≡ Some n → out_of ss ≡ n.out
+  first_out [] n e = absurd (none-some n e)
+  first_out (m ∷ ss) n e = ap (λ (u : Alone). u.out) (same_Some m n e)
+
+  by_aim : (o : Came Aim) → serial_aim ≡ as_step o s → all_do no_aim node_aim w ≡ as_step o w
+      → AllAlong p IsNext rest (and_then serial_aim behind_aim) (and_then (all_do no_aim node_aim w) (move_all p target source))
+  by_aim (Stopped e) f g =
+      subst (λ r. AllAlong p IsNext rest (and_then r behind_aim) (and_then (all_do no_aim node_aim w) (move_all p target source))) (sym f)
+      (subst (λ q. AllAlong p IsNext rest (Ended e s) (and_then q (move_all p target source))) (sym g)
+      (record { same = refl; out = first_out w.stores (node_at 0) (there_at 0 some) ∙ sym ((ready_at 0 some).agrees.out [] refl) }))
+  by_aim (Value b) f g =
+      subst (λ r. AllAlong p IsNext rest (and_then r behind_aim) (and_then (all_do no_aim node_aim w) (move_all p target source))) (sym f)
+      (subst (λ q. AllAlong p IsNext rest (behind_aim b s) (and_then q (move_all p target source))) (sym g)
+      (let r0 = ready_at 0 some in
+      let first : Alone = node_at 0 in
+      let found : GoodAim (extents_in p target) (extents_in p source) b =
+      good_aim (traced p) (serial_cx p input) target source s target_fits source_fits agree
+      ((target_alike 0 some).still r0.stale (safe_front 0 (side_events (outermost p) target) from_numbers r0.stale (safe_target 0 some r0.stale r0.safe)) s first (λ slot e. r0.agrees.scalars slot refl e)).first
+      ((source_alike 0 some).still r0.stale (safe_front 0 (side_events (outermost p) source) from_source r0.stale (safe_numbers 0 some r0.stale r0.safe)) s first (λ slot e. r0.agrees.scalars slot refl e)).first
+      b s f in
+      let meets : GoodAim (extents_of_side p target) (extents_of_side p source) b = subst₂ (λ te se. GoodAim te se b) (extents_same p target) (extents_same p source) found in
+      subst (λ b. AllAlong p IsNext rest (behind_aim b s) (move_all p target source b w)) (sym meets.is) (moves_follow meets.to meets.from meets.good)))
+
+  gmove_goes : AllAlong p IsNext rest (and_then serial_aim behind_aim) (and_then (all_do no_aim node_aim w) (move_all p target source))
+  gmove_goes = by_aim (came_to serial_aim) serial_still nodes_still
+
+pub gmoves_follow : GmovesFollow
+gmoves_follow p global input target source at fits right rest s w ready =
+    let stands = plain_stands p (plain.Gmove target source at) fits in
+    let both = both_fit (side_fits p target) (side_fits p source) stands.sides in
+    gmove_goes p global input target source at both.0 both.1 stands.sections right rest s w ready
