@@ -25,3 +25,13 @@ pub mod LoopsInStep
 pub mod CountedInStep
 pub mod SameRuns
 pub mod ReadsMark
+pub mod BodiesGo
+pub mod BoundReads
+pub mod JoinedEnds
+pub mod LoopBodies
+pub mod NumberLaws
+pub mod Stillness
+pub mod Totals
+pub mod Turns
+pub mod Below
+pub mod Lockstep
