@@ -21,11 +21,13 @@ use Rattle.xmp_paths.specs.Plans.{Plan, skip, sequence, in_order, Path}
 use Rattle.xmp_paths.specs.Safe.{left, Safe, NothingWrong}
 use Rattle.xmp_paths.proofs.SafeLaws.{safe_front, safe_back}
 use Rattle.xmp_loops.specs.Objects.{scalar_object, array_object, nodes_in}
+use Rattle.xmp_flow.specs.Setting.{is_reduced}
 use Rattle.xmp_flow.specs.PlainEvents.{cast, plain_events}
 use Rattle.xmp_flow.specs.Program.{outermost}
 use Rattle.xmp_meaning.specs.declared.ends.Flow.{Flow}
 use Rattle.xmp_meaning.specs.declared.ends.Flow.TheVariants.{Next}
 use Rattle.xmp_meaning.specs.Runs.{State, Gave}
+use Rattle.xmp_meaning.specs.Declarations.{scalar_type}
 use Rattle.xmp_meaning.specs.LoopEnds.{set_all}
 use Rattle.xmp_meaning.specs.TaskEnds.{leader}
 use Rattle.xmp_meaning.specs.Exchanges.{Notes, Exchange, Broadcast, values_of}
@@ -37,6 +39,7 @@ use Rattle.xmp_nodes.specs.Casting.{cast_values, cast_all}
 use Rattle.xmp_nodes.proofs.Agrees.{Stand, Agrees, ReadyAt, Ready, at_main, AllAlong, IsNext}
 use Rattle.xmp_nodes.proofs.Standing.{IsGlobal, PartFits}
 use Rattle.xmp_nodes.proofs.Leaves.{CastsFollow}
+use Rattle.xmp_nodes.proofs.PlainParts.{plain_stands}
 use Rattle.xmp_nodes.proofs.Each.{Alone, store_there}
 use Rattle.xmp_nodes.proofs.NodeBits.{set_has, leader_below, leader_has}
 use Rattle.xmp_nodes.proofs.Saying.{noted_behind, say_and_do}
@@ -91,11 +94,11 @@ module _ (p : ProgParts) (names : List Name) (set : NodeSet) (k : ℕ) (below : 
       left_as : (slot : ℕ) → is_in (numbers names) slot ≡ false → scalar_in (taking s n) slot ≡ scalar_in n slot
       left_as slot i = ap (λ o. unwrap_or o (pos 0)) (set_others (numbers names) (map (λ slot. scalar_in s slot) (numbers names)) n.scalars slot i)
 
-      typed_at : (slot : ℕ) (b : Bool) → is_in (numbers names) slot ≡ b → FitsType _ (scalar_in (taking s n) slot)
-      typed_at slot true i = subst (FitsType _) (sym (set_to slot i)) (g.whole.values.scalars slot)
-      typed_at slot false i = subst (FitsType _) (sym (left_as slot i)) (g.typed slot)
+      typed_at : (slot : ℕ) (b : Bool) → is_in (numbers names) slot ≡ b → FitsType (scalar_type p slot) (scalar_in (taking s n) slot)
+      typed_at slot true i = subst (FitsType (scalar_type p slot)) (sym (set_to slot i)) (g.whole.values.scalars slot)
+      typed_at slot false i = subst (FitsType (scalar_type p slot)) (sym (left_as slot i)) (g.typed slot)
 
-      scalars_at : (slot : ℕ) → _ → left k (cast_way p set k below names) stale (scalar_object slot) ≡ false → (b : Bool) → is_in (numbers names) slot ≡ b
+      scalars_at : (slot : ℕ) → is_reduced ((outermost p).roles slot) ≡ false → left k (cast_way p set k below names) stale (scalar_object slot) ≡ false → (b : Bool) → is_in (numbers names) slot ≡ b
           → scalar_in (taking s n) slot ≡ scalar_in s slot
       scalars_at slot r e true i = set_to slot i
       scalars_at slot r e false i =
@@ -135,7 +138,7 @@ casts_follow p global names set at fits right rest s w ready =
     x = Broadcast names set (values_of s (numbers names))
 
     good : is_node_set p.grid set ≡ true
-    good = and_first (is_node_set p.grid set) (product set.many == 1) fits.statements.0.cast
+    good = and_first (is_node_set p.grid set) (product set.many == 1) (plain_stands p (plain.Cast names set at) fits).cast
 
     source : ℕ
     source = leader p set

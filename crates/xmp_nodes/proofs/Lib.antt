@@ -20,6 +20,10 @@ pub mod ReflectLaws
 pub mod ReflectCounts
 pub mod ReflectLeaf
 pub mod InStep
+pub mod PlainParts
+pub mod Stillness
+pub mod NumberLaws
+pub mod MoveStates
 pub mod MainSteps
 pub mod LoopsInStep
 pub mod CountedInStep

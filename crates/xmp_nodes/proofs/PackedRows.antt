@@ -1,7 +1,8 @@
 -- The rows of a node: their lengths, and one row set anew.
-use Rattle.std.proofs.Common.{◌≡◌, ◌≢◌, ◌<◌, ◌*◌, if◌then◌else◌, ℕ, zero, suc, ℤ, pos, Bool, true, false, List, [], ◌∷◌, map, length, take, ◌≤◌, Option, Some, None, option_map, refl, sym, ap, subst, ◌∙◌, arith, mul-pos}
+use Rattle.std.proofs.Common.{◌⊎◌, inl, inr, ◌==◌, ◌≡◌, ◌≢◌, ◌<◌, ◌*◌, if◌then◌else◌, ℕ, zero, suc, ℤ, pos, Bool, true, false, List, [], ◌∷◌, map, length, take, ◌≤◌, Option, Some, None, option_map, refl, sym, ap, subst, ◌∙◌, arith, mul-pos}
 use Rattle.std.specs.Prelude.{slice_get, slice_set, unwrap_or, nat_le, ◌&&◌, IsTrue}
 use Rattle.std.specs.List.{AllByRecursion, list_all}
+use Rattle.std.proofs.lemmas.Bool.{eqb-true, eq-eqb}
 use Rattle.std.proofs.lemmas.Bool.Decides.{nat_tests}
 use Rattle.std.proofs.lemmas.Option.{none-some, same_Some, slice_get-map, slice_get_within}
 use Rattle.std.proofs.lemmas.List.{length-map}
@@ -32,6 +33,22 @@ use Rattle.xmp_nodes.proofs.Agrees.{IsWhole}
 use Rattle.xmp_nodes.proofs.Standing.{IsGlobal}
 use Rattle.xmp_nodes.proofs.Each.{there, mapped_at}
 use Rattle.xmp_nodes.proofs.Words.{set_there}
+
+-- ---- numbers
+
+abbrev pub same_or_other : (a b : ℕ) → Type 0
+same_or_other a b = (a ≡ b) ⊎ ((a ≢ b) × ((a == b) ≡ false))
+
+pub tell : (a b : ℕ) → same_or_other a b
+tell a b = at_test (a == b) refl
+  where
+    no : (c : Bool) → c ≡ false → c ≡ true → ⊥
+    no true e f = cc
+    no false e f = cc
+
+    at_test : (c : Bool) → (a == b) ≡ c → same_or_other a b
+    at_test true e = inl (eqb-true a b e)
+    at_test false e = inr ((λ f. no (a == b) e (eq-eqb a b f)), e)
 
 -- ---- lists of lists
 
@@ -74,7 +91,7 @@ all_at P (y ∷ xs) h (suc i) x e = all_at P xs h.1 i x e
 pub record IsSpreadArray (p : ProgParts) (array t : ℕ) (m : ArrayMap) : Type 0 where
   pub of : Array
   pub at : slice_get p.arrays array ≡ Some of
-  pub home : of.home ≡ home.Spread t m
+  pub lies : of.home ≡ home.Spread t m
   pub three : HasThree m
   pub fits : MapFits (home.Spread t m) (extents p array)
   pub nodes : held.node_count m ≡ node_count p
@@ -92,7 +109,7 @@ spread_array p global array t m e =
     record {
       of = a;
       at = s.1;
-      home = s.2;
+      lies = s.2;
       three = code;
       fits = fit.extents ∙ sym (extents_there p array a s.1);
       nodes = ap (λ (g : Grid). product g.sizes) (all_at (λ t. t.grid ≡ p.grid) p.templates global.fits.mappings.templates t m.template fit.template);
@@ -107,7 +124,7 @@ pub record IsRowOf (p : ProgParts) (node array : ℕ) (m : ArrayMap) (rows : Lis
 pub spread_row : {X : Type 0} (p : ProgParts) (node array t : ℕ) (m : ArrayMap) (n : State X) → IsSpreadArray p array t m → IsNodeState p node n → IsRowOf p node array m n.arrays
 spread_row p node array t m n s packed =
     let r = row_there (row_length (Packed node) p) n.arrays p.arrays packed.rows array s.of s.at in
-    record { row = r.0; at = r.1; long = r.2 ∙ ap (λ h. words_of (Packed node) h (cell_count p s.of)) s.home }
+    record { row = r.0; at = r.1; long = r.2 ∙ ap (λ h. words_of (Packed node) h (cell_count p s.of)) s.lies }
 
 -- it has one to three dimensions
 pub few_dims : (p : ProgParts) → IsGlobal p → (array t : ℕ) (m : ArrayMap) → IsSpreadArray p array t m → length (extents p array) ≤ 3
@@ -125,7 +142,7 @@ whole_row p global array t m s of whole =
     let r = row_there (row_length Whole p) s.arrays p.arrays whole.rows array of.of of.at in
     ap length (row_read s.arrays array r.0 r.1)
     ∙ r.2
-    ∙ ap (λ (h : Home). words_of Whole h ((if is_image h then node_count p else 1) * product of.of.extents)) of.home
+    ∙ ap (λ (h : Home). words_of Whole h ((if is_image h then node_count p else 1) * product of.of.extents)) of.lies
     ∙ one_times (product of.of.extents)
     ∙ ap product (sym (extents_there p array of.of of.at))
   where

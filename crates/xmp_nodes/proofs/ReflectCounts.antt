@@ -42,19 +42,35 @@ filter_both t (x ∷ xs) ys = at_test (t x) (filter_both t xs ys)
     at_test true i = omega (arith, i)
     at_test false i = i
 
+abbrev row_counts : (List ℕ → Bool) → List (List ℕ) → ℕ → ℕ
+row_counts t rests i = length (filter (λ c. t (i ∷ c)) rests)
+
+abbrev rows_from : List (List ℕ) → (a n : ℕ) → List (List ℕ)
+rows_from rests a n = flat_map (λ i. map (λ c. i ∷ c) rests) (range_with_len a n)
+
 ranged : (t : List ℕ → Bool) (rests : List (List ℕ)) (a n : ℕ)
-    → sum_below (λ i. length (filter (λ c. t (i ∷ c)) rests)) a + length (filter t (flat_map (λ i. map (λ c. i ∷ c) rests) (range_with_len a n)))
-    ≡ sum_below (λ i. length (filter (λ c. t (i ∷ c)) rests)) (a + n)
+    → sum_below (row_counts t rests) a + length (filter t (rows_from rests a n)) ≡ sum_below (row_counts t rests) (a + n)
 unfolding sum_below
-ranged t rests a zero = omega arith
+ranged t rests a zero =
+    let z : a ≡ a + 0 = omega arith in
+    let e : sum_below (row_counts t rests) a ≡ sum_below (row_counts t rests) (a + 0) = ap (sum_below (row_counts t rests)) z in
+    omega (arith, e)
 ranged t rests a (suc n) =
     let i = ranged t rests (a + 1) n in
-    let both = filter_both t (map (λ c. a ∷ c) rests) (flat_map (λ i. map (λ c. i ∷ c) rests) (range_with_len (a + 1) n)) in
-    let row : length (filter t (map (λ c. a ∷ c) rests)) ≡ length (filter (λ c. t (a ∷ c)) rests) =
+    let both : length (filter t (rows_from rests a (suc n))) ≡ length (filter t (map (λ c. a ∷ c) rests)) + length (filter t (rows_from rests (a + 1) n)) =
+    filter_both t (map (λ c. a ∷ c) rests) (rows_from rests (a + 1) n) in
+    let row : length (filter t (map (λ c. a ∷ c) rests)) ≡ row_counts t rests a =
     ap length (filter_map_is (λ c. a ∷ c) t rests) ∙ length-map (filter (λ c. t (a ∷ c)) rests) (λ c. a ∷ c) in
-    let further : sum_below (λ i. length (filter (λ c. t (i ∷ c)) rests)) (a + 1 + n) ≡ sum_below (λ i. length (filter (λ c. t (i ∷ c)) rests)) (a + suc n) =
-    ap (sum_below (λ i. length (filter (λ c. t (i ∷ c)) rests))) (let e : a + 1 + n ≡ a + suc n = omega arith in e) in
-    omega (arith, i, both, row, further)
+    let one_more : a + 1 ≡ suc a = omega arith in
+    let next : sum_below (row_counts t rests) (a + 1) ≡ sum_below (row_counts t rests) a + row_counts t rests a = ap (sum_below (row_counts t rests)) one_more in
+    let on : a + 1 + n ≡ a + suc n = omega arith in
+    let further : sum_below (row_counts t rests) (a + 1 + n) ≡ sum_below (row_counts t rests) (a + suc n) = ap (sum_below (row_counts t rests)) on in
+    gather (sum_below (row_counts t rests) a) (row_counts t rests a) (sum_below (row_counts t rests) (a + 1)) (length (filter t (rows_from rests (a + 1) n)))
+    (length (filter t (map (λ c. a ∷ c) rests))) (length (filter t (rows_from rests a (suc n)))) (sum_below (row_counts t rests) (a + 1 + n)) (sum_below (row_counts t rests) (a + suc n))
+    i both row next further
+  where
+    gather : (s f s1 l m w u v : ℕ) → s1 + l ≡ u → w ≡ m + l → m ≡ f → s1 ≡ s + f → u ≡ v → s + w ≡ v
+    gather s f s1 l m w u v i both row next further = omega (arith, i, both, row, next, further)
 
 ones : (k : ℕ) (t : List ℕ → Bool) → count_cells (replicate k 1) t ≡ (if t (replicate k 0) then 1 else 0)
 unfolding count_cells sum_below
@@ -71,7 +87,10 @@ pub counted_cells : (es : List ℕ) (k : ℕ) (t : List ℕ → Bool) → length
 unfolding count_cells sum_below indices
 counted_cells [] k t = at_test (t (replicate k 0)) ∙ sym (ones k t)
   where
-    at_test : (b : Bool) → length (cond b ([] ∷ []) []) ≡ (if b then 1 else 0)
+    none_there : List (List ℕ)
+    none_there = []
+
+    at_test : (b : Bool) → length (cond b ([] ∷ none_there) none_there) ≡ (if b then 1 else 0)
     at_test true = refl
     at_test false = refl
 counted_cells (e ∷ es) k t =

@@ -44,13 +44,15 @@ use Rattle.xmp_nodes.specs.Reflecting.{reflect_ways, reflect_pairs, row_at, refl
 use Rattle.xmp_nodes.proofs.Agrees.{Stand, Agrees, ReadyAt, Ready, at_main, AllAlong, AllFollow, IsNext}
 use Rattle.xmp_nodes.proofs.Standing.{IsGlobal, PartFits}
 use Rattle.xmp_nodes.proofs.Leaves.{ReflectsFollow}
+use Rattle.xmp_nodes.proofs.PlainParts.{plain_stands}
 use Rattle.xmp_nodes.proofs.Each.{Alone, there, store_there, store_is}
 use Rattle.xmp_nodes.proofs.Saying.{noted_behind, say_and_do}
-use Rattle.xmp_nodes.proofs.AllSteps.{all_then, all_nothing, all_skip, counts_silent, ready_skipped}
+use Rattle.xmp_nodes.proofs.InStep.{ready_paths, way_skipped, way_first, all_pure, all_then, all_paths}
+use Rattle.xmp_nodes.proofs.AllSteps.{counts_silent}
 use Rattle.xmp_nodes.proofs.CastLaws.{cleared, untouched}
 use Rattle.xmp_nodes.proofs.CastLeaf.{noting_one}
 use Rattle.xmp_nodes.proofs.CopiedLaws.{copied_here, copied_other}
-use Rattle.xmp_nodes.proofs.PackedRows.{IsSpreadArray, spread_array, home_there, row_read, set_lengths, set_row_here, set_row_other, IsRowOf, spread_row, whole_row, some_nodes}
+use Rattle.xmp_nodes.proofs.PackedRows.{same_or_other, tell, IsSpreadArray, spread_array, home_there, row_read, set_lengths, set_row_here, set_row_other, IsRowOf, spread_row, whole_row, some_nodes}
 use Rattle.xmp_nodes.proofs.ReflectLaws.{reflected_shows, unpacked_long}
 use Rattle.xmp_nodes.proofs.ReflectCounts.{reflect_counts}
 
@@ -58,20 +60,6 @@ use Rattle.xmp_nodes.proofs.ReflectCounts.{reflect_counts}
 
 abbrev marks : ProgParts → ℕ → List Event
 marks p array = Mark (array_object array) (all_nodes p) 0 ∷ []
-
-abbrev same_or_other : (a b : ℕ) → Type 0
-same_or_other a b = (a ≡ b) ⊎ ((a ≢ b) × ((a == b) ≡ false))
-
-pub tell : (a b : ℕ) → same_or_other a b
-tell a b = at_test (a == b) refl
-  where
-    no : (c : Bool) → c ≡ false → c ≡ true → ⊥
-    no true e f = cc
-    no false e f = cc
-
-    at_test : (c : Bool) → (a == b) ≡ c → same_or_other a b
-    at_test true e = inl (eqb-true a b e)
-    at_test false e = inr ((λ f. no (a == b) e (eq-eqb a b f)), e)
 
 module _ (p : ProgParts) (global : IsGlobal p) (array t : ℕ) (m : ArrayMap) (is_home : home_of p array ≡ home.Spread t m) (k : ℕ) (below : k < node_count p) where
   of_array : IsSpreadArray p array t m
@@ -174,7 +162,7 @@ module _ (p : ProgParts) (global : IsGlobal p) (array t : ℕ) (m : ArrayMap) (i
           ∙ g.shadows b u q cell e i h o
           ∙ sym (copied_other s.extra.exchanges b array (row_major (extents p b) cell) (row_in s.arrays array) other.1)
 
-      current_at : (b u : ℕ) (q : ArrayMap) → home_of p b ≡ home.Spread u q → left k (marks p array) stale (array_object b) ≡ false → _
+      current_at : (b u : ℕ) (q : ArrayMap) → home_of p b ≡ home.Spread u q → left k (marks p array) stale (array_object b) ≡ false → (outermost p).written b ≡ false
           → (number : ℕ) → same_or_other array b → copied (s.extra.exchanges ++ x ∷ []) b number ≡ word_at (row_in s.arrays b) number
       current_at b u q e f w number (inl same) =
           ap (λ a. copied (s.extra.exchanges ++ Reflected a (row_in s.arrays a) ∷ []) b number) same
@@ -189,7 +177,7 @@ note_is : (x : Exchange) (s : State Notes) → note x s ≡ Gave Next (noting_on
 note_is x s = refl
 
 module _ (p : ProgParts) (global : IsGlobal p) (name : Name) where
-  array : ℕ
+  abbrev array : ℕ
   array = name.number
 
   abbrev noted : State Notes → Exchange
@@ -231,7 +219,7 @@ module _ (p : ProgParts) (global : IsGlobal p) (name : Name) where
   other_follows : ((h : Home) → home_of p array ≡ h → (from to : ℕ) (cells : List ℤ) → reflected_words h from to cells ≡ [])
       → ((t : ℕ) (m : ArrayMap) → home_of p array ≡ home.Spread t m → ⊥) → AllFollow p IsNext skip (λ s. note (noted s) s) (pure Next)
   other_follows quiet none rest s w ready =
-      let r = ready_skipped p rest s w ready in
+      let r = ready_paths p (sequence skip rest) rest s w (way_skipped rest) ready in
       record {
         same = refl;
         value = refl;
@@ -329,13 +317,13 @@ module _ (p : ProgParts) (global : IsGlobal p) (name : Name) where
 
 names_follow : (p : ProgParts) → IsGlobal p → (names : List Name) → AllByRecursion (λ a. a < length p.arrays) (map (λ n. n.number) names)
     → AllFollow p IsNext (in_order (map (reflected (outermost p)) names)) (note_arrays names) (reflect_all p names)
-names_follow p global [] h = all_nothing p
+names_follow p global [] h = all_pure p IsNext Next refl
 names_follow p global (a ∷ names) h =
-    all_then p (reflected (outermost p) a) (in_order (map (reflected (outermost p)) names))
+    all_then p IsNext (reflected (outermost p) a) (in_order (map (reflected (outermost p)) names))
     (λ s. note (Reflected a.number (row_in s.arrays a.number)) s) (note_arrays names) (reflect_at p a.number (home_of p a.number)) (reflect_all p names)
     (name_follows p global a h.0) (names_follow p global names h.1)
 
 pub reflects_follow : ReflectsFollow
 reflects_follow p global arrays at fits right =
-    all_skip p (in_order (map (reflected (outermost p)) arrays)) (note_arrays arrays) (reflect_all p arrays)
-    (names_follow p global arrays fits.statements.0.arrays)
+    all_paths p IsNext (in_order (map (reflected (outermost p)) arrays)) (plain_events (plain.Reflect arrays at) (outermost p)) (note_arrays arrays) (reflect_all p arrays) (way_skipped (in_order (map (reflected (outermost p)) arrays)))
+    (names_follow p global arrays (plain_stands p (plain.Reflect arrays at) fits).arrays)

@@ -46,7 +46,7 @@ still_steps s t (Gave a u) q f g e h c =
     let same : s ≡ u = ap state_of (sym e) in
     subst (λ v. (f a v ≡ as_step (came_to (f a v)) s) × (and_then q g ≡ as_step (came_to (f a v)) t)) same
     ((c a).first, ap (λ x. and_then x g) h ∙ (c a).second)
-still_steps s t (Ended d u) q f g e h c = (e, ap (λ x. and_then x g) h)
+still_steps s t (Ended d u) q f g e h c = (ap (λ v. Ended d v) (ap state_of e), ap (λ x. and_then x g) h)
 
 pub still_on : {S T A B : Type 0} (f : RunIn S A) (g : RunIn T A) (f' : A → RunIn S B) (g' : A → RunIn T B) (s : S) (t : T)
     → Still f s g t → ((a : A) → Still (f' a) s (g' a) t) → Still (f >>= f') s (g >>= g') t
