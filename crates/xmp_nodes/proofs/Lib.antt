@@ -33,9 +33,8 @@ pub mod BodiesGo
 pub mod BoundReads
 pub mod JoinedEnds
 pub mod LoopBodies
-pub mod NumberLaws
-pub mod Stillness
 pub mod Totals
 pub mod Turns
 pub mod Below
 pub mod Lockstep
+pub mod Barriers
