@@ -17,3 +17,6 @@ pub mod ReflectLaws
 pub mod InStep
 pub mod SameRuns
 pub mod ReadsMark
+pub mod CellNumbers
+pub mod ElementCells
+pub mod CalledFunctions
