@@ -38,3 +38,6 @@ pub mod Turns
 pub mod Below
 pub mod Lockstep
 pub mod Barriers
+pub mod CellNumbers
+pub mod ElementCells
+pub mod CalledFunctions
