@@ -10,3 +10,11 @@ pub mod CastLaws
 pub mod CopiedLaws
 pub mod ReflectLaws
 pub mod InStep
+pub mod LoopPlans
+pub mod LoopWays
+pub mod Totals
+pub mod Turns
+pub mod JoinedEnds
+pub mod BoundReads
+pub mod BodiesGo
+pub mod LoopBodies
