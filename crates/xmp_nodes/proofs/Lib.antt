@@ -41,3 +41,11 @@ pub mod Barriers
 pub mod CellNumbers
 pub mod ElementCells
 pub mod CalledFunctions
+pub mod LoopPlans
+pub mod LoopWays
+pub mod Totals
+pub mod Turns
+pub mod JoinedEnds
+pub mod BoundReads
+pub mod BodiesGo
+pub mod LoopBodies
