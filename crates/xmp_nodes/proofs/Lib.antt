@@ -43,9 +43,3 @@ pub mod ElementCells
 pub mod CalledFunctions
 pub mod LoopPlans
 pub mod LoopWays
-pub mod Totals
-pub mod Turns
-pub mod JoinedEnds
-pub mod BoundReads
-pub mod BodiesGo
-pub mod LoopBodies
