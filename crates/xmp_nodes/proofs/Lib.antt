@@ -43,3 +43,4 @@ pub mod ElementCells
 pub mod CalledFunctions
 pub mod LoopPlans
 pub mod LoopWays
+pub mod MainBody

@@ -77,7 +77,6 @@ pub record IsLoopSetting (a : Stand) (d : LoopDirective) : Type 0 where
   pub small : list_all is_small_point d.points ≡ true
   pub indices : AllByRecursion (λ slot. a.set.roles slot ≡ Index) (points_indices d)
   pub ints : AllByRecursion (λ slot. scalar_type a.program slot ≡ Int) (points_indices d)
-  pub ints : AllByRecursion (λ slot. scalar_type a.program slot ≡ Int) (points_indices d)
   pub copies : (array : ℕ) → home_of a.program array ≡ home.Copy → a.set.written array ≡ false
 
 -- a setting of the program: the body of main, a task, or a loop directive
