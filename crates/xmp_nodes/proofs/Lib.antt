@@ -44,3 +44,4 @@ pub mod CalledFunctions
 pub mod LoopPlans
 pub mod LoopWays
 pub mod MainBody
+pub mod Starts
