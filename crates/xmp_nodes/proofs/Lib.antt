@@ -20,3 +20,4 @@ pub mod ReadsMark
 pub mod CellNumbers
 pub mod ElementCells
 pub mod CalledFunctions
+pub mod NodeExpressions
