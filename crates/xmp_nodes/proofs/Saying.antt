@@ -28,7 +28,7 @@ SaidAsNoted p said x = (from to : ℕ) → from < node_count p → to < node_cou
 raised_from : (more : ℕ → ℕ) (a : ℕ) (ns : List ℕ) (k n : ℕ) → slice_get (raised_by more a ns) k ≡ Some n
     → (m : ℕ) × (slice_get ns k ≡ Some m) × (n ≡ m + more (a + k))
 raised_from more a [] k n e = absurd (none-some n e)
-raised_from more a (m ∷ ns) zero n e = (m, refl, sym (same_Some (m + more a) n e))
+raised_from more a (m ∷ ns) zero n e = let z : a ≡ a + 0 = omega arith in (m, refl, sym (same_Some (m + more a) n e) ∙ ap (λ j. m + more j) z)
 raised_from more a (m ∷ ns) (suc k) n e =
     let r = raised_from more (suc a) ns k n e in
     let shift : suc a + k ≡ a + suc k = omega arith in
@@ -37,7 +37,7 @@ raised_from more a (m ∷ ns) (suc k) n e =
 raised_rows : (more : ℕ → ℕ → ℕ) (a : ℕ) (rows : List (List ℕ)) (k : ℕ) (row : List ℕ) → slice_get (rows_raised more a rows) k ≡ Some row
     → (before : List ℕ) × (slice_get rows k ≡ Some before) × (row ≡ raised_by (more (a + k)) 0 before)
 raised_rows more a [] k row e = absurd (none-some row e)
-raised_rows more a (r ∷ rows) zero row e = (r, refl, sym (same_Some (raised_by (more a) 0 r) row e))
+raised_rows more a (r ∷ rows) zero row e = let z : a ≡ a + 0 = omega arith in (r, refl, sym (same_Some (raised_by (more a) 0 r) row e) ∙ ap (λ j. raised_by (more j) 0 r) z)
 raised_rows more a (r ∷ rows) (suc k) row e =
     let i = raised_rows more (suc a) rows k row e in
     let shift : suc a + k ≡ a + suc k = omega arith in
