@@ -44,3 +44,5 @@ pub mod CalledFunctions
 pub mod NodeExpressions
 pub mod LoopPlans
 pub mod LoopWays
+pub mod NodeReads
+pub mod ExpressionsCarried

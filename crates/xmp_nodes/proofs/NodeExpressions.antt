@@ -104,7 +104,7 @@ terms_fit p (t ∷ ts) h =
     }
 
 -- an element by its parts
-access_terms : (p : ProgParts) (array : ℕ) (es : List Expr) (image : Option Expr) (at : Place) → terms_of_access p (record { array = array; subscripts = es; image = image; at = at })
+pub access_terms : (p : ProgParts) (array : ℕ) (es : List Expr) (image : Option Expr) (at : Place) → terms_of_access p (record { array = array; subscripts = es; image = image; at = at })
     ≡ Element (record { array = array; subscripts = map (λ e. e.ty) (map (typed p) es); image = option_map (λ e. e.ty) (option_map (typed p) image); at = at })
     ∷ (flat_map (λ e. e.terms) (map (typed p) es) ++ image_terms (option_map (typed p) image))
 access_terms p array es None at = ap (λ (t : Typed). t.terms) (fold-roll-Access Typed Typed (typed_step p) (access_step p) (record { array = array; subscripts = es; image = None; at = at }))
@@ -118,7 +118,7 @@ spot_parts known array es None at =
 spot_parts known array es (Some x) at =
     ap (λ (e : SeenElement). e.spot) (fold-roll-Access Seen SeenElement (seen_step known) seen_element (record { array = array; subscripts = es; image = Some x; at = at }))
 
-spot_is : (known : ℕ → Option ℤ) (a : Access) → (seen_access known a).spot ≡ record { array = a.array; subscripts = map (λ e. e.value) (map (seen known) a.subscripts); own = is_none a.image }
+pub spot_is : (known : ℕ → Option ℤ) (a : Access) → (seen_access known a).spot ≡ record { array = a.array; subscripts = map (λ e. e.value) (map (seen known) a.subscripts); own = is_none a.image }
 spot_is known a = spot_parts known a.array a.subscripts a.image a.at
 
 -- ---- scalars
@@ -152,7 +152,7 @@ module _ (a : Stand) (is : IsSetting a) (there : has a.set.nodes a.node ≡ true
   abbrev p : ProgParts
   p = a.program
 
-  all_there : has (all_nodes a.program) a.node ≡ true
+  pub all_there : has (all_nodes a.program) a.node ≡ true
   all_there = all_have a.program a.node is.below
 
   abbrev couple : Couple
@@ -172,7 +172,7 @@ module _ (a : Stand) (is : IsSetting a) (there : has a.set.nodes a.node ≡ true
   grid_of : (array t : ℕ) (m : ArrayMap) → slice_get p.templates t ≡ Some m.template → held.node_count m ≡ node_count p
   grid_of array t m e = ap (λ g. product g.sizes) (item_of (λ t. t.grid ≡ p.grid) p.templates t m.template is.global.fits.mappings.templates e)
 
-  template_of : (array t : ℕ) (m : ArrayMap) → home_of p array ≡ home.Spread t m → slice_get p.templates t ≡ Some m.template
+  pub template_of : (array t : ℕ) (m : ArrayMap) → home_of p array ≡ home.Spread t m → slice_get p.templates t ≡ Some m.template
   template_of array t m e = of_slice (slice_get p.arrays array) refl
     where
       of_home : (r : Array) (h : Home) → r.home ≡ h → h ≡ home.Spread t m → HomeFits p r r.home → slice_get p.templates t ≡ Some m.template
@@ -241,5 +241,5 @@ module _ (a : Stand) (is : IsSetting a) (there : has a.set.nodes a.node ≡ true
       };
     }
 
-    begins : Beside (agreed a stale) s n
+    pub begins : Beside (agreed a stale) s n
     begins = record { serial = refl; own = refl; steps = sym g.steps; same = agreed_same a stale s n g }
