@@ -41,7 +41,10 @@ pub mod Barriers
 pub mod CellNumbers
 pub mod ElementCells
 pub mod CalledFunctions
+pub mod NodeExpressions
 pub mod LoopPlans
 pub mod LoopWays
 pub mod MainBody
 pub mod Starts
+pub mod NodeReads
+pub mod ExpressionsCarried
