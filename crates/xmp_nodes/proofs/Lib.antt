@@ -18,3 +18,7 @@ pub mod JoinedEnds
 pub mod BoundReads
 pub mod BodiesGo
 pub mod LoopBodies
+pub mod LoopOwn
+pub mod LoopFacts
+pub mod LoopTurns
+pub mod TurnSteps

@@ -32,7 +32,7 @@ use Rattle.xmp_nodes.proofs.Turns.{Owner, there_set}
 
 -- ---- the point of a tuple
 
-value_at : (slots : List ℕ) (vs xs : List ℤ) (slot : ℕ) → Apart slots → length vs ≡ length slots
+pub value_at : (slots : List ℕ) (vs xs : List ℤ) (slot : ℕ) → Apart slots → length vs ≡ length slots
     → AllByRecursion (λ i. is_some (slice_get xs i) ≡ true) slots → is_in slots slot ≡ true
     → unwrap_or (slice_get (set_where slots (map Some vs) xs) slot) (pos 0) ≡ value_in slots vs slot
 value_at [] vs xs slot f l there e = absurd (true≢false (sym e))
