@@ -1,5 +1,5 @@
 -- What every node does by itself, node by node.
-use Rattle.std.proofs.Common.{◌≡◌, ◌<◌, ◌+◌, ◌++◌, ◌==◌, if◌then◌else◌, ℕ, zero, suc, List, [], ◌∷◌, map, length, Option, Some, None, option_map, refl, sym, ap, subst, ◌∙◌, arith, suc-add, zero-add}
+use Rattle.std.proofs.Common.{◌≡◌, ◌<◌, ◌+◌, ◌++◌, ◌==◌, if◌then◌else◌, ℕ, zero, suc, List, [], ◌∷◌, map, length, Option, Some, None, option_map, refl, sym, ap, subst, ◌∙◌, arith, zero-add}
 use Rattle.std.specs.Prelude.{slice_get, unwrap_or, replicate}
 use Rattle.std.specs.List.{range_with_len}
 use Rattle.std.proofs.lemmas.Option.{slice_get-map, slice_get_within, slice_get-get_or, none-some, same_Some}
@@ -11,7 +11,7 @@ use Rattle.xmp_meaning.specs.Runs.{State, StepIn, Step, Gave, Ended, RunIn, Run,
 use Rattle.xmp_meaning.specs.Messages.{Message, words_sent}
 use Rattle.xmp_meaning.specs.Traffic.{node_beginning}
 use Rattle.xmp_meaning_laws.specs.Agreement.{StepsMeet}
-use Rattle.xmp_nodes.specs.Nodes.{Nodes, nodes_beginning, store_at, each_does, led, with_steps, all_do, raised_by, rows_raised, saying, say}
+use Rattle.xmp_nodes.specs.Nodes.{bounded, Nodes, nodes_beginning, store_at, each_does, led, with_steps, all_do, raised_by, rows_raised, saying, say}
 use Rattle.xmp_nodes.specs.Parts.{own_tuples, own_turns}
 use Rattle.xmp_nodes.specs.Tasks.{with_texts}
 
@@ -19,6 +19,12 @@ abbrev pub Alone : Type 0
 Alone = State (Unit {0})
 
 -- ---- lists by their numbers
+
+none_more : (a : ℕ) → a ≡ a + 0
+none_more a = omega arith
+
+next_on : (a k : ℕ) → suc a + k ≡ a + suc k
+next_on a k = omega arith
 
 pub mapped_at : {A B : Type 0} (f : A → B) (xs : List A) (k : ℕ) (y : B) → slice_get (map f xs) k ≡ Some y
     → (x : A) × (slice_get xs k ≡ Some x) × (y ≡ f x)
@@ -38,8 +44,8 @@ there (x ∷ xs) (suc k) h = there xs k (omega (arith, h))
 -- a range's number in its place
 pub range_at : (a n k : ℕ) → k < n → slice_get (range_with_len a n) k ≡ Some (a + k)
 range_at a zero k h = absurd (omega (arith, h))
-range_at a (suc n) zero h = refl
-range_at a (suc n) (suc k) h = range_at (a + 1) n k (omega (arith, h)) ∙ ap Some (omega arith)
+range_at a (suc n) zero h = ap Some (let e : a ≡ a + 0 = omega arith in e)
+range_at a (suc n) (suc k) h = range_at (a + 1) n k (omega (arith, h)) ∙ ap Some (let e : a + 1 + k ≡ a + suc k = omega arith in e)
 
 pub ranged_at : {A : Type 0} (f : ℕ → A) (n k : ℕ) → k < n → slice_get (map f (range_with_len 0 n)) k ≡ Some (f k)
 ranged_at f n k h = at_mapped f (range_with_len 0 n) k (0 + k) (range_at 0 n k h) ∙ ap (λ j. Some (f j)) (zero-add k)
@@ -53,8 +59,8 @@ module _ {A : Type 0} (run : ℕ → Run (Unit {0}) A) where
 
   each_from : (node : ℕ) (ss : List Alone) (k : ℕ) → slice_get (each_does run node ss) k ≡ option_map (run (node + k)) (slice_get ss k)
   each_from node [] k = refl
-  each_from node (s ∷ ss) zero = refl
-  each_from node (s ∷ ss) (suc k) = each_from (suc node) ss k ∙ ap (λ n. option_map (run n) (slice_get ss k)) (suc-add node k)
+  each_from node (s ∷ ss) zero = ap (λ n. Some (run n s)) (none_more node)
+  each_from node (s ∷ ss) (suc k) = each_from (suc node) ss k ∙ ap (λ n. option_map (run n) (slice_get ss k)) (next_on node k)
 
   -- the step of a node is its run from its own state
   pub each_is : (ss : List Alone) (k : ℕ) → slice_get (each_does run 0 ss) k ≡ option_map (run k) (slice_get ss k)
@@ -163,13 +169,13 @@ module _ {S A : Type 0} (E : ℕ → S → Alone → Type 0) (Q : ℕ → A → 
 
 -- ---- counts
 
-pub raised_at : (more : ℕ → ℕ) (ns : List ℕ) (k n : ℕ) → slice_get ns k ≡ Some n → slice_get (raised_by more 0 ns) k ≡ Some (n + more k)
-raised_at more ns k n e = from 0 ns k ∙ ap (λ (o : Option ℕ). option_map (λ m. m + more (0 + k)) o) e ∙ ap (λ j. Some (n + more j)) (zero-add k)
+pub raised_at : (more : ℕ → ℕ) (ns : List ℕ) (k n : ℕ) → slice_get ns k ≡ Some n → slice_get (raised_by more 0 ns) k ≡ Some (bounded (n + more k))
+raised_at more ns k n e = from 0 ns k ∙ ap (λ (o : Option ℕ). option_map (λ m. bounded (m + more (0 + k))) o) e ∙ ap (λ j. Some (bounded (n + more j))) (zero-add k)
   where
-    from : (a : ℕ) (ns : List ℕ) (k : ℕ) → slice_get (raised_by more a ns) k ≡ option_map (λ m. m + more (a + k)) (slice_get ns k)
+    from : (a : ℕ) (ns : List ℕ) (k : ℕ) → slice_get (raised_by more a ns) k ≡ option_map (λ m. bounded (m + more (a + k))) (slice_get ns k)
     from a [] k = refl
-    from a (n ∷ ns) zero = refl
-    from a (n ∷ ns) (suc k) = from (suc a) ns k ∙ ap (λ j. option_map (λ m. m + more j) (slice_get ns k)) (suc-add a k)
+    from a (n ∷ ns) zero = ap (λ j. Some (bounded (n + more j))) (none_more a)
+    from a (n ∷ ns) (suc k) = from (suc a) ns k ∙ ap (λ j. option_map (λ m. bounded (m + more j)) (slice_get ns k)) (next_on a k)
 
 pub raised_length : (more : ℕ → ℕ) (a : ℕ) (ns : List ℕ) → length (raised_by more a ns) ≡ length ns
 raised_length more a [] = refl
@@ -181,8 +187,8 @@ rows_at more rows k row e = from 0 rows k ∙ ap (λ (o : Option (List ℕ)). op
   where
     from : (a : ℕ) (rows : List (List ℕ)) (k : ℕ) → slice_get (rows_raised more a rows) k ≡ option_map (λ r. raised_by (more (a + k)) 0 r) (slice_get rows k)
     from a [] k = refl
-    from a (r ∷ rows) zero = refl
-    from a (r ∷ rows) (suc k) = from (suc a) rows k ∙ ap (λ j. option_map (λ r. raised_by (more j) 0 r) (slice_get rows k)) (suc-add a k)
+    from a (r ∷ rows) zero = ap (λ j. Some (raised_by (more j) 0 r)) (none_more a)
+    from a (r ∷ rows) (suc k) = from (suc a) rows k ∙ ap (λ j. option_map (λ r. raised_by (more j) 0 r) (slice_get rows k)) (next_on a k)
 
 pub rows_length : (more : ℕ → ℕ → ℕ) (a : ℕ) (rows : List (List ℕ)) → length (rows_raised more a rows) ≡ length rows
 rows_length more a [] = refl
@@ -190,7 +196,7 @@ rows_length more a (r ∷ rows) = ap suc (rows_length more (suc a) rows)
 
 -- the words from one node to another, once these messages are sent
 pub said_at : (said : ℕ → ℕ → Message) (w : Nodes) (from to n : ℕ) (row : List ℕ) → slice_get w.sent from ≡ Some row → slice_get row to ≡ Some n
-    → (after : List ℕ) × (slice_get (saying said w).sent from ≡ Some after) × (slice_get after to ≡ Some (n + (if from == to then 0 else words_sent (said from to))))
+    → (after : List ℕ) × (slice_get (saying said w).sent from ≡ Some after) × (slice_get after to ≡ Some (bounded (n + (if from == to then 0 else words_sent (said from to)))))
 said_at said w from to n row e f = (
   raised_by (λ j. if from == j then 0 else words_sent (said from j)) 0 row,
   rows_at (λ i j. if i == j then 0 else words_sent (said i j)) w.sent from row e,
@@ -203,8 +209,8 @@ turns_at p d ss k s e = from 0 ss k ∙ ap (λ (o : Option Alone). option_map (�
   where
     from : (a : ℕ) (ss : List Alone) (k : ℕ) → slice_get (own_turns p d a ss) k ≡ option_map (λ t. length (own_tuples p d (a + k) t)) (slice_get ss k)
     from a [] k = refl
-    from a (s ∷ ss) zero = refl
-    from a (s ∷ ss) (suc k) = from (suc a) ss k ∙ ap (λ j. option_map (λ t. length (own_tuples p d j t)) (slice_get ss k)) (suc-add a k)
+    from a (s ∷ ss) zero = ap (λ j. Some (length (own_tuples p d j s))) (none_more a)
+    from a (s ∷ ss) (suc k) = from (suc a) ss k ∙ ap (λ j. option_map (λ t. length (own_tuples p d j t)) (slice_get ss k)) (next_on a k)
 
 -- ---- texts
 
@@ -222,9 +228,9 @@ texts_from : (text : List ℕ) (node : ℕ) (before after : List Alone) (k : ℕ
 texts_from text node [] after k b s e f = absurd (none-some b e)
 texts_from text node (c ∷ before) [] k b s e f = absurd (none-some s f)
 texts_from text node (c ∷ before) (t ∷ after) zero b s e f =
-    ap Some (λ i. with_text text node (same_Some c b e i) (same_Some t s f i))
+    ap Some (λ i. with_text text (none_more node i) (same_Some c b e i) (same_Some t s f i))
 texts_from text node (c ∷ before) (t ∷ after) (suc k) b s e f =
-    texts_from text (suc node) before after k b s e f ∙ ap (λ j. Some (with_text text j b s)) (suc-add node k)
+    texts_from text (suc node) before after k b s e f ∙ ap (λ j. Some (with_text text j b s)) (next_on node k)
 
 pub texts_at : (text : List ℕ) (before after : List Alone) (k : ℕ) (b s : Alone) → slice_get before k ≡ Some b → slice_get after k ≡ Some s
     → slice_get (with_texts text 0 before after) k ≡ Some (with_text text k b s)

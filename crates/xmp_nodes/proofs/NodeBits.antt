@@ -20,7 +20,7 @@ use Rattle.xmp_loops.specs.Objects.{bits_where, is_in_set, nodes_in, is_in_grid,
 
 -- ---- bits
 
-as_number : Bool → ℕ
+abbrev as_number : Bool → ℕ
 as_number true = 1
 as_number false = 0
 
@@ -46,12 +46,14 @@ one_bit : (b : Bool) → (bit_at (as_number b) 0 == 1) ≡ b
 one_bit true = refl
 one_bit false = refl
 
-pub has_where : (test : ℕ → Bool) (n k : ℕ) → k < n → has (bits_where test n) k ≡ test k
-has_where test zero k h = absurd (omega (arith, h))
-has_where test (suc n) k h = at_last (k == n) refl
+last_bit : (test : ℕ → Bool) (n k : ℕ) → k < suc n → (k < n → has (bits_where test n) k ≡ test k) → has (bits_where test (suc n)) k ≡ test k
+last_bit test n k h before = at_last (k == n) refl
   where
     whole : has (bits_where test (suc n)) k ≡ (bit_at (as_number (test n) * 2 ^ n + bits_where test n) k == 1)
     whole = ap (λ m. bit_at m k == 1) (bit_is (test n) n (bits_where test n))
+
+    below : (k n : ℕ) → k < suc n → (k == n) ≡ false → k < n
+    below k n h e = grind (arith, nat_tests)
 
     at_last : (b : Bool) → (k == n) ≡ b → has (bits_where test (suc n)) k ≡ test k
     at_last true e =
@@ -66,10 +68,11 @@ has_where test (suc n) k h = at_last (k == n) refl
         let less : k < n = below k n h e in
         whole
         ∙ ap (λ m. m == 1) (bit_at_cat_low (as_number (test n)) n (bits_where test n) k less)
-        ∙ has_where test n k less
-      where
-        below : (k n : ℕ) → k < suc n → (k == n) ≡ false → k < n
-        below k n h e = grind (arith, nat_tests)
+        ∙ before less
+
+pub has_where : (test : ℕ → Bool) (n k : ℕ) → k < n → has (bits_where test n) k ≡ test k
+has_where test zero k h = absurd (omega (arith, h))
+has_where test (suc n) k h = last_bit test n k h (λ less. has_where test n k less)
 
 -- ---- a program's nodes
 
@@ -129,24 +132,29 @@ leader_has p set h =
 
 -- ---- sets that share no node
 
+first_test : (a b : Bool) → (a && b) ≡ true → a ≡ true
+first_test true b h = refl
+first_test false b h = h
+
+rest_test : (a b : Bool) → (a && b) ≡ true → b ≡ true
+rest_test true b h = h
+rest_test false b h = cc
+
+above : (k a : ℕ) → a ≤ k → (k == a) ≡ false → a + 1 ≤ k
+above k a le e = grind (arith, nat_tests)
+
+at_or_behind : (test : ℕ → Bool) (a k : ℕ) → a ≤ k → test a ≡ true → (a + 1 ≤ k → test k ≡ true) → test k ≡ true
+at_or_behind test a k le first behind = at_first (k == a) refl
+  where
+    at_first : (b : Bool) → (k == a) ≡ b → test k ≡ true
+    at_first true e = ap test (eqb-true k a e) ∙ first
+    at_first false e = behind (above k a le e)
+
 apart_at : (test : ℕ → Bool) (a n k : ℕ) → list_all test (range_with_len a n) ≡ true → a ≤ k → k < a + n → test k ≡ true
 apart_at test a zero k h le lt = absurd (omega (arith, le, lt))
-apart_at test a (suc n) k h le lt = at_first (k == a) refl
-  where
-    first : (a b : Bool) → (a && b) ≡ true → a ≡ true
-    first true b h = refl
-    first false b h = h
-
-    rest : (a b : Bool) → (a && b) ≡ true → b ≡ true
-    rest true b h = h
-    rest false b h = cc
-
-    above : (k a : ℕ) → a ≤ k → (k == a) ≡ false → a + 1 ≤ k
-    above k a le e = grind (arith, nat_tests)
-
-    at_first : (b : Bool) → (k == a) ≡ b → test k ≡ true
-    at_first true e = ap test (eqb-true k a e) ∙ first (test a) (list_all test (range_with_len (a + 1) n)) h
-    at_first false e = apart_at test (a + 1) n k (rest (test a) (list_all test (range_with_len (a + 1) n)) h) (above k a le e) (omega (arith, lt))
+apart_at test a (suc n) k h le lt =
+    at_or_behind test a k le (first_test (test a) (list_all test (range_with_len (a + 1) n)) h)
+    (λ more. apart_at test (a + 1) n k (rest_test (test a) (list_all test (range_with_len (a + 1) n)) h) more (omega (arith, lt)))
 
 -- a node of one is none of the other
 pub apart_sets : (p : ProgParts) (a b : NodeSet) (k : ℕ) → sets_apart p.grid a b ≡ true → k < node_count p → has_node p.grid a k ≡ true → has_node p.grid b k ≡ false

@@ -4,6 +4,8 @@ use Rattle.std.specs.Prelude.{slice_get, slice_set, unwrap_or}
 use Rattle.std.proofs.lemmas.Option.{unwrap_or-slice_get, none-some, same_Some}
 use Rattle.std.proofs.lemmas.List.{set-set}
 use Rattle.xmp_num.specs.Arithmetic.{wrap}
+use Rattle.xmp_prog.specs.declared.statements.Name.{Name}
+use Rattle.xmp_prog.specs.declared.statements.Part.{Part}
 use Rattle.xmp_prog.specs.declared.statements.MoveSide.{MoveSide}
 use Rattle.xmp_prog.specs.declared.statements.MoveSide.TheVariants as side
 use Rattle.xmp_meaning.specs.declared.ends.Flow.{Flow}
@@ -104,7 +106,7 @@ row_is rows a row e = ap (λ o. unwrap_or o []) e
 
 module _ {X : Type 0} (h : Handlers X) (plainly : Plainly h) (cx : Context) where
   -- the values into the cells of an array, one after the other
-  pub stores_array : (name : _) (parts : _) (ns : List ℕ) (vs : List ℤ) (s : State X) (row : List ℤ) → slice_get s.arrays name.number ≡ Some row
+  pub stores_array : (name : Name) (parts : List Part) (ns : List ℕ) (vs : List ℤ) (s : State X) (row : List ℤ) → slice_get s.arrays name.number ≡ Some row
       → store_all h cx (side.Array name parts) ns vs s
       ≡ Gave Next (with_words (side.Array name parts) (write_all row ns (map (wrap (type_of_side cx.program (side.Array name parts))) vs)) s)
   unfolding write_all
@@ -121,6 +123,6 @@ module _ {X : Type 0} (h : Handlers X) (plainly : Plainly h) (cx : Context) wher
       (set-set s.arrays a (slice_set row n w) (write_all (slice_set row n w) ns (map (wrap (type_of_side cx.program (side.Array name parts))) vs)))
 
   -- the value into a scalar
-  pub stores_scalar : (name : _) (v : ℤ) (s : State X)
+  pub stores_scalar : (name : Name) (v : ℤ) (s : State X)
       → store_all h cx (side.Scalar name) (0 ∷ []) (v ∷ []) s ≡ Gave Next (with_words (side.Scalar name) (wrap (type_of_side cx.program (side.Scalar name)) v ∷ []) s)
   stores_scalar name v s = refl
