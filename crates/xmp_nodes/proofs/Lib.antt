@@ -35,6 +35,10 @@ pub mod JoinedEnds
 pub mod LoopBodies
 pub mod Totals
 pub mod Turns
+pub mod LoopOwn
+pub mod LoopFacts
+pub mod LoopTurns
+pub mod TurnSteps
 pub mod Below
 pub mod Lockstep
 pub mod Barriers
