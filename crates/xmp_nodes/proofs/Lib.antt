@@ -52,3 +52,4 @@ pub mod MainBody
 pub mod Starts
 pub mod NodeReads
 pub mod ExpressionsCarried
+pub mod Beginning
