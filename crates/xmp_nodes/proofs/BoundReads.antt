@@ -86,7 +86,7 @@ IsRead Index stale slot = Unit {0}
 IsRead (Reduced op) stale slot = ⊥
 IsRead Own stale slot = stale (scalar_object slot) ≡ false
 
-not_true : (b : Bool) → (b ≡ true → ⊥) → b ≡ false
+pub not_true : (b : Bool) → (b ≡ true → ⊥) → b ≡ false
 not_true true h = absurd (h refl)
 not_true false h = refl
 

@@ -61,7 +61,7 @@ way_skip a way w = record { front = way; back = []; whole = sym (append-nil way)
 repeated_ways : (a b : Plan Event) → ((way : List Event) → Path a way → Path b way) → (n : ℕ) (way : List Event) → Repeated (Path a) n way → Repeated (Path b) n way
 repeated_ways a b h zero way w = w
 repeated_ways a b h (suc n) way w =
-    record { front = w.front; back = w.back; whole = w.whole; in_front = repeated_ways a b h n w.front w.in_front; in_back = h w.back w.in_back }
+    record { front = w.front; back = w.back; whole = w.whole; in_front = h w.front w.in_front; in_back = repeated_ways a b h n w.back w.in_back }
 
 pub way_loop : (a b : Plan Event) → ((way : List Event) → Path a way → Path b way) → (way : List Event) → Path (loop a) way → Path (loop b) way
 way_loop a b h way w = (w.0, repeated_ways a b h w.0 way w.1)

@@ -33,7 +33,8 @@ use Rattle.xmp_flow.specs.LoopEvents.{loop_events}
 use Rattle.xmp_flow.specs.Statements.{events_of}
 use Rattle.xmp_flow.specs.Program.{outermost}
 use Rattle.xmp_meaning.specs.declared.ends.Flow.{Flow}
-use Rattle.xmp_meaning.specs.Runs.{Run, RunIn}
+use Rattle.xmp_meaning.specs.declared.ends.Flow.TheVariants.{Next}
+use Rattle.xmp_meaning.specs.Runs.{Run, RunIn, pure}
 use Rattle.xmp_meaning.specs.Context.{Context}
 use Rattle.xmp_meaning.specs.Handlers.{TaskRun, erased}
 use Rattle.xmp_meaning.specs.Expressions.{expr_of}
@@ -178,6 +179,10 @@ abbrev pub CastsFollow : Type 0
 CastsFollow = (p : ProgParts) → IsGlobal p → (variables : List Name) (from : NodeSet) (at : Place) → PartFits p (stmt.Plain (plain.Cast variables from at))
     → NothingWrong (plain_events (plain.Cast variables from at) (outermost p))
     → AllFollow p IsNext (plain_events (plain.Cast variables from at) (outermost p)) ((traced p).bcast variables from) (cast_all p variables from)
+
+abbrev pub BarriersFollow : Type 0
+BarriersFollow = (p : ProgParts) → IsGlobal p → (at : Place)
+    → AllFollow p IsNext (plain_events (plain.Barrier at) (outermost p)) (traced p).barrier (pure Next)
 
 abbrev pub ReflectsFollow : Type 0
 ReflectsFollow = (p : ProgParts) → IsGlobal p → (arrays : List Name) (at : Place) → PartFits p (stmt.Plain (plain.Reflect arrays at))

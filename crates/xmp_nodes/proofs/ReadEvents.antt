@@ -21,6 +21,7 @@ use Rattle.xmp_flow.specs.Elements.{element_read}
 use Rattle.xmp_flow.specs.Reads as flow
 use Rattle.xmp_flow.specs.Reads.{Reading, reading_step, element_step, reading, element, reads_of, reads_of_all, subscript_reads}
 use Rattle.xmp_flow.proofs.ReadLaws.{access-told}
+use Rattle.xmp_meaning_laws.specs.Laws.{calls_pass}
 use Rattle.xmp_meaning_laws.specs.Agreement.{Spot, Seen, SeenElement, seen_step, seen_element, seen, seen_access}
 use Rattle.xmp_meaning_laws.proofs.Conditions.{all_apart}
 use Rattle.xmp_meaning_laws.proofs.CountedLoops.{both_true}
@@ -33,6 +34,9 @@ terms_first test xs ys e = and_left (list_all test xs) (list_all test ys) (sym (
 pub terms_last : (test : Term → Bool) (xs ys : List Term) → list_all test (xs ++ ys) ≡ true → list_all test ys ≡ true
 terms_last test xs ys e = and_right (list_all test xs) (list_all test ys) (sym (list_all-append test xs ys) ∙ e)
 
+terms_together : (test : Term → Bool) (xs ys : List Term) → list_all test xs ≡ true → list_all test ys ≡ true → list_all test (xs ++ ys) ≡ true
+terms_together test xs ys a b = list_all-append test xs ys ∙ both_true (list_all test xs) (list_all test ys) a b
+
 pub slots_together : (test : ℕ → Bool) (xs ys : List ℕ) → list_all test xs ≡ true → list_all test ys ≡ true → list_all test (xs ++ ys) ≡ true
 slots_together test xs ys a b = list_all-append test xs ys ∙ both_true (list_all test xs) (list_all test ys) a b
 
@@ -43,22 +47,23 @@ typed_access p = fold-Access Typed Typed (typed_step p) (access_step p)
 
 module _ (s : Setting) (known : ℕ → Option ℤ) (p : ProgParts) (Q : Event → Type 0) (G : ℕ → Bool) (P : Spot → Type 0) (test : Term → Bool)
     (no_image : (a : Access-F Ty Ty) → test (Element a) ≡ true → is_none a.image ≡ true)
-    (of_scalar : (slot : ℕ) (at : Place) → EachEvent Q (reads_scalar s slot at) → G slot ≡ true)
+    (calls : ℕ → Bool) (of_scalar : (slot : ℕ) (at : Place) → EachEvent Q (reads_scalar s slot at) → G slot ≡ true)
+    (of_call : (function : ℕ) (at : Place) → EachEvent Q (wrong_where (s.inside && s.loops function) 9 at) → calls function ≡ true)
     (of_element : (a : Access) → list_all test (terms_of_access p a) ≡ true → EachEvent Q (element_read s a.array a.subscripts a.at) → P (seen_access known a).spot) where
-  abbrev Named : (slots : List ℕ) → (spots : List Spot) → Type 0
-  Named slots spots = (list_all G slots ≡ true) × AllByRecursion P spots
+  abbrev pub Named : (slots : List ℕ) → (spots : List Spot) → (terms : List Term) → Type 0
+  Named slots spots terms = (list_all G slots ≡ true) × AllByRecursion P spots × (list_all (calls_pass calls) terms ≡ true)
 
-  named_none : Named [] []
-  named_none = (refl, tt)
+  named_none : Named [] [] []
+  named_none = (refl, tt, refl)
 
-  named_both : (a b : List ℕ) (c d : List Spot) → Named a c → Named b d → Named (a ++ b) (c ++ d)
-  named_both a b c d x y = (slots_together G a b x.0 y.0, all_together P c d x.1 y.1)
+  named_both : (a b : List ℕ) (c d : List Spot) (k l : List Term) → Named a c k → Named b d l → Named (a ++ b) (c ++ d) (k ++ l)
+  named_both a b c d k l x y = (slots_together G a b x.0 y.0, all_together P c d x.1 y.1, terms_together (calls_pass calls) k l x.2 y.2)
 
   abbrev ExprBy : Reading → Seen → Typed → Type 0
-  ExprBy r v t = list_all test t.terms ≡ true → EachEvent Q (r.reads s) → Named v.slots v.spots
+  ExprBy r v t = list_all test t.terms ≡ true → EachEvent Q (r.reads s) → Named v.slots v.spots t.terms
 
   abbrev AccessBy : flow.Element → SeenElement → Typed → Type 0
-  AccessBy r v t = list_all test t.terms ≡ true → EachOf Q (r.parts s) → Named v.slots v.spots
+  AccessBy r v t = list_all test t.terms ≡ true → EachOf Q (r.parts s) → Named v.slots v.spots t.terms
 
   abbrev ExprSeen : Expr → Type 0
   ExprSeen e = ExprBy (reading e) (seen known e) (typed p e)
@@ -74,10 +79,10 @@ module _ (s : Setting) (known : ℕ → Option ℤ) (p : ProgParts) (Q : Event �
     all_typed cs = map (typed p) (map f cs)
 
     items : (cs : List C) → list_all test (flat_map (λ e. e.terms) (all_typed cs)) ≡ true → EachOf Q (map (λ e. e.reads s) (map reading (map f cs)))
-        → Named (flat_map (λ e. e.slots) (all_seen cs)) (flat_map (λ e. e.spots) (all_seen cs))
+        → Named (flat_map (λ e. e.slots) (all_seen cs)) (flat_map (λ e. e.spots) (all_seen cs)) (flat_map (λ e. e.terms) (all_typed cs))
     items [] a m = named_none
     items (x ∷ cs) a m =
-        named_both (seen known (f x)).slots (flat_map (λ e. e.slots) (all_seen cs)) (seen known (f x)).spots (flat_map (λ e. e.spots) (all_seen cs))
+        named_both (seen known (f x)).slots (flat_map (λ e. e.slots) (all_seen cs)) (seen known (f x)).spots (flat_map (λ e. e.spots) (all_seen cs)) (typed p (f x)).terms (flat_map (λ e. e.terms) (all_typed cs))
         (j x (terms_first test (typed p (f x)).terms (flat_map (λ e. e.terms) (all_typed cs)) a) m.0)
         (items cs (terms_last test (typed p (f x)).terms (flat_map (λ e. e.terms) (all_typed cs)) a) m.1)
 
@@ -91,47 +96,57 @@ module _ (s : Setting) (known : ℕ → Option ℤ) (p : ProgParts) (Q : Event �
     of_typed y = typed_step p (map-Expr Expr Access Typed Typed (typed p) (typed_access p) (map-Expr C D Expr Access f g y))
 
     two : (e h : C) (q : Plan Event) → list_all test ((typed p (f e)).terms ++ (typed p (f h)).terms) ≡ true → EachEvent Q (reads_of (f e) s) → EachEvent Q (reads_of (f h) s)
-        → Named ((seen known (f e)).slots ++ (seen known (f h)).slots) ((seen known (f e)).spots ++ (seen known (f h)).spots)
+        → Named ((seen known (f e)).slots ++ (seen known (f h)).slots) ((seen known (f e)).spots ++ (seen known (f h)).spots) ((typed p (f e)).terms ++ (typed p (f h)).terms)
     two e h q a m n =
-        named_both (seen known (f e)).slots (seen known (f h)).slots (seen known (f e)).spots (seen known (f h)).spots
+        named_both (seen known (f e)).slots (seen known (f h)).slots (seen known (f e)).spots (seen known (f h)).spots (typed p (f e)).terms (typed p (f h)).terms
         (j e (terms_first test (typed p (f e)).terms (typed p (f h)).terms a) m) (j h (terms_last test (typed p (f e)).terms (typed p (f h)).terms a) n)
 
     expr_step : (y : Expr-F C D) → ExprBy (of_reading y) (of_seen y) (of_typed y)
-    expr_step (Expr-F.Const v ty) a m = named_none
-    expr_step (Expr-F.Scalar slot at) a m = (both_true (G slot) true (of_scalar slot at m) refl, tt)
+    expr_step (Expr-F.Const v ty) a m = (refl, tt, refl)
+    expr_step (Expr-F.Scalar slot at) a m = (both_true (G slot) true (of_scalar slot at m) refl, tt, refl)
     expr_step (Expr-F.Cell e) a m =
         let terms : list_all test (typed_access p (g e)).terms ≡ true = and_right _ (list_all test (typed_access p (g e)).terms) a in
         let parts : _ = all_apart (EachEvent Q) ((element (g e)).parts s) _ (each_ordered Q _ m) in
-        let rest : Named (seen_access known (g e)).slots (seen_access known (g e)).spots = l e terms parts.0 in
+        let rest : Named (seen_access known (g e)).slots (seen_access known (g e)).spots (typed_access p (g e)).terms = l e terms parts.0 in
         (
           rest.0,
           (of_element (g e) terms (subst (λ z. EachEvent Q (element_read s z.array z.subscripts z.at)) (access-told (g e)) parts.1.0), rest.1),
+          rest.2,
         )
     expr_step (Expr-F.Binary op ty e h at) a m =
         let terms : list_all test ((typed p (f e)).terms ++ (typed p (f h)).terms) ≡ true = and_right _ (list_all test ((typed p (f e)).terms ++ (typed p (f h)).terms)) a in
         let parts : _ = each_ordered Q (reads_of (f e) s ∷ reads_of (f h) s ∷ []) m in
-        two e h skip terms parts.0 parts.1.0
+        let both : _ = two e h skip terms parts.0 parts.1.0 in
+        (both.0, both.1, both.2)
     expr_step (Expr-F.Both e h) a m =
         let terms : list_all test ((typed p (f e)).terms ++ (typed p (f h)).terms) ≡ true = and_right _ (list_all test ((typed p (f e)).terms ++ (typed p (f h)).terms)) a in
         let parts : _ = each_ordered Q (reads_of (f e) s ∷ branch (reads_of (f h) s) skip ∷ []) m in
-        two e h skip terms parts.0 (λ x t. parts.1.0 x (inl t))
+        let both : _ = two e h skip terms parts.0 (λ x t. parts.1.0 x (inl t)) in
+        (both.0, both.1, both.2)
     expr_step (Expr-F.Either e h) a m =
         let terms : list_all test ((typed p (f e)).terms ++ (typed p (f h)).terms) ≡ true = and_right _ (list_all test ((typed p (f e)).terms ++ (typed p (f h)).terms)) a in
         let parts : _ = each_ordered Q (reads_of (f e) s ∷ branch (reads_of (f h) s) skip ∷ []) m in
-        two e h skip terms parts.0 (λ x t. parts.1.0 x (inl t))
+        let both : _ = two e h skip terms parts.0 (λ x t. parts.1.0 x (inl t)) in
+        (both.0, both.1, both.2)
     expr_step (Expr-F.Choose e h d) a m =
         let all : List Term = (typed p (f e)).terms ++ ((typed p (f h)).terms ++ (typed p (f d)).terms) in
         let terms : list_all test all ≡ true = and_right _ (list_all test all) a in
         let parts : _ = each_ordered Q (reads_of (f e) s ∷ branch (reads_of (f h) s) (reads_of (f d) s) ∷ []) m in
-        named_both (seen known (f e)).slots _ (seen known (f e)).spots _
-        (j e (terms_first test (typed p (f e)).terms ((typed p (f h)).terms ++ (typed p (f d)).terms) terms) parts.0)
-        (two h d skip (terms_last test (typed p (f e)).terms ((typed p (f h)).terms ++ (typed p (f d)).terms) terms) (λ x t. parts.1.0 x (inl t)) (λ x t. parts.1.0 x (inr t)))
-    expr_step (Expr-F.Convert ty e) a m = j e (and_right _ (list_all test (typed p (f e)).terms) a) m
+        let three : _ = named_both (seen known (f e)).slots ((seen known (f h)).slots ++ (seen known (f d)).slots) (seen known (f e)).spots ((seen known (f h)).spots ++ (seen known (f d)).spots)
+            (typed p (f e)).terms ((typed p (f h)).terms ++ (typed p (f d)).terms)
+            (j e (terms_first test (typed p (f e)).terms ((typed p (f h)).terms ++ (typed p (f d)).terms) terms) parts.0)
+            (two h d skip (terms_last test (typed p (f e)).terms ((typed p (f h)).terms ++ (typed p (f d)).terms) terms) (λ x t. parts.1.0 x (inl t)) (λ x t. parts.1.0 x (inr t))) in
+        (three.0, three.1, three.2)
+    expr_step (Expr-F.Convert ty e) a m =
+        let one : _ = j e (and_right _ (list_all test (typed p (f e)).terms) a) m in
+        (one.0, one.1, one.2)
     expr_step (Expr-F.Call function arguments at) a m =
         let terms : list_all test (flat_map (λ e. e.terms) (all_typed arguments)) ≡ true = and_right _ (list_all test (flat_map (λ e. e.terms) (all_typed arguments))) a in
-        items arguments terms (all_apart (EachEvent Q) (map (λ e. e.reads s) (map reading (map f arguments))) _ (each_ordered Q _ m)).0
-    expr_step Expr-F.Node a m = named_none
-    expr_step Expr-F.Nodes a m = named_none
+        let parts : _ = all_apart (EachEvent Q) (map (λ e. e.reads s) (map reading (map f arguments))) (wrong_where (s.inside && s.loops function) 9 at ∷ []) (each_ordered Q _ m) in
+        let all : _ = items arguments terms parts.0 in
+        (all.0, all.1, both_true (calls function) (list_all (calls_pass calls) (flat_map (λ e. e.terms) (all_typed arguments))) (of_call function at parts.1.0) all.2)
+    expr_step Expr-F.Node a m = (refl, tt, refl)
+    expr_step Expr-F.Nodes a m = (refl, tt, refl)
 
     abbrev of_element_reads : Access-F C D → flow.Element
     of_element_reads y = element_step (map-Access Expr Access Reading flow.Element reading element (map-Access C D Expr Access f g y))
@@ -147,8 +162,9 @@ module _ (s : Setting) (known : ℕ → Option ℤ) (p : ProgParts) (Q : Event �
         (of_seen_element (record { array = array; subscripts = cs; image = image; at = at })) (of_typed_access (record { array = array; subscripts = cs; image = image; at = at }))
     access_parts array cs None at a m =
         let terms : _ = and_right (test (Element _)) (list_all test (flat_map (λ e. e.terms) (all_typed cs) ++ [])) a in
-        named_both (flat_map (λ e. e.slots) (all_seen cs)) [] (flat_map (λ e. e.spots) (all_seen cs)) []
-        (items cs (terms_first test (flat_map (λ e. e.terms) (all_typed cs)) [] terms) m) named_none
+        let all : _ = named_both (flat_map (λ e. e.slots) (all_seen cs)) [] (flat_map (λ e. e.spots) (all_seen cs)) [] (flat_map (λ e. e.terms) (all_typed cs)) []
+            (items cs (terms_first test (flat_map (λ e. e.terms) (all_typed cs)) [] terms) m) named_none in
+        (all.0, all.1, all.2)
     access_parts array cs (Some x) at a m = absurd (true≢false (sym (no_image _ (and_left (test (Element _)) _ a))))
 
     access_step_seen : (y : Access-F C D) → AccessBy (of_element_reads y) (of_seen_element y) (of_typed_access y)

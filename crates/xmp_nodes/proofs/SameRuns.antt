@@ -67,8 +67,8 @@ module _ (p : ProgParts) (cx : Context) where
   noted_each es = λ j. each (map (λ e. noted_expr e j) es) []
 
   noted_assign : (c : Option Compound) (e : Expr) (l : Location) → assign {X = Notes} (traced p) cx c e l ≡ assign erased cx c e l
-  noted_assign None e (location.Scalar slot) = ap (λ (r : Run Notes ℤ). r >>= (λ v. set_scalar slot _ >>= (λ u. pure Next))) (noted_expr e)
-  noted_assign None e (location.Cell array at) = ap (λ (r : Run Notes ℤ). r >>= (λ v. set_cell array at _ >>= (λ u. pure Next))) (noted_expr e)
+  noted_assign None e (location.Scalar slot) = ap (λ (r : Run Notes ℤ). r >>= (λ v. store erased cx (location.Scalar slot) v >>= (λ u. pure Next))) (noted_expr e)
+  noted_assign None e (location.Cell array at) = ap (λ (r : Run Notes ℤ). r >>= (λ v. store erased cx (location.Cell array at) v >>= (λ u. pure Next))) (noted_expr e)
   noted_assign (Some d) e (location.Scalar slot) =
       ap (λ (r : Run Notes ℤ). (scalar slot >>= (λ old. r >>= (λ v. or_trap (binary_of d.op d.ty old v) d.at))) >>= (λ v. store erased cx (location.Scalar slot) v >>= (λ u. pure Next))) (noted_expr e)
   noted_assign (Some d) e (location.Cell array at) =

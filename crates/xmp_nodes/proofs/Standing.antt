@@ -14,7 +14,8 @@ use Rattle.xmp_prog.specs.Fits.{node_count, PartsFit}
 use Rattle.xmp_loops.specs.Objects.{all_nodes}
 use Rattle.xmp_loops.specs.Loopers.{function_loops}
 use Rattle.xmp_loops.specs.declared.role.Role.TheVariants.{Shared, Index}
-use Rattle.xmp_meaning.specs.Declarations.{home_of}
+use Rattle.xmp_meaning.specs.Declarations.{home_of, scalar_type}
+use Rattle.xmp_num.specs.declared.types.Ty.TheVariants.{Int}
 use Rattle.xmp_meaning.specs.Writes.{scalars_written, arrays_written}
 use Rattle.xmp_nodes.specs.Lists.{HasAxes}
 use Rattle.xmp_nodes.proofs.Agrees.{Stand, is_changed}
@@ -75,6 +76,7 @@ pub record IsLoopSetting (a : Stand) (d : LoopDirective) : Type 0 where
   pub distributed : has_indices a.program d ≡ true
   pub small : list_all is_small_point d.points ≡ true
   pub indices : AllByRecursion (λ slot. a.set.roles slot ≡ Index) (points_indices d)
+  pub ints : AllByRecursion (λ slot. scalar_type a.program slot ≡ Int) (points_indices d)
   pub copies : (array : ℕ) → home_of a.program array ≡ home.Copy → a.set.written array ≡ false
 
 -- a setting of the program: the body of main, a task, or a loop directive
