@@ -59,3 +59,4 @@ pub mod Starts
 pub mod NodeReads
 pub mod ExpressionsCarried
 pub mod Beginning
+pub mod TaskSteps
