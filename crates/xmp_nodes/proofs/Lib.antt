@@ -60,3 +60,5 @@ pub mod NodeReads
 pub mod ExpressionsCarried
 pub mod Beginning
 pub mod TaskSteps
+pub mod TaskProgress
+pub mod TaskLeaf
