@@ -53,3 +53,4 @@ pub mod Starts
 pub mod NodeReads
 pub mod ExpressionsCarried
 pub mod Beginning
+pub mod Standings
