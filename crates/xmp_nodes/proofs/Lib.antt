@@ -46,3 +46,5 @@ pub mod LoopPlans
 pub mod LoopWays
 pub mod NodeReads
 pub mod ExpressionsCarried
+pub mod PlainWrites
+pub mod CellWrites
