@@ -54,3 +54,5 @@ pub mod NodeReads
 pub mod ExpressionsCarried
 pub mod Beginning
 pub mod Standings
+pub mod PlainWrites
+pub mod CellWrites
