@@ -62,3 +62,6 @@ pub mod Beginning
 pub mod TaskSteps
 pub mod TaskProgress
 pub mod TaskLeaf
+pub mod Standings
+pub mod PlainWrites
+pub mod CellWrites

@@ -307,6 +307,9 @@ module _ (p : ProgParts) (global : IsGlobal p) (some : 0 < node_count p) (all : 
     small = fits.step.stands.small;
     indices = mapped (λ i. is_in (indices_of d.nest) i ≡ true) (λ slot. role_in d body slot ≡ Index) role_of_index (points_indices d)
         (all_of_test (is_in (indices_of d.nest)) (points_indices d) fits.step.stands.nest_indices);
+    ints = mapped (λ i. is_in (indices_of d.nest) i ≡ true) (λ slot. scalar_type p slot ≡ Int)
+        (λ slot i. one_of_all (λ n. scalar_type p n ≡ Int) (indices_of d.nest) slot indices_int i) (points_indices d)
+        (all_of_test (is_in (indices_of d.nest)) (points_indices d) fits.step.stands.nest_indices);
     copies = copies_unwritten;
   }))
 

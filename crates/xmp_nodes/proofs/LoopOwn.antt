@@ -26,8 +26,9 @@ use Rattle.xmp_meaning_laws.proofs.Nests.{Exists, some_by_length}
 use Rattle.xmp_meaning_laws.proofs.CountedLoops.{set_there}
 use Rattle.xmp_meaning_laws.proofs.Settings.{Apart, where_other, fresh_flipped}
 use Rattle.xmp_meaning_laws.proofs.Owners as owners
-use Rattle.xmp_nodes.specs.Nodes.{raised_by}
+use Rattle.xmp_nodes.specs.Nodes.{bounded, raised_by}
 use Rattle.xmp_nodes.proofs.Each.{there}
+use Rattle.xmp_nodes.proofs.Saying.{bounded_on}
 use Rattle.xmp_nodes.proofs.Turns.{Owner, there_set}
 
 -- ---- the point of a tuple
@@ -104,16 +105,26 @@ module _ (p : ProgParts) (fits : PartsFit p) (d : LoopDirective) (named : names_
 
 -- ---- turns
 
+-- each of a list with what a function adds to it by its number
+abbrev pub added_by : (ℕ → ℕ) → (at : ℕ) → List ℕ → List ℕ
+added_by more at [] = []
+added_by more at (n ∷ ns) = (n + more at) ∷ added_by more (suc at) ns
+
+-- up to the greatest number it is the same
+pub bounded_added : (more : ℕ → ℕ) (a : ℕ) (ns : List ℕ) → raised_by more a (map bounded ns) ≡ map bounded (added_by more a ns)
+bounded_added more a [] = refl
+bounded_added more a (n ∷ ns) = ap (λ m. m ∷ raised_by more (suc a) (map bounded ns)) (bounded_on n (more a)) ∙ ap (λ l. bounded (n + more a) ∷ l) (bounded_added more (suc a) ns)
+
 -- how many of the tuples a node owns
 abbrev pub owned_count : ProgParts → LoopDirective → List (List ℤ) → ℕ → ℕ
 owned_count p d ts node = length (filter (owns_tuple p d node) ts)
 
 -- one turn is counted, and then the others
 raised_first : (test : ℕ → Bool) (more whole : ℕ → ℕ) → ((node : ℕ) → whole node ≡ (if test node then suc (more node) else more node))
-    → (node : ℕ) (ns : List ℕ) → raised_by more node (raised test node ns) ≡ raised_by whole node ns
+    → (node : ℕ) (ns : List ℕ) → added_by more node (raised test node ns) ≡ added_by whole node ns
 raised_first test more whole h node [] = refl
 raised_first test more whole h node (n ∷ ns) =
-    ap (λ m. m ∷ raised_by more (suc node) (raised test (suc node) ns)) (at_test (test node) (h node)) ∙ ap (λ l. (n + whole node) ∷ l) (raised_first test more whole h (suc node) ns)
+    ap (λ m. m ∷ added_by more (suc node) (raised test (suc node) ns)) (at_test (test node) (h node)) ∙ ap (λ l. (n + whole node) ∷ l) (raised_first test more whole h (suc node) ns)
   where
     at_test : (b : Bool) → whole node ≡ (if b then suc (more node) else more node) → (if b then suc n else n) + more node ≡ n + whole node
     at_test true e = let q : suc n + more node ≡ n + suc (more node) = omega arith in q ∙ ap (λ w. n + w) (sym e)
@@ -128,16 +139,16 @@ count_first p d vs ts node = at_test (owns_tuple p d node vs)
     at_test false = refl
 
 pub turn_counted : (p : ProgParts) (d : LoopDirective) (vs : List ℤ) (ts : List (List ℤ)) (ns : List ℕ)
-    → raised_by (owned_count p d ts) 0 (raised (λ node. owns_tuple p d node vs) 0 ns) ≡ raised_by (owned_count p d (vs ∷ ts)) 0 ns
+    → added_by (owned_count p d ts) 0 (raised (λ node. owns_tuple p d node vs) 0 ns) ≡ added_by (owned_count p d (vs ∷ ts)) 0 ns
 turn_counted p d vs ts ns = raised_first (λ node. owns_tuple p d node vs) (owned_count p d ts) (owned_count p d (vs ∷ ts)) (count_first p d vs ts) 0 ns
 
-pub none_counted : (p : ProgParts) (d : LoopDirective) (node : ℕ) (ns : List ℕ) → raised_by (owned_count p d []) node ns ≡ ns
+pub none_counted : (p : ProgParts) (d : LoopDirective) (node : ℕ) (ns : List ℕ) → added_by (owned_count p d []) node ns ≡ ns
 none_counted p d node [] = refl
-none_counted p d node (n ∷ ns) = ap (λ m. m ∷ raised_by (owned_count p d []) (suc node) ns) (let q : n + 0 ≡ n = omega arith in q) ∙ ap (λ l. n ∷ l) (none_counted p d (suc node) ns)
+none_counted p d node (n ∷ ns) = ap (λ m. m ∷ added_by (owned_count p d []) (suc node) ns) (let q : n + 0 ≡ n = omega arith in q) ∙ ap (λ l. n ∷ l) (none_counted p d (suc node) ns)
 
 pub raised_same : (f g : ℕ → ℕ) (a : ℕ) (ns : List ℕ) → ((k : ℕ) → k < length ns → f (a + k) ≡ g (a + k)) → raised_by f a ns ≡ raised_by g a ns
 raised_same f g a [] h = refl
 raised_same f g a (n ∷ ns) h =
     let here : f a ≡ g a = (let z : a ≡ a + 0 = omega arith in ap f z ∙ h 0 (omega arith) ∙ ap g (sym z)) in
-    ap (λ m. (n + m) ∷ raised_by f (suc a) ns) here
-    ∙ ap (λ l. (n + g a) ∷ l) (raised_same f g (suc a) ns (λ k b. let z : suc a + k ≡ a + suc k = omega arith in ap f z ∙ h (suc k) (omega (arith, b)) ∙ ap g (sym z)))
+    ap (λ m. bounded (n + m) ∷ raised_by f (suc a) ns) here
+    ∙ ap (λ l. bounded (n + g a) ∷ l) (raised_same f g (suc a) ns (λ k b. let z : suc a + k ≡ a + suc k = omega arith in ap f z ∙ h (suc k) (omega (arith, b)) ∙ ap g (sym z)))

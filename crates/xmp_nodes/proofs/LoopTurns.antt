@@ -55,7 +55,6 @@ use Rattle.xmp_flow.specs.Setting.{Setting, is_reduced}
 use Rattle.xmp_flow.specs.LoopEvents.{within, loop_events}
 use Rattle.xmp_flow.specs.Statements.{events_of}
 use Rattle.xmp_flow.specs.Program.{outermost}
-use Rattle.xmp_nodes.specs.Nodes.{raised_by}
 use Rattle.xmp_nodes.specs.Lockstep.{lockstep}
 use Rattle.xmp_nodes.proofs.Agrees.{Stand, IsWhole, IsSum, Agrees, TurnLeaves, GoesOn, EndsSo, Along, IsNext, base_at}
 use Rattle.xmp_nodes.proofs.Standing.{IsGlobal, NoReturn}
@@ -65,7 +64,7 @@ use Rattle.xmp_nodes.proofs.NodeBits.{all_have}
 use Rattle.xmp_nodes.proofs.Totals.{total_of, total_in, total_more}
 use Rattle.xmp_nodes.proofs.Turns.{BodyStays, with_state, with_state_here, with_state_else, Owner}
 use Rattle.xmp_nodes.proofs.BodiesGo.{statement_goes}
-use Rattle.xmp_nodes.proofs.LoopOwn.{value_at, owns_at_tuple, owned_count, turn_counted}
+use Rattle.xmp_nodes.proofs.LoopOwn.{value_at, owns_at_tuple, added_by, owned_count, turn_counted}
 use Rattle.xmp_nodes.proofs.LoopFacts.{none_equal, one_of_all, shared_is, index_is, own_is, set, body_nothing, nest_fits, indices_apart, indices_int, role_of_index, copies_unwritten, at_turn, is_setting, writes_fit, one_owner}
 
 -- ---- states at a tuple
@@ -124,7 +123,7 @@ module _ (p : ProgParts) (d : LoopDirective) (body : Stmt) where
     pub each : (k : ℕ) (below : k < node_count p) → Between k (stale k below) s (m k)
     pub sums : (slot : ℕ) (op : RedOp) → role_in d body slot ≡ Reduced op → sum_of op slot m ≡ scalar_in s slot
     pub noted : s.extra.exchanges ≡ xs
-    pub turns : raised_by (owned_count p d left) 0 s.extra.turns ≡ counts
+    pub turns : added_by (owned_count p d left) 0 s.extra.turns ≡ counts
     pub ints : AllByRecursion (AllByRecursion (FitsType Int)) left
 
   -- ---- sums

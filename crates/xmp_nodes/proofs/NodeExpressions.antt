@@ -182,7 +182,7 @@ module _ (a : Stand) (is : IsSetting a) (there : has a.set.nodes a.node ≡ true
       of_slice None i = let bad : home.Copy ≡ home.Spread t m = sym (ap home_of_array i) ∙ e in cc
       of_slice (Some r) i = of_home r r.home refl (sym (ap home_of_array i) ∙ e) (item_of (λ r. HomeFits p r r.home) p.arrays array r is.global.fits.mappings.maps i)
 
-  held_here : (array t : ℕ) (m : ArrayMap) (xs : List ℕ) → home_of p array ≡ home.Spread t m → IsInside xs (extents p array)
+  pub held_here : (array t : ℕ) (m : ArrayMap) (xs : List ℕ) → home_of p array ≡ home.Spread t m → IsInside xs (extents p array)
       → owns_cell (home.Spread t m) a.node xs ≡ true → holds_cell (home.Spread t m) a.node xs ≡ true
   held_here array t m xs e i o =
       owners_hold t m (extents p array) xs a.node (subst IsOfCode e (code p is.global array)) (subst (λ h. MapFits h (extents p array)) e (fits_map p is.global array)) i

@@ -55,7 +55,6 @@ use Rattle.xmp_flow.specs.Setting.{Setting, is_reduced}
 use Rattle.xmp_flow.specs.LoopEvents.{within, loop_events}
 use Rattle.xmp_flow.specs.Statements.{events_of}
 use Rattle.xmp_flow.specs.Program.{outermost}
-use Rattle.xmp_nodes.specs.Nodes.{raised_by}
 use Rattle.xmp_nodes.specs.Lockstep.{lockstep}
 use Rattle.xmp_nodes.proofs.Agrees.{Stand, IsWhole, IsSum, Agrees, is_changed, TurnLeaves, GoesOn, EndsSo, Along, IsNext, base_at}
 use Rattle.xmp_nodes.proofs.Standing.{IsGlobal, NoReturn}
@@ -65,7 +64,7 @@ use Rattle.xmp_nodes.proofs.NodeBits.{all_have}
 use Rattle.xmp_nodes.proofs.Totals.{total_of, total_in, total_more}
 use Rattle.xmp_nodes.proofs.Turns.{Turn, BodyStays, with_state, with_state_here, with_state_else, Owner}
 use Rattle.xmp_nodes.proofs.BodiesGo.{statement_goes}
-use Rattle.xmp_nodes.proofs.LoopOwn.{value_at, owns_at_tuple, owned_count, turn_counted}
+use Rattle.xmp_nodes.proofs.LoopOwn.{value_at, owns_at_tuple, added_by, owned_count, turn_counted}
 use Rattle.xmp_nodes.proofs.LoopTurns.{index_there, other_there, value_fits, exist_below, Between, Beside, sum_of, others_by, others, sum_with, others_fit}
 use Rattle.xmp_nodes.proofs.LoopFacts.{none_equal, one_of_all, shared_is, index_is, own_is, set, body_nothing, nest_fits, indices_apart, indices_int, role_of_index, copies_unwritten, at_turn, is_setting, writes_fit, one_owner}
 module _ (p : ProgParts) (global : IsGlobal p) (some : 0 < node_count p) (input : List ℕ) (d : LoopDirective) (body : Stmt) (fits : LoopFits p d body) (go : NoReturn body)
@@ -348,8 +347,8 @@ module _ (p : ProgParts) (global : IsGlobal p) (some : 0 < node_count p) (input 
             ∙ sym q.whole;
         noted = ap (λ (x : Notes). x.exchanges) g.framed.extra ∙ b.noted;
         turns =
-            ap (λ (x : Notes). raised_by (owned_count p d left) 0 x.turns) g.framed.extra
-            ∙ ap (raised_by (owned_count p d left) 0)
+            ap (λ (x : Notes). added_by (owned_count p d left) 0 x.turns) g.framed.extra
+            ∙ ap (added_by (owned_count p d left) 0)
             (raised_alike (λ k. owns_iteration p d k (at_tuple slots vs s)) (λ k. owns_tuple p d k vs)
             (λ k. owns_at_tuple p d k vs s fits.step.stands.nest_indices apart_all long (serial_there s b.whole)) 0 s.extra.turns)
             ∙ turn_counted p d vs left s.extra.turns ∙ b.turns;
