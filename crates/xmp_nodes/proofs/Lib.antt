@@ -65,3 +65,4 @@ pub mod TaskLeaf
 pub mod Standings
 pub mod PlainWrites
 pub mod CellWrites
+pub mod Unwritten
