@@ -62,3 +62,5 @@ pub mod Beginning
 pub mod Standings
 pub mod PlainWrites
 pub mod CellWrites
+pub mod NeverPhase
+pub mod Answering
