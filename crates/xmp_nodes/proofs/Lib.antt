@@ -48,3 +48,5 @@ pub mod NodeReads
 pub mod ExpressionsCarried
 pub mod PlainWrites
 pub mod CellWrites
+pub mod NearSteps
+pub mod PlainValues
