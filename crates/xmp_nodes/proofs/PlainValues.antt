@@ -27,6 +27,7 @@ use Rattle.xmp_meaning_laws.specs.Laws.{calls_pass}
 use Rattle.xmp_meaning_laws.specs.Agreement.{Spot, seen, seen_access, SpotIn, StepsMeet, IsKnown}
 use Rattle.xmp_meaning_laws.proofs.Conditions.{all_apart}
 use Rattle.xmp_meaning_laws.proofs.CountedLoops.{both_true}
+use Rattle.xmp_meaning_laws.proofs.Twins.{meet_weaker}
 use Rattle.xmp_nodes.proofs.Agrees.{Stand, Agrees}
 use Rattle.xmp_nodes.proofs.Standing.{TermStands, IsSetting}
 use Rattle.xmp_nodes.proofs.Leaves.{serial_cx}
@@ -54,6 +55,13 @@ module _ (a : Stand) (is : IsSetting a) (there : has a.set.nodes a.node ≡ true
       → Twin reading both (IsKnown (seen (known_in a s) e).value) (expr_of erased serial e) (expr_of erased alone e)
   value_twin e terms h = let v : _ = seen_good a is there input stale s n g e terms h in expr_twin reading both e v.0 v.1
 
+  -- the same with nothing said of the value
+  any_twin : (e : Expr) → AllByRecursion (TermStands a.program) (terms_of a.program e) → EachEvent (IsFine a.node stale) (reads_of e a.set)
+      → Twin reading both (Any reading) (expr_of erased serial e) (expr_of erased alone e)
+  any_twin e terms h u w k =
+      meet_weaker (Beside a is there input stale s n g both) (Beside a is there input stale s n g both) (Same reading both (IsKnown (seen (known_in a s) e).value)) (Same reading both (Any reading))
+      (expr_of erased serial e u) (expr_of erased alone e w) (λ x y z. z) (λ v y x z b. (b.0, b.1, tt)) (value_twin e terms h u w k)
+
   pub value_calls : (e : Expr) → AllByRecursion (TermStands a.program) (terms_of a.program e) → EachEvent (IsFine a.node stale) (reads_of e a.set)
       → list_all (calls_pass (calls a is there input stale s n g)) (terms_of a.program e) ≡ true
   value_calls e terms h = (seen_good a is there input stale s n g e terms h).2
@@ -80,8 +88,7 @@ module _ (a : Stand) (is : IsSetting a) (there : has a.set.nodes a.node ≡ true
   pub new_scalar : (slot : ℕ) (c : Option Compound) (e : Expr) → ((d : Compound) → c ≡ Some d → both slot ≡ true) → AllByRecursion (TermStands a.program) (terms_of a.program e)
       → EachEvent (IsFine a.node stale) (reads_of e a.set)
       → Twin reading both (Any reading) (new_value erased serial (location.Scalar slot) c e) (new_value erased alone (location.Scalar slot) c e)
-  new_scalar slot None e old terms h = same_on reading both (IsKnown (seen (known_in a s) e).value) (Any reading) (expr_of erased serial e) (expr_of erased alone e) pure pure
-      (value_twin e terms h) (λ v k. gives reading both (Any reading) v tt)
+  new_scalar slot None e old terms h = any_twin e terms h
   new_scalar slot (Some d) e old terms h =
       same_on reading both (IsKnown (known_in a s slot)) (Any reading) (scalar slot) (scalar slot)
       (λ old. expr_of erased serial e >>= (λ v. or_trap (binary_of d.op d.ty old v) d.at)) (λ old. expr_of erased alone e >>= (λ v. or_trap (binary_of d.op d.ty old v) d.at))
@@ -101,8 +108,7 @@ module _ (a : Stand) (is : IsSetting a) (there : has a.set.nodes a.node ≡ true
   pub new_cell : (spot : Spot) (x y : ℤ) (t : State Notes) (m : State (Unit {0})) (c : Option Compound) (e : Expr) → OfOneCell reading both spot x y t m
       → ((d : Compound) → c ≡ Some d → SpotIn a.program 0 (MayGet a is there input stale) spot) → AllByRecursion (TermStands a.program) (terms_of a.program e) → EachEvent (IsFine a.node stale) (reads_of e a.set)
       → Twin reading both (Any reading) (new_value erased serial (location.Cell spot.array x) c e) (new_value erased alone (location.Cell spot.array y) c e)
-  new_cell spot x y t m None e o old terms h = same_on reading both (IsKnown (seen (known_in a s) e).value) (Any reading) (expr_of erased serial e) (expr_of erased alone e) pure pure
-      (value_twin e terms h) (λ v k. gives reading both (Any reading) v tt)
+  new_cell spot x y t m None e o old terms h = any_twin e terms h
   new_cell spot x y t m (Some d) e o old terms h =
       same_on reading both (Any reading) (Any reading) (erased.get spot.array x) (erased.get spot.array y)
       (λ old. expr_of erased serial e >>= (λ v. or_trap (binary_of d.op d.ty old v) d.at)) (λ old. expr_of erased alone e >>= (λ v. or_trap (binary_of d.op d.ty old v) d.at))
