@@ -50,3 +50,4 @@ pub mod PlainWrites
 pub mod CellWrites
 pub mod NearSteps
 pub mod PlainValues
+pub mod PlainWriting

@@ -63,7 +63,7 @@ keeps_front node ps clear stale way path object = unmarked object node (in_order
 -- ---- values, and what follows
 
 module _ (a : Stand) (is : IsSetting a) (there : has a.set.nodes a.node ≡ true) (input : List ℕ) (stale : ℕ → Bool) (s : State Notes) (n : State (Unit {0})) (g : Agrees a stale s n) where
-  behind : {B : Type 0} (W : B → Type 0) (ps qs : List (Plan Event)) (t : State Notes) (m : State (Unit {0})) → EachOf NoMark ps → Framed a s t → (r : Step Notes B) (q : Step (Unit {0}) B)
+  pub behind : {B : Type 0} (W : B → Type 0) (ps qs : List (Plan Event)) (t : State Notes) (m : State (Unit {0})) → EachOf NoMark ps → Framed a s t → (r : Step Notes B) (q : Step (Unit {0}) B)
       → Along a W (in_order qs) stale t m r q → Along a W (in_order (ps ++ qs)) stale s n r q
   behind W ps qs t m clear framed (Gave v u) (Gave w l) h =
       let way : (es : List Event) × Path (in_order ps) es = some_path (in_order ps) in
