@@ -64,3 +64,6 @@ pub mod PlainWrites
 pub mod CellWrites
 pub mod NeverPhase
 pub mod Answering
+pub mod NearSteps
+pub mod PlainValues
+pub mod PlainWriting
