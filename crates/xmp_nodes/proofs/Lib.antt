@@ -47,3 +47,6 @@ pub mod ElementCells
 pub mod CalledFunctions
 pub mod LoopPlans
 pub mod LoopWays
+pub mod WholeStays
+pub mod LoopBegins
+pub mod LoopEntry
