@@ -50,3 +50,4 @@ pub mod LoopWays
 pub mod WholeStays
 pub mod LoopBegins
 pub mod LoopEntry
+pub mod LoopCloses

@@ -58,7 +58,7 @@ noted_in s x = record s { extra = record s.extra { exchanges = s.extra.exchanges
 
 module _ (p : ProgParts) (global : IsGlobal p) (some : 0 < node_count p) (d : LoopDirective) (body : Stmt) (fits : LoopFits p d body)
     (nothing : NothingWrong (loop_events d body (events_of body) (outermost p))) where
-  first_have : has (all_nodes p) 0 ≡ true
+  pub first_have : has (all_nodes p) 0 ≡ true
   first_have = all_have p 0 some
 
   abbrev bounds : Setting
