@@ -63,6 +63,9 @@ pub mod Starts
 pub mod NodeReads
 pub mod ExpressionsCarried
 pub mod Beginning
+pub mod TaskSteps
+pub mod TaskProgress
+pub mod TaskLeaf
 pub mod Standings
 pub mod PlainWrites
 pub mod CellWrites
