@@ -147,6 +147,16 @@ module _ (d : LoopDirective) (body : Stmt) where
   own_is slot e =
       in_filtered (λ n. is_own (role_in d body n)) (scalars_written body) slot (says slot Own e).2 (ap is_own e)
 
+  pub own_free : (slot : ℕ) → role_in d body slot ≡ Own → is_in reduced slot ≡ false
+  own_free slot e = not_found d.reductions slot (says slot Own e).0
+
+  -- a reduction variable's role is no other
+  pub reduced_role : (slot : ℕ) (r : Role) → role_in d body slot ≡ r → is_in reduced slot ≡ true → is_reduced r ≡ true
+  reduced_role slot Shared e i = absurd (true≢false (sym i ∙ not_found d.reductions slot (says slot Shared e).0))
+  reduced_role slot Index e i = absurd (true≢false (sym i ∙ not_found d.reductions slot (says slot Index e).0))
+  reduced_role slot (Reduced op) e i = refl
+  reduced_role slot Own e i = absurd (true≢false (sym i ∙ own_free slot e))
+
   pub reduced_is : (slot : ℕ) (op : RedOp) → role_in d body slot ≡ Reduced op → is_in reduced slot ≡ true
   reduced_is slot op e = let s : _ = says slot (Reduced op) e in found_in d.reductions slot s.0 s.1
 
@@ -196,7 +206,7 @@ module _ (p : ProgParts) (global : IsGlobal p) (some : 0 < node_count p) (all : 
   abbrev pub set : Setting
   set = within d body (outermost p)
 
-  nest_nothing : NothingWrong (in_order (nest_events (at_bounds d body (outermost p)) [] (scalars_of d body) d.nest))
+  pub nest_nothing : NothingWrong (in_order (nest_events (at_bounds d body (outermost p)) [] (scalars_of d body) d.nest))
   nest_nothing rule at s = nothing rule at (inr (inl s))
 
   pub reductions_nothing : NothingWrong (in_order (reduction_events (outermost p) [] d.reductions))
