@@ -53,7 +53,6 @@ use Rattle.xmp_flow.specs.Reads.{reads_of, reads_of_all, reads_of_option, subscr
 use Rattle.xmp_flow.specs.PlainEvents.{scalar_assigned, old_scalar, old_element, set_events, in_form, form_of_set, assignment_events, scanned, reflected_at, reflected, cast, number_events, part_events, side_events, source_at, source_events, moved_at, moved, plan_of_gmove, plain_events}
 use Rattle.xmp_flow.specs.LoopEvents.{within, at_bounds, head_events, nest_events, reduction_events, iteration, shadow_stale_at, shadow_stale, ends, loop_events}
 use Rattle.xmp_flow.specs.Statements.{events_of, if_form, while_events, counted_events}
-use Rattle.xmp_flow.specs.Program.{outermost}
 use Rattle.xmp_flow.proofs.FormLaws.{events_plain, events_block, events_if, events_while, events_counted, events_loop, events_tasks}
 use Rattle.xmp_meaning.specs.Writes.{scalars_step, written_in_task, scalars_written, arrays_written}
 use Rattle.xmp_nodes.proofs.MetEvents.{EachEvent, EachOf, NoMark, each_ordered, ordered_each, each_skip, each_emit, each_branch, all_together}
@@ -443,5 +442,5 @@ module _ (node slot : ℕ) where
       (λ x y is. subst (λ z. Stays (roll-Task z).body) is y.body.1)
 
 pub unwritten_stay : UnwrittenStay
-unwritten_stay p node slot x none way path stale e =
-    ap (after_events (scalar_object slot) node way) e ∙ stays_current node slot (events_of x (outermost p)) (statement_stays node slot x none (outermost p)) way path
+unwritten_stay set node slot x none way path stale e =
+    ap (after_events (scalar_object slot) node way) e ∙ stays_current node slot (events_of x set) (statement_stays node slot x none set) way path
