@@ -74,3 +74,5 @@ pub mod Answering
 pub mod NearSteps
 pub mod PlainValues
 pub mod PlainWriting
+pub mod CountedCarried
+pub mod StatementsCarried
