@@ -66,3 +66,6 @@ pub mod Beginning
 pub mod Standings
 pub mod PlainWrites
 pub mod CellWrites
+pub mod LoopParts
+pub mod LoopRuns
+pub mod LoopLeaf
