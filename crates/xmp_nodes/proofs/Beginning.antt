@@ -42,7 +42,7 @@ zeros_long : (n : ℕ) → length (replicate n (pos 0)) ≡ n
 zeros_long zero = refl
 zeros_long (suc n) = ap suc (zeros_long n)
 
-rows_long : (layout : Layout) (p : ProgParts) (all : List Array) → map length (map (λ a. replicate (row_length layout p a) (pos 0)) all) ≡ map (row_length layout p) all
+pub rows_long : (layout : Layout) (p : ProgParts) (all : List Array) → map length (map (λ a. replicate (row_length layout p a) (pos 0)) all) ≡ map (row_length layout p) all
 rows_long layout p [] = refl
 rows_long layout p (a ∷ all) = (λ i. zeros_long (row_length layout p a) i ∷ rows_long layout p all i)
 

@@ -69,3 +69,11 @@ pub mod CellWrites
 pub mod LoopParts
 pub mod LoopRuns
 pub mod LoopLeaf
+pub mod TaskSteps
+pub mod TaskProgress
+pub mod TaskLeaf
+pub mod NeverPhase
+pub mod Answering
+pub mod NearSteps
+pub mod PlainValues
+pub mod PlainWriting

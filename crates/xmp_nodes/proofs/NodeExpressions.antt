@@ -155,7 +155,7 @@ module _ (a : Stand) (is : IsSetting a) (there : has a.set.nodes a.node ≡ true
   pub all_there : has (all_nodes a.program) a.node ≡ true
   all_there = all_have a.program a.node is.below
 
-  abbrev couple : Couple
+  abbrev pub couple : Couple
   couple = record { program = p; layout = Whole; other = Packed a.node; node = 0; input = input; call = call_of p 0 (length p.functions) }
 
   -- ---- cells

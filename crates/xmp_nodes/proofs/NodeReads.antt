@@ -25,6 +25,7 @@ use Rattle.xmp_prog.specs.declared.expressions.Expr.{Expr}
 use Rattle.xmp_prog.specs.declared.expressions.Access.{Access}
 use Rattle.xmp_prog.specs.declared.expressions.Expr.TheOpen.{Expr-F, Access-F}
 use Rattle.xmp_prog.specs.declared.statements.LoopDirective.{LoopDirective}
+use Rattle.xmp_prog.specs.declared.statements.Plain.{Plain}
 use Rattle.xmp_prog.specs.declared.statements.Plain.TheVariants as plain
 use Rattle.xmp_prog.specs.declared.statements.Stmt.{Stmt}
 use Rattle.xmp_prog.specs.declared.statements.Stmt.TheVariants as stmt
@@ -33,7 +34,7 @@ use Rattle.xmp_prog.specs.Terms.{Term, Of, Element, image_terms, terms_of, terms
 use Rattle.xmp_prog.specs.Tests.{element_fits, image_fits, subscripts_fit, is_image}
 use Rattle.xmp_prog.specs.Tests as tests
 use Rattle.xmp_prog.specs.Fits.{node_count}
-use Rattle.xmp_prog.specs.Statements.{Walked, WalkedTask, walk_step, walk_task, statements_of, terms_in, terms_of_stmt}
+use Rattle.xmp_prog.specs.Statements.{Walked, WalkedTask, walk_step, walk_task, statements_of, terms_in, terms_of_plain, terms_of_stmt}
 use Rattle.xmp_prog.proofs.Rolls.{at_plain}
 use Rattle.xmp_loops.specs.Objects.{scalar_object, array_object, all_nodes}
 use Rattle.xmp_loops.specs.declared.role.Role.{Role}
@@ -41,7 +42,7 @@ use Rattle.xmp_loops.specs.declared.role.Role.TheVariants.{Shared, Index, Reduce
 use Rattle.xmp_flow.specs.Setting.{Setting, is_reduced, wrong_where, read_scalar, reads_scalar}
 use Rattle.xmp_flow.specs.Elements as flow
 use Rattle.xmp_flow.specs.Elements.{spread_events, read_at_home, element_read}
-use Rattle.xmp_flow.specs.Reads.{reads_of}
+use Rattle.xmp_flow.specs.Reads.{reads_of, subscript_reads}
 use Rattle.xmp_meaning.specs.declared.ends.End.{End}
 use Rattle.xmp_meaning.specs.declared.ends.Flow.{Flow}
 use Rattle.xmp_meaning.specs.declared.ends.Flow.TheVariants.{Next, Returned}
@@ -51,7 +52,7 @@ use Rattle.xmp_meaning.specs.Context.{Context}
 use Rattle.xmp_meaning.specs.Handlers.{Handlers, TaskRun, erased}
 use Rattle.xmp_meaning.specs.Expressions.{expr_of, cell_of}
 use Rattle.xmp_meaning.specs.Parts.{owns_iteration}
-use Rattle.xmp_meaning.specs.Statements.{stmt_of, stmt_step, task_step}
+use Rattle.xmp_meaning.specs.Statements.{plain_of, stmt_of, stmt_step, task_step}
 use Rattle.xmp_meaning.specs.Exchanges.{Notes, traced}
 use Rattle.xmp_meaning.specs.Traffic.{node_context}
 use Rattle.xmp_meaning_laws.specs.Laws.{ValuesLie, scalar_in, calls_pass, is_without, is_no_while, has_no_while, TakesNoStep, GivesA, TermsFit}
@@ -84,7 +85,7 @@ module _ (a : Stand) (is : IsSetting a) (there : has a.set.nodes a.node ≡ true
 
   -- ---- what the events of a read say
 
-  of_scalar : (slot : ℕ) (at : Place) → EachEvent Fine (reads_scalar a.set slot at) → agreed a stale slot ≡ true
+  pub of_scalar : (slot : ℕ) (at : Place) → EachEvent Fine (reads_scalar a.set slot at) → agreed a stale slot ≡ true
   of_scalar slot at h = of_role (a.set.roles slot) h
     where
       of_role : (r : Role) → EachEvent Fine (read_scalar a.set slot at r) → agreed_by r (stale (scalar_object slot)) ≡ true
@@ -100,7 +101,7 @@ module _ (a : Stand) (is : IsSetting a) (there : has a.set.nodes a.node ≡ true
       either true y h e = refl
       either false y h e = absurd (true≢false (sym h ∙ e))
 
-  of_call : (function : ℕ) (at : Place) → EachEvent Fine (wrong_where (a.set.inside && a.set.loops function) 9 at) → not (a.set.inside && a.set.loops function) ≡ true
+  pub of_call : (function : ℕ) (at : Place) → EachEvent Fine (wrong_where (a.set.inside && a.set.loops function) 9 at) → not (a.set.inside && a.set.loops function) ≡ true
   of_call function at h = of_test (a.set.inside && a.set.loops function) h
     where
       of_test : (b : Bool) → EachEvent Fine (wrong_where b 9 at) → not b ≡ true
@@ -108,7 +109,7 @@ module _ (a : Stand) (is : IsSetting a) (there : has a.set.nodes a.node ≡ true
       of_test false h = refl
 
   -- an array without align isn't written in a loop directive
-  copies_unwritten : (array : ℕ) → home_of a.program array ≡ home.Copy → a.set.written array ≡ false
+  pub copies_unwritten : (array : ℕ) → home_of a.program array ≡ home.Copy → a.set.written array ≡ false
   copies_unwritten array e = of_over a.set.over refl
     where
       of_over : (o : Option LoopDirective) → a.set.over ≡ o → a.set.written array ≡ false
@@ -178,7 +179,7 @@ module _ (a : Stand) (is : IsSetting a) (there : has a.set.nodes a.node ≡ true
       of_image None h = refl
       of_image (Some x) h = h
 
-  of_element : (e : Access) → list_all (term_test a.program) (terms_of_access a.program e) ≡ true → EachEvent Fine (element_read a.set e.array e.subscripts e.at)
+  pub of_element : (e : Access) → list_all (term_test a.program) (terms_of_access a.program e) ≡ true → EachEvent Fine (element_read a.set e.array e.subscripts e.at)
       → SpotIn a.program 0 (MayGet a is there input stale) (seen_access (known_in a s) e).spot
   of_element e h events =
       subst (SpotIn a.program 0 (MayGet a is there input stale)) (sym (spot_is (known_in a s) e))
@@ -191,7 +192,7 @@ module _ (a : Stand) (is : IsSetting a) (there : has a.set.nodes a.node ≡ true
 
   -- ---- the two runs
 
-  abbrev calls : ℕ → Bool
+  abbrev pub calls : ℕ → Bool
   calls function = not (a.set.inside && a.set.loops function)
 
   abbrev pub Good : List ℕ → List Spot → List Term → Type 0
@@ -202,6 +203,12 @@ module _ (a : Stand) (is : IsSetting a) (there : has a.set.nodes a.node ≡ true
   seen_good e terms h =
       expr_seen a.set (known_in a s) a.program Fine (agreed a stale) (SpotIn a.program 0 (MayGet a is there input stale)) (term_test a.program) no_image calls of_scalar of_call of_element e
       (terms_test a.program (terms_of a.program e) terms) h
+
+  pub access_good : (e : Access) → AllByRecursion (TermStands a.program) (terms_of_access a.program e) → EachOf Fine (subscript_reads e a.set)
+      → Good (seen_access (known_in a s) e).slots (seen_access (known_in a s) e).spots (terms_of_access a.program e)
+  access_good e terms h =
+      access_seen a.set (known_in a s) a.program Fine (agreed a stale) (SpotIn a.program 0 (MayGet a is there input stale)) (term_test a.program) no_image calls of_scalar of_call of_element e
+      (terms_test a.program (terms_of_access a.program e) terms) h
 
   pub expr_meets : (e : Expr) → AllByRecursion (TermStands a.program) (terms_of a.program e) → EachEvent Fine (reads_of e a.set)
       → StepsMeet (Beside a is there input stale s n g (agreed a stale)) (Same (readers a is there input stale s n g) (agreed a stale) (IsKnown (seen (known_in a s) e).value))
@@ -239,25 +246,29 @@ module _ (a : Stand) (is : IsSetting a) (there : has a.set.nodes a.node ≡ true
       of_tests true false i e = refl
       of_tests false y i e = absurd (true≢false (sym i))
 
+  abbrev lone : ℕ → Bool
+  lone = is_without a.program (length a.program.functions)
+
+  -- a plain statement takes no step in a task or a loop directive, where it calls as it may
+  pub plain_steps : (q : Plain) → a.set.inside ≡ true → list_all (calls_pass calls) (terms_of_plain a.program q) ≡ true
+      → TakesNoStep s.steps (plain_of {X = Notes} erased (serial_cx a.program input) q s)
+  plain_steps q i h =
+      subst (λ (r : Run Notes Flow). TakesNoStep s.steps (r s)) (at_plain (Run Notes Flow) (TaskRun Notes) (stmt_step erased (serial_cx a.program input)) task_step q)
+      (steps_stay Notes a.program 0 input (length a.program.functions) (stmt.Plain q) clear s)
+    where
+      clear : has_no_while a.program lone (stmt.Plain q) ≡ true
+      clear =
+          subst (λ ys. (list_all is_no_while ys && list_all (calls_pass lone) (flat_map (terms_in a.program) ys)) ≡ true)
+          (sym (ap (λ (w : Walked). w.statements) (at_plain Walked WalkedTask walk_step walk_task q)))
+          (list_all-append (calls_pass lone) (terms_of_plain a.program q) [] ∙ both_true (list_all (calls_pass lone) (terms_of_plain a.program q)) true (pass_more lone (without i) (terms_of_plain a.program q) h) refl)
+
   return_steps : (left : ℕ) (r : Step Notes ℤ) → TakesNoStep left (and_then r (λ v. pure (Returned v))) → TakesNoStep left r
   return_steps left (Gave v t) h = h
   return_steps left (Ended e t) h = h
 
-  abbrev lone : ℕ → Bool
-  lone = is_without a.program (length a.program.functions)
-
   pub expr_steps : (e : Expr) → a.set.inside ≡ true → list_all (calls_pass calls) (terms_of a.program e) ≡ true
       → TakesNoStep s.steps (expr_of {X = Notes} erased (serial_cx a.program input) e s)
-  expr_steps e i h =
-      return_steps s.steps (expr_of erased (serial_cx a.program input) e s)
-      (subst (λ (r : Run Notes Flow). TakesNoStep s.steps (r s)) (at_plain (Run Notes Flow) (TaskRun Notes) (stmt_step erased (serial_cx a.program input)) task_step (plain.Return e))
-      (steps_stay Notes a.program 0 input (length a.program.functions) (stmt.Plain (plain.Return e)) clear s))
-    where
-      clear : has_no_while a.program lone (stmt.Plain (plain.Return e)) ≡ true
-      clear =
-          subst (λ ys. (list_all is_no_while ys && list_all (calls_pass lone) (flat_map (terms_in a.program) ys)) ≡ true)
-          (sym (ap (λ (w : Walked). w.statements) (at_plain Walked WalkedTask walk_step walk_task (plain.Return e))))
-          (list_all-append (calls_pass lone) (terms_of a.program e) [] ∙ both_true (list_all (calls_pass lone) (terms_of a.program e)) true (pass_more lone (without i) (terms_of a.program e) h) refl)
+  expr_steps e i h = return_steps s.steps (expr_of erased (serial_cx a.program input) e s) (plain_steps (plain.Return e) i h)
 
 -- ---- with other steps
 
