@@ -72,6 +72,7 @@ pub mod LoopLeaf
 pub mod TaskSteps
 pub mod TaskProgress
 pub mod TaskLeaf
+pub mod Unwritten
 pub mod NeverPhase
 pub mod Answering
 pub mod NearSteps
