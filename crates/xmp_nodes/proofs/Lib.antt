@@ -51,3 +51,5 @@ pub mod CellWrites
 pub mod NearSteps
 pub mod PlainValues
 pub mod PlainWriting
+pub mod PlainsCarried
+pub mod CellsCarried
