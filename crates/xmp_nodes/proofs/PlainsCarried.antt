@@ -79,7 +79,7 @@ pub apart : {A : Type 0} (P : A → Type 0) (xs ys : List A) → AllByRecursion 
 apart P [] ys h = (tt, h)
 apart P (x ∷ xs) ys h = let rest : _ = apart P xs ys h.1 in ((h.0, rest.0), rest.1)
 
-no_more : {A : Type 0} (xs : List A) → xs ++ [] ≡ xs
+pub no_more : {A : Type 0} (xs : List A) → xs ++ [] ≡ xs
 no_more [] = refl
 no_more (x ∷ xs) = ap (λ l. x ∷ l) (no_more xs)
 
@@ -231,7 +231,7 @@ module _ (a : Stand) (is : IsSetting a) (there : has a.set.nodes a.node ≡ true
 
   -- ---- `scanf` into a scalar
 
-  first_node : a.set.nodes ≡ 1 → a.node ≡ 0
+  pub first_node : a.set.nodes ≡ 1 → a.node ≡ 0
   first_node e = of_node a.node refl (subst (λ z. has z a.node ≡ true) e there)
     where
       of_node : (k : ℕ) → a.node ≡ k → has 1 a.node ≡ true → a.node ≡ 0
