@@ -37,7 +37,7 @@ use Rattle.xmp_meaning_laws.specs.Laws.{ValuesLie, scalar_in}
 use Rattle.xmp_move.specs.Sides.{owns_cell, holds_cell, position}
 use Rattle.xmp_move.specs.Stores.{word_at}
 use Rattle.xmp_move.specs.Whole.{Shows}
-use Rattle.xmp_nodes.specs.Nodes.{Nodes}
+use Rattle.xmp_nodes.specs.Nodes.{Nodes, bounded}
 use Rattle.xmp_nodes.specs.Worlds.{out_of}
 
 -- ---- where a node's run stands
@@ -185,13 +185,13 @@ pub record ReadyAt (p : ProgParts) (node : ℕ) (plan : Plan Event) (s : State N
   pub safe : Safe node plan stale
   pub agrees : Agrees (at_main p node) stale s n
 
--- the nodes' counts are those of the notes
+-- the nodes' counts are those of the notes, up to the greatest number
 pub record Counted (p : ProgParts) (notes : Notes) (made : List ℕ) (lines : List (List ℕ)) : Type 0 where
   pub many : length made ≡ node_count p
-  pub turns : made ≡ notes.turns
+  pub turns : made ≡ map bounded notes.turns
   pub rows : length lines ≡ node_count p
   pub row : (from : ℕ) (row : List ℕ) → slice_get lines from ≡ Some row → length row ≡ node_count p
-  pub sent : (from to n : ℕ) (row : List ℕ) → slice_get lines from ≡ Some row → slice_get row to ≡ Some n → n ≡ sent p notes.exchanges from to
+  pub sent : (from to n : ℕ) (row : List ℕ) → slice_get lines from ≡ Some row → slice_get row to ≡ Some n → n ≡ bounded (sent p notes.exchanges from to)
 
 -- every node is ready for a plan
 pub record Ready (p : ProgParts) (plan : Plan Event) (s : State Notes) (w : Nodes) : Type 0 where

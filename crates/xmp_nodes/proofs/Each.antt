@@ -11,7 +11,7 @@ use Rattle.xmp_meaning.specs.Runs.{State, StepIn, Step, Gave, Ended, RunIn, Run,
 use Rattle.xmp_meaning.specs.Messages.{Message, words_sent}
 use Rattle.xmp_meaning.specs.Traffic.{node_beginning}
 use Rattle.xmp_meaning_laws.specs.Agreement.{StepsMeet}
-use Rattle.xmp_nodes.specs.Nodes.{Nodes, nodes_beginning, store_at, each_does, led, with_steps, all_do, raised_by, rows_raised, saying, say}
+use Rattle.xmp_nodes.specs.Nodes.{bounded, Nodes, nodes_beginning, store_at, each_does, led, with_steps, all_do, raised_by, rows_raised, saying, say}
 use Rattle.xmp_nodes.specs.Parts.{own_tuples, own_turns}
 use Rattle.xmp_nodes.specs.Tasks.{with_texts}
 
@@ -169,13 +169,13 @@ module _ {S A : Type 0} (E : ℕ → S → Alone → Type 0) (Q : ℕ → A → 
 
 -- ---- counts
 
-pub raised_at : (more : ℕ → ℕ) (ns : List ℕ) (k n : ℕ) → slice_get ns k ≡ Some n → slice_get (raised_by more 0 ns) k ≡ Some (n + more k)
-raised_at more ns k n e = from 0 ns k ∙ ap (λ (o : Option ℕ). option_map (λ m. m + more (0 + k)) o) e ∙ ap (λ j. Some (n + more j)) (zero-add k)
+pub raised_at : (more : ℕ → ℕ) (ns : List ℕ) (k n : ℕ) → slice_get ns k ≡ Some n → slice_get (raised_by more 0 ns) k ≡ Some (bounded (n + more k))
+raised_at more ns k n e = from 0 ns k ∙ ap (λ (o : Option ℕ). option_map (λ m. bounded (m + more (0 + k))) o) e ∙ ap (λ j. Some (bounded (n + more j))) (zero-add k)
   where
-    from : (a : ℕ) (ns : List ℕ) (k : ℕ) → slice_get (raised_by more a ns) k ≡ option_map (λ m. m + more (a + k)) (slice_get ns k)
+    from : (a : ℕ) (ns : List ℕ) (k : ℕ) → slice_get (raised_by more a ns) k ≡ option_map (λ m. bounded (m + more (a + k))) (slice_get ns k)
     from a [] k = refl
-    from a (n ∷ ns) zero = ap (λ j. Some (n + more j)) (none_more a)
-    from a (n ∷ ns) (suc k) = from (suc a) ns k ∙ ap (λ j. option_map (λ m. m + more j) (slice_get ns k)) (next_on a k)
+    from a (n ∷ ns) zero = ap (λ j. Some (bounded (n + more j))) (none_more a)
+    from a (n ∷ ns) (suc k) = from (suc a) ns k ∙ ap (λ j. option_map (λ m. bounded (m + more j)) (slice_get ns k)) (next_on a k)
 
 pub raised_length : (more : ℕ → ℕ) (a : ℕ) (ns : List ℕ) → length (raised_by more a ns) ≡ length ns
 raised_length more a [] = refl
@@ -196,7 +196,7 @@ rows_length more a (r ∷ rows) = ap suc (rows_length more (suc a) rows)
 
 -- the words from one node to another, once these messages are sent
 pub said_at : (said : ℕ → ℕ → Message) (w : Nodes) (from to n : ℕ) (row : List ℕ) → slice_get w.sent from ≡ Some row → slice_get row to ≡ Some n
-    → (after : List ℕ) × (slice_get (saying said w).sent from ≡ Some after) × (slice_get after to ≡ Some (n + (if from == to then 0 else words_sent (said from to))))
+    → (after : List ℕ) × (slice_get (saying said w).sent from ≡ Some after) × (slice_get after to ≡ Some (bounded (n + (if from == to then 0 else words_sent (said from to)))))
 said_at said w from to n row e f = (
   raised_by (λ j. if from == j then 0 else words_sent (said from j)) 0 row,
   rows_at (λ i j. if i == j then 0 else words_sent (said i j)) w.sent from row e,

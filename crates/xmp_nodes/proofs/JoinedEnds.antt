@@ -125,17 +125,17 @@ module _ (p : ProgParts) (rs : List Reduction) where
   abbrev pub total_at : (ℕ → Reduction → ℤ) → ℕ → Reduction → ℤ
   total_at value n r = total_of (combine_of r.op (scalar_type p r.variable.number)) (unit_of r.op (scalar_type p r.variable.number)) (λ k. value k r) n
 
-  pub record IsWhole (values : List ℤ) (a : PartEnd) : Type 0 where
+  pub record EndsWhole (values : List ℤ) (a : PartEnd) : Type 0 where
     pub ended : a.ended ≡ None
     pub has : a.values ≡ values
 
-  module _ (e : ℕ → PartEnd) (value : ℕ → Reduction → ℤ) (count : ℕ) (whole : (k : ℕ) → k < count → IsWhole (map (value k) rs) (e k)) where
-    pub whole_of_all : (n : ℕ) → n ≤ count → IsWhole (map (total_at value n) rs) (joined_first e n)
+  module _ (e : ℕ → PartEnd) (value : ℕ → Reduction → ℤ) (count : ℕ) (whole : (k : ℕ) → k < count → EndsWhole (map (value k) rs) (e k)) where
+    pub whole_of_all : (n : ℕ) → n ≤ count → EndsWhole (map (total_at value n) rs) (joined_first e n)
     whole_of_all zero l = record { ended = refl; has = refl }
     whole_of_all (suc n) l =
-        let so_far : IsWhole (map (total_at value n) rs) (joined_first e n) = whole_of_all n (omega (arith, l)) in
-        let last : IsWhole (map (value n) rs) (e n) = whole n (omega (arith, l)) in
-        subst (IsWhole (map (total_at value (suc n)) rs))
+        let so_far : EndsWhole (map (total_at value n) rs) (joined_first e n) = whole_of_all n (omega (arith, l)) in
+        let last : EndsWhole (map (value n) rs) (e n) = whole n (omega (arith, l)) in
+        subst (EndsWhole (map (total_at value (suc n)) rs))
         (sym (ap (λ x. joined_by x (e n).ended p rs (joined_first e n) (e n)) so_far.ended ∙ ap (λ y. joined_by None y p rs (joined_first e n) (e n)) last.ended))
         (record {
           ended = so_far.ended;

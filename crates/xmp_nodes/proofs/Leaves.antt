@@ -27,17 +27,18 @@ use Rattle.xmp_paths.specs.Plans.{Plan, Path, in_order}
 use Rattle.xmp_paths.specs.Safe.{left, NothingWrong}
 use Rattle.xmp_loops.specs.Objects.{scalar_object, all_nodes}
 use Rattle.xmp_flow.specs.Setting.{Setting, wrong_where, in_task}
-use Rattle.xmp_flow.specs.Reads.{reads_of}
+use Rattle.xmp_flow.specs.Reads.{reads_of, reads_of_all}
 use Rattle.xmp_flow.specs.PlainEvents.{plain_events}
 use Rattle.xmp_flow.specs.LoopEvents.{loop_events}
-use Rattle.xmp_flow.specs.Statements.{events_of}
+use Rattle.xmp_flow.specs.Statements.{events_of, if_form}
 use Rattle.xmp_flow.specs.Program.{outermost}
 use Rattle.xmp_meaning.specs.declared.ends.Flow.{Flow}
 use Rattle.xmp_meaning.specs.declared.ends.Flow.TheVariants.{Next}
-use Rattle.xmp_meaning.specs.Runs.{Run, RunIn, pure}
+use Rattle.xmp_meaning.specs.Runs.{Run, RunIn, ◌>>=◌, pure}
+use Rattle.xmp_meaning.specs.Blocks.{choose}
 use Rattle.xmp_meaning.specs.Context.{Context}
 use Rattle.xmp_meaning.specs.Handlers.{TaskRun, erased}
-use Rattle.xmp_meaning.specs.Expressions.{expr_of}
+use Rattle.xmp_meaning.specs.Expressions.{expr_of, holds}
 use Rattle.xmp_meaning.specs.Loops.{nest}
 use Rattle.xmp_meaning.specs.Statements.{plain_of, stmt_of}
 use Rattle.xmp_meaning.specs.Calls.{main_context}
@@ -132,8 +133,8 @@ ReadsKeep = (set : Setting) (node : ℕ) (e : Expr) (way : List Event) → Path 
 
 -- a statement makes no scalar out of date that it doesn't write
 abbrev pub UnwrittenStay : Type 0
-UnwrittenStay = (p : ProgParts) (node slot : ℕ) (x : Stmt) → AllByRecursion (λ n. n ≢ slot) (scalars_written x)
-    → (way : List Event) → Path (events_of x (outermost p)) way → (stale : ℕ → Bool) → stale (scalar_object slot) ≡ false
+UnwrittenStay = (set : Setting) (node slot : ℕ) (x : Stmt) → AllByRecursion (λ n. n ≢ slot) (scalars_written x)
+    → (way : List Event) → Path (events_of x set) way → (stale : ℕ → Bool) → stale (scalar_object slot) ≡ false
     → left node way stale (scalar_object slot) ≡ false
 
 -- ---- the second helper's: one node
@@ -153,6 +154,16 @@ PlainsCarry = (a : Stand) → IsSetting a → has a.set.nodes a.node ≡ true �
     → PartFits a.program (stmt.Plain q) → WritesFit a (stmt.Plain q) → NothingWrong (plain_events q a.set)
     → Carried a (GivesNext q) (plain_events q a.set)
     (plain_of (traced a.program) (serial_cx a.program input) q) (plain_of erased (node_context a.program a.node input) q)
+
+-- `if (q) v = x;` where that is the form of a reduction
+abbrev pub IfFormsCarry : Type 0
+IfFormsCarry = (a : Stand) → IsSetting a → has a.set.nodes a.node ≡ true → (input : List ℕ) (e : Expr) (x y : Stmt) (es : List Expr) → if_form a.set e x y ≡ Some es
+    → AllByRecursion (TermStands a.program) (terms_of a.program e) → PartFits a.program x → PartFits a.program y → WritesFit a x
+    → NothingWrong (in_order (reads_of_all es a.set))
+    → Carried a IsNext (in_order (reads_of_all es a.set))
+    (holds (expr_of (traced a.program) (serial_cx a.program input) e) >>= (λ v. choose v (noting a.program input x) (noting a.program input y)))
+    (holds (expr_of erased (node_context a.program a.node input) e)
+    >>= (λ v. choose v ((lockstep a.program input x).at a.node) ((lockstep a.program input y).at a.node)))
 
 abbrev pub StatementsCarry : Type 0
 StatementsCarry = (a : Stand) → IsSetting a → has a.set.nodes a.node ≡ true → a.set.inside ≡ true → (input : List ℕ) (x : Stmt)

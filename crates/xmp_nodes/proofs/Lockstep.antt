@@ -338,7 +338,7 @@ module _ (parts : Parts) (p : ProgParts) (global : IsGlobal p) (some : 0 < node_
       let last = right_front t skip (right_back (loop turn) (sequence t skip) looped) in
       let body_fine = right_front b (sequence m skip) (right_back t (sequence b (sequence m skip)) (right_turn turn (right_front (loop turn) (sequence t skip) looped))) in
       let kept : (node : ℕ) → node < node_count p → (way : List Event) → Path b way → (stale : ℕ → Bool) → stale (scalar_object head.index.number) ≡ false → left node way stale (scalar_object head.index.number) ≡ false
-          = λ node below way w stale e. parts.unwritten_stay p node head.index.number x (index_unwritten p head x own.counted) way w stale e in
+          = λ node below way w stale e. parts.unwritten_stay here node head.index.number x (index_unwritten p head x own.counted) way w stale e in
       let int : scalar_type p head.index.number ≡ Int = index_int p head x own.counted in
       let run : RunIn Nodes Flow = all_do 0 (λ node. entering erased (node_context p node input) head)
           >>= (λ n. turns n (all_do false (λ node. inside erased (node_context p node input) head)) (then_run (lockstep p input x).all (all_do Next (λ node. step_up head)))) in

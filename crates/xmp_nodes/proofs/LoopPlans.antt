@@ -73,7 +73,7 @@ all_fewer : (n : ℕ) (ms ns : List ℕ) → AllByRecursion (λ j. is_in (n ∷ 
 all_fewer n ms [] h = tt
 all_fewer n ms (j ∷ ns) h = (fewer_in n ms j h.0, all_fewer n ms ns h.1)
 
-wrong_where_unmarks : (node : ℕ) (test : Bool) (rule : ℕ) (at : Place) → Unmarking node (wrong_where test rule at)
+pub wrong_where_unmarks : (node : ℕ) (test : Bool) (rule : ℕ) (at : Place) → Unmarking node (wrong_where test rule at)
 wrong_where_unmarks node true rule at = wrong_unmarks node rule at
 wrong_where_unmarks node false rule at = skip_unmarks node
 
@@ -85,11 +85,11 @@ pub record HeadReads (s : Setting) (node : ℕ) (here : has s.nodes node ≡ tru
   pub to : BoundFacts s node here (may_stand outer written) (terms_of s.program head.to) (reads_of head.to s)
 
 module _ (s : Setting) (node : ℕ) (here : has s.nodes node ≡ true) (written : List ℕ) where
-  abbrev NestReads : List ℕ → List LoopHead → Type 0
+  abbrev pub NestReads : List ℕ → List LoopHead → Type 0
   NestReads outer [] = Unit {0}
   NestReads outer (head ∷ heads) = HeadReads s node here outer written head × NestReads (outer ++ head.index.number ∷ []) heads
 
-  nest_reads : (outer : List ℕ) (heads : List LoopHead) → NothingWrong (in_order (nest_events s outer written heads)) → NestReads outer heads
+  pub nest_reads : (outer : List ℕ) (heads : List LoopHead) → NothingWrong (in_order (nest_events s outer written heads)) → NestReads outer heads
   nest_reads outer [] n = tt
   nest_reads outer (head ∷ heads) n = (
     record {
@@ -101,14 +101,14 @@ module _ (s : Setting) (node : ℕ) (here : has s.nodes node ≡ true) (written 
     nest_reads (outer ++ head.index.number ∷ []) heads (λ rule at t. n rule at (inr t)),
   )
 
-  head_unmarks : (outer : List ℕ) (head : LoopHead) → HeadReads s node here outer written head → Unmarking node (head_events s outer written head)
+  pub head_unmarks : (outer : List ℕ) (head : LoopHead) → HeadReads s node here outer written head → Unmarking node (head_events s outer written head)
   head_unmarks outer head r = all_unmark node (
       reads_of head.from s ∷ wrong_where (not (is_bound outer written head.from)) 12 head.from_at
       ∷ reads_of head.to s ∷ wrong_where (not (is_bound outer written head.to)) 12 head.to_at
       ∷ wrong_where (is_reduced (s.roles head.index.number)) 5 head.index.at ∷ [])
       (r.from.unmarks, (wrong_where_unmarks node _ 12 head.from_at, (r.to.unmarks, (wrong_where_unmarks node _ 12 head.to_at, (wrong_where_unmarks node _ 5 head.index.at, tt)))))
 
-  nest_unmarks : (outer : List ℕ) (heads : List LoopHead) → NestReads outer heads → Unmarking node (in_order (nest_events s outer written heads))
+  pub nest_unmarks : (outer : List ℕ) (heads : List LoopHead) → NestReads outer heads → Unmarking node (in_order (nest_events s outer written heads))
   nest_unmarks outer heads r = all_unmark node (nest_events s outer written heads) (each_one outer heads r)
     where
       each_one : (outer : List ℕ) (heads : List LoopHead) → NestReads outer heads → AllByRecursion (Unmarking node) (nest_events s outer written heads)
@@ -116,7 +116,7 @@ module _ (s : Setting) (node : ℕ) (here : has s.nodes node ≡ true) (written 
       each_one outer (head ∷ heads) r = (head_unmarks outer head r.0, each_one (outer ++ head.index.number ∷ []) heads r.1)
 
   -- the scalars of the bounds are current
-  nest_current : (outer : List ℕ) (heads : List LoopHead) (stale : ℕ → Bool) → NestReads outer heads → Safe node (in_order (nest_events s outer written heads)) stale
+  pub nest_current : (outer : List ℕ) (heads : List LoopHead) (stale : ℕ → Bool) → NestReads outer heads → Safe node (in_order (nest_events s outer written heads)) stale
       → NothingWrong (in_order (nest_events s outer written heads))
       → AllByRecursion (λ slot. IsRead (s.roles slot) stale slot) (slots_of_terms (flat_map (terms_of_head s.program) heads))
   nest_current outer [] stale r f n = tt
@@ -142,7 +142,7 @@ module _ (s : Setting) (node : ℕ) (here : has s.nodes node ≡ true) (written 
       (safe_behind node (head_events s outer written head) rest stale (head_unmarks outer head r.0) f) (λ rule at t. n rule at (inr t)))
 
   -- each loop begins at a value that nothing in it changes
-  nest_begins : (outer : List ℕ) (heads : List LoopHead) (writes : List ℕ) → NestReads outer heads → is_nest s.program heads writes ≡ true
+  pub nest_begins : (outer : List ℕ) (heads : List LoopHead) (writes : List ℕ) → NestReads outer heads → is_nest s.program heads writes ≡ true
       → AllByRecursion (λ j. is_in (indices_of heads ++ writes) j ≡ false) outer
       → ((j : ℕ) → is_in written j ≡ false → is_in (indices_of heads ++ writes) j ≡ false)
       → begins_fixed s.program heads writes ≡ true
@@ -181,7 +181,7 @@ module _ (s : Setting) (node : ℕ) (here : has s.nodes node ≡ true) (written 
 
 -- ---- reduction variables
 
-  reductions_unmark : (before : List ℕ) (rs : List Reduction) → Unmarking node (in_order (reduction_events s before rs))
+  pub reductions_unmark : (before : List ℕ) (rs : List Reduction) → Unmarking node (in_order (reduction_events s before rs))
   reductions_unmark before rs = all_unmark node (reduction_events s before rs) (each_one before rs)
     where
       each_one : (before : List ℕ) (rs : List Reduction) → AllByRecursion (Unmarking node) (reduction_events s before rs)
@@ -189,7 +189,7 @@ module _ (s : Setting) (node : ℕ) (here : has s.nodes node ≡ true) (written 
       each_one before (r ∷ rs) =
           (read_unmarks node _ _ 1 r.variable.at, (wrong_where_unmarks node _ 5 r.variable.at, each_one (before ++ r.variable.number ∷ []) rs))
 
-  reductions_current : has (all_nodes s.program) node ≡ true → (before : List ℕ) (rs : List Reduction) (stale : ℕ → Bool) → Safe node (in_order (reduction_events s before rs)) stale
+  pub reductions_current : has (all_nodes s.program) node ≡ true → (before : List ℕ) (rs : List Reduction) (stale : ℕ → Bool) → Safe node (in_order (reduction_events s before rs)) stale
       → AllByRecursion (λ r. stale (scalar_object r.variable.number) ≡ false) rs
   reductions_current all before [] stale f = tt
   reductions_current all before (r ∷ rs) stale f =
@@ -202,24 +202,3 @@ module _ (s : Setting) (node : ℕ) (here : has s.nodes node ≡ true) (written 
         (safe_behind node wrong rest stale (wrong_where_unmarks node _ 5 r.variable.at)
         (safe_behind node read (sequence wrong rest) stale (read_unmarks node _ _ 1 r.variable.at) f)),
       )
-
--- each reduction variable is named once
-pub named_once : (s : Setting) (before : List ℕ) (rs : List Reduction) → NothingWrong (in_order (reduction_events s before rs))
-    → AllByRecursion (λ r. is_in before r.variable.number ≡ false) rs × NothingWrong (in_order (reduction_events s before rs))
-named_once s before rs n = (each_one before before (λ j e. e) rs n, n)
-  where
-    wider : (ms : List ℕ) (n j : ℕ) → is_in (ms ++ n ∷ []) j ≡ false → is_in ms j ≡ false
-    wider [] n j e = refl
-    wider (m ∷ ms) n j e = at_test (wider ms n j) (m == j) e
-      where
-        at_test : (is_in (ms ++ n ∷ []) j ≡ false → is_in ms j ≡ false) → (b : Bool) → (b || is_in (ms ++ n ∷ []) j) ≡ false → (b || is_in ms j) ≡ false
-        at_test rest true f = f
-        at_test rest false f = rest f
-
-    each_one : (first so_far : List ℕ) → ((j : ℕ) → is_in so_far j ≡ false → is_in first j ≡ false) → (rs : List Reduction)
-        → NothingWrong (in_order (reduction_events s so_far rs)) → AllByRecursion (λ r. is_in first r.variable.number ≡ false) rs
-    each_one first so_far more [] n = tt
-    each_one first so_far more (r ∷ rs) n = (
-      more r.variable.number (test_fails (is_in so_far r.variable.number) 5 r.variable.at (λ rule at t. n rule at (inr (inl t)))),
-      each_one first (so_far ++ r.variable.number ∷ []) (λ j e. more j (wider so_far r.variable.number j e)) rs (λ rule at t. n rule at (inr (inr t))),
-    )

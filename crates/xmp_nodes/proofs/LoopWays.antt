@@ -52,7 +52,7 @@ safe_past node e (x ∷ xs) q stale f =
 
 module _ (node all : ℕ) (here : has all node ≡ true) where
   -- objects that are put out of date on all nodes
-  abbrev staled : List ℕ → List Event
+  abbrev pub staled : List ℕ → List Event
   staled objects = map (λ o. Mark o 0 all) objects
 
   stale_mark : (target object : ℕ) (was : Bool) → target ≡ object → after_event object node (Mark target 0 all) was ≡ true
@@ -94,7 +94,7 @@ module _ (node all : ℕ) (here : has all node ≡ true) where
   )
 
   -- objects that are made current on all nodes
-  abbrev freshened : List ℕ → List Event
+  abbrev pub freshened : List ℕ → List Event
   freshened objects = map (λ o. Mark o all 0) objects
 
   fresh_mark : (target object : ℕ) (was : Bool) → after_event object node (Mark target all 0) was ≡ false → (was ≡ false) ⊎ (target ≡ object)
@@ -184,37 +184,37 @@ shadow_among set (a ∷ arrays) array t m i e = at_test (shadow_among set arrays
     at_test rest false g f = in_behind (shadow_at a (elements.home_of set a)) (shadow_objects set arrays) (array_object array) (rest f e)
 
 module _ (set : Setting) (d : LoopDirective) (body : Stmt) (events : Setting → Plan Event) where
-  abbrev inside_plan : Plan Event
+  abbrev pub inside_plan : Plan Event
   inside_plan = wrong_where set.inside 10 d.at
 
-  abbrev nest_plan : Plan Event
+  abbrev pub nest_plan : Plan Event
   nest_plan = in_order (nest_events (at_bounds d body set) [] (scalars_of d body) d.nest)
 
-  abbrev reductions_plan : Plan Event
+  abbrev pub reductions_plan : Plan Event
   reductions_plan = in_order (reduction_events set [] d.reductions)
 
-  abbrev turns_plan : Plan Event
+  abbrev pub turns_plan : Plan Event
   turns_plan = loop (iteration set d body events)
 
-  abbrev ends_plan : Plan Event
+  abbrev pub ends_plan : Plan Event
   ends_plan = in_order (ends set d body)
 
-  abbrev reduced_slots : List ℕ
+  abbrev pub reduced_slots : List ℕ
   reduced_slots = map (λ r. r.variable.number) d.reductions
 
   module _ (node : ℕ) (here : has (all_nodes set.program) node ≡ true) where
-    abbrev all : ℕ
+    abbrev pub all : ℕ
     all = all_nodes set.program
 
     -- ---- the end
 
-    abbrev stale_objects : List ℕ
+    abbrev pub stale_objects : List ℕ
     stale_objects = map scalar_object (own_scalars d body ++ indices_of d.nest)
 
-    abbrev fresh_objects : List ℕ
+    abbrev pub fresh_objects : List ℕ
     fresh_objects = map scalar_object reduced_slots
 
-    abbrev end_way : List Event
+    abbrev pub end_way : List Event
     end_way = staled node all here stale_objects ++ (freshened node all here fresh_objects ++ staled node all here (shadow_objects set (arrays_written body)))
 
     shadow_path : (arrays : List ℕ) → Path (in_order (map (shadow_stale set) arrays)) (staled node all here (shadow_objects set arrays))
@@ -251,7 +251,7 @@ module _ (set : Setting) (d : LoopDirective) (body : Stmt) (events : Setting →
     -- ---- the whole
 
     module _ (inside_unmarks : Unmarking node inside_plan) (nest_unmarks : Unmarking node nest_plan) (reductions_unmark : Unmarking node reductions_plan) where
-      abbrev loop_way : List Event
+      abbrev pub loop_way : List Event
       loop_way = (some_path inside_plan).0 ++ ((some_path nest_plan).0 ++ ((some_path reductions_plan).0 ++ ([] ++ (end_way ++ []))))
 
       pub loop_path : Path (loop_events d body events set) loop_way
@@ -330,7 +330,7 @@ module _ (set : Setting) (d : LoopDirective) (body : Stmt) (events : Setting →
 
       -- ---- an iteration
 
-      abbrev turn_stale : (ℕ → Bool) → ℕ → Bool
+      abbrev pub turn_stale : (ℕ → Bool) → ℕ → Bool
       turn_stale stale = left node (map (λ slot. Mark (scalar_object slot) 0 all) (own_scalars d body)) stale
 
       turn_marks : (stale : ℕ → Bool) (object : ℕ)

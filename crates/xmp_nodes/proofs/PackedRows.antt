@@ -82,7 +82,7 @@ home_there p array a e = ap home_of_array e
 pub extents_there : (p : ProgParts) (array : ℕ) (a : Array) → slice_get p.arrays array ≡ Some a → extents p array ≡ a.extents
 extents_there p array a e = ap extents_of_array e
 
-all_at : {A : Type 0} (P : A → Type 0) (xs : List A) → AllByRecursion P xs → (i : ℕ) (x : A) → slice_get xs i ≡ Some x → P x
+pub all_at : {A : Type 0} (P : A → Type 0) (xs : List A) → AllByRecursion P xs → (i : ℕ) (x : A) → slice_get xs i ≡ Some x → P x
 all_at P [] h i x e = absurd (none-some x e)
 all_at P (y ∷ xs) h zero x e = subst P (same_Some y x e) h.0
 all_at P (y ∷ xs) h (suc i) x e = all_at P xs h.1 i x e

@@ -105,7 +105,7 @@ counted_cells (e ∷ es) k t =
 -- ---- a map's cells
 
 module _ (t : ℕ) (m : ArrayMap) (es : List ℕ) (three : HasThree m) (fits : MapFits (home.Spread t m) es) (few : length es ≤ 3) where
-  filled_out : held.extents m ≡ es ++ replicate (3 - length es) 1
+  pub filled_out : held.extents m ≡ es ++ replicate (3 - length es) 1
   filled_out = sym (map_extents t m es three fits few) ∙ filled_is 1 es few
 
   pub product_same : product (held.extents m) ≡ product es
@@ -126,12 +126,12 @@ and_turned true false = refl
 and_turned false true = refl
 and_turned false false = refl
 
-abbrev row_of_home : Home → ℕ
+abbrev pub row_of_home : Home → ℕ
 row_of_home (home.Spread t m) = product (held.extents m)
 row_of_home home.Copy = 0
 row_of_home home.Image = 0
 
-rows_fit : (p : ProgParts) → RowsFit p (λ a. row_of_home (home_of p a))
+pub rows_fit : (p : ProgParts) → RowsFit p (λ a. row_of_home (home_of p a))
 rows_fit p array number m e = ap row_of_home e
 
 -- what is sent between two nodes, at a message of words

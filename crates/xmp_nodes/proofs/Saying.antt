@@ -1,5 +1,5 @@
 -- What is said is counted as it is noted, and then every node does something by itself.
-use Rattle.std.proofs.Common.{◌≡◌, ◌≢◌, ◌<◌, ◌+◌, ◌++◌, ◌==◌, if◌then◌else◌, ℕ, zero, suc, Bool, true, false, List, [], ◌∷◌, map, length, Option, Some, None, option_map, refl, sym, ap, subst, ◌∙◌, arith}
+use Rattle.std.proofs.Common.{◌≡◌, ◌≢◌, ◌<◌, ◌+◌, ◌-◌, ◌^◌, min, ◌++◌, ◌==◌, if◌then◌else◌, ℕ, zero, suc, Bool, true, false, List, [], ◌∷◌, map, length, Option, Some, None, option_map, refl, sym, ap, subst, ◌∙◌, arith}
 use Rattle.std.specs.Prelude.{slice_get}
 use Rattle.std.specs.List.{sum_by}
 use Rattle.std.proofs.lemmas.Bool.{eqb-true, eq-eqb}
@@ -12,7 +12,7 @@ use Rattle.xmp_paths.specs.Plans.{Plan}
 use Rattle.xmp_meaning.specs.Runs.{State, Step, StepIn, Gave, Ended, Run}
 use Rattle.xmp_meaning.specs.Exchanges.{Exchange, Notes}
 use Rattle.xmp_meaning.specs.Messages.{Message, words_sent, words_alone, message, sent, said as said_in}
-use Rattle.xmp_nodes.specs.Nodes.{Nodes, all_do, raised_by, rows_raised, saying}
+use Rattle.xmp_nodes.specs.Nodes.{bounded, Nodes, all_do, raised_by, rows_raised, saying}
 use Rattle.xmp_nodes.proofs.Each.{Alone, AllAre, Meets, AllMeet, all_do_meets, rows_at, rows_length, raised_length}
 use Rattle.xmp_nodes.proofs.Agrees.{Counted, ReadyAt, Ready, AllGo, AllAlong}
 
@@ -26,13 +26,13 @@ SaidAsNoted p said x = (from to : ℕ) → from < node_count p → to < node_cou
 
 -- an element of a list that is raised
 raised_from : (more : ℕ → ℕ) (a : ℕ) (ns : List ℕ) (k n : ℕ) → slice_get (raised_by more a ns) k ≡ Some n
-    → (m : ℕ) × (slice_get ns k ≡ Some m) × (n ≡ m + more (a + k))
+    → (m : ℕ) × (slice_get ns k ≡ Some m) × (n ≡ bounded (m + more (a + k)))
 raised_from more a [] k n e = absurd (none-some n e)
-raised_from more a (m ∷ ns) zero n e = let z : a ≡ a + 0 = omega arith in (m, refl, sym (same_Some (m + more a) n e) ∙ ap (λ j. m + more j) z)
+raised_from more a (m ∷ ns) zero n e = let z : a ≡ a + 0 = omega arith in (m, refl, sym (same_Some (bounded (m + more a)) n e) ∙ ap (λ j. bounded (m + more j)) z)
 raised_from more a (m ∷ ns) (suc k) n e =
     let r = raised_from more (suc a) ns k n e in
     let shift : suc a + k ≡ a + suc k = omega arith in
-    (r.0, r.1, r.2 ∙ ap (λ j. r.0 + more j) shift)
+    (r.0, r.1, r.2 ∙ ap (λ j. bounded (r.0 + more j)) shift)
 
 raised_rows : (more : ℕ → ℕ → ℕ) (a : ℕ) (rows : List (List ℕ)) (k : ℕ) (row : List ℕ) → slice_get (rows_raised more a rows) k ≡ Some row
     → (before : List ℕ) × (slice_get rows k ≡ Some before) × (row ≡ raised_by (more (a + k)) 0 before)
@@ -61,6 +61,13 @@ told_same p said x from to same lf lt = at_test (from == to) refl
     at_test true e = sym (silent true e refl)
     at_test false e = same from to lf lt (different from to e)
 
+-- a count that was stopped and goes on
+least_on : (a b c : ℕ) → min (min a c + b) c ≡ min (a + b) c
+least_on a b c = omega arith
+
+pub bounded_on : (a b : ℕ) → bounded (bounded a + b) ≡ bounded (a + b)
+bounded_on a b = least_on a b (2 ^ 64 - 1)
+
 -- so the counts are those of the notes
 pub counts_said : (p : ProgParts) (notes : Notes) (turns : List ℕ) (rows : List (List ℕ)) (said : ℕ → ℕ → Message) (x : Exchange)
     → Counted p notes turns rows → SaidAsNoted p said x → Counted p (noted_behind notes x) turns (rows_raised (told said) 0 rows)
@@ -79,9 +86,10 @@ counts_said p notes turns rows said x c same = record {
       let zf : 0 + from ≡ from = omega arith in
       let zt : 0 + to ≡ to = omega arith in
       g.2
-      ∙ (λ i. c.sent from to g.0 r.0 r.1 g.1 i + told said (zf i) (zt i))
-      ∙ ap (λ m. sent p notes.exchanges from to + m) (told_same p said x from to same lf lt)
-      ∙ sym (sum_by_push (λ y. words_sent (message p y from to)) notes.exchanges x);
+      ∙ (λ i. bounded (c.sent from to g.0 r.0 r.1 g.1 i + told said (zf i) (zt i)))
+      ∙ bounded_on (sent p notes.exchanges from to) (told said from to)
+      ∙ ap (λ m. bounded (sent p notes.exchanges from to + m)) (told_same p said x from to same lf lt)
+      ∙ ap bounded (sym (sum_by_push (λ y. words_sent (message p y from to)) notes.exchanges x));
 }
 
 -- What is said is noted, and each node is ready then: so are all.

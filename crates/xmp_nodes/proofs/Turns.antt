@@ -25,17 +25,15 @@ use Rattle.xmp_meaning_laws.proofs.Folds.{Full}
 abbrev pub values_in : List ℤ → List ℕ → List ℤ
 values_in xs slots = map (λ slot. unwrap_or (slice_get xs slot) (pos 0)) slots
 
-ThereIn : List ℤ → List ℕ → Type 0
+abbrev pub ThereIn : List ℤ → List ℕ → Type 0
 ThereIn xs slots = AllByRecursion (λ i. is_some (slice_get xs i) ≡ true) slots
 
-there_set : (xs : List ℤ) (i : ℕ) (v : ℤ) (slots : List ℕ) → ThereIn xs slots → ThereIn (slice_set xs i v) slots
-unfolding ThereIn
+pub there_set : (xs : List ℤ) (i : ℕ) (v : ℤ) (slots : List ℕ) → ThereIn xs slots → ThereIn (slice_set xs i v) slots
 there_set xs i v [] h = tt
 there_set xs i v (j ∷ slots) h = (some_by_length xs (slice_set xs i v) j (length-set xs i v) h.0, there_set xs i v slots h.1)
 
 values_where : (slots : List ℕ) (vs xs : List ℤ) → Apart slots → length vs ≡ length slots → ThereIn xs slots
     → values_in (set_where slots (map Some vs) xs) slots ≡ vs
-unfolding ThereIn
 values_where [] [] xs f l there = refl
 values_where [] (v ∷ vs) xs f l there = absurd (omega (arith, l))
 values_where (i ∷ slots) [] xs f l there = absurd (omega (arith, l))
@@ -47,7 +45,6 @@ values_where (i ∷ slots) (v ∷ vs) xs f l there =
 
 pub values_at_tuple : {X : Type 0} (slots : List ℕ) (vs : List ℤ) (s : State X) → Apart slots → length vs ≡ length slots → Exists s slots
     → values_of (at_tuple slots vs s) slots ≡ vs
-unfolding ThereIn
 values_at_tuple slots vs s f l there = values_where slots vs s.scalars f l there
 
 pub values_same : {X : Type 0} (s t : State X) (slots : List ℕ) → AllByRecursion (λ i. slice_get t.scalars i ≡ slice_get s.scalars i) slots

@@ -9,3 +9,4 @@ pub mod Tasks
 pub mod Lockstep
 pub mod Worlds
 pub mod Stands
+pub mod Answers

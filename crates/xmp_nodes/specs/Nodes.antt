@@ -1,5 +1,5 @@
 -- All nodes in step: each has a state of its own, whose arrays are packed (this project).
-use Rattle.std.specs.Prelude.{ℕ, suc, ◌+◌, ◌==◌, if◌then◌else◌, List, [], ◌∷◌, length, map, replicate, slice_get, unwrap_or, Option, Some, None}
+use Rattle.std.specs.Prelude.{ℕ, suc, ◌+◌, ◌-◌, ◌^◌, ◌==◌, min, if◌then◌else◌, List, [], ◌∷◌, length, map, replicate, slice_get, unwrap_or, Option, Some, None}
 use Rattle.std.specs.List.{range_with_len}
 use Rattle.xmp_prog.specs.declared.parts.ProgParts.{ProgParts}
 use Rattle.xmp_prog.specs.Fits.{node_count}
@@ -50,10 +50,14 @@ all_do none run w = led none (each_does run 0 w.stores) (with_steps (each_does r
 
 -- ---- counts
 
+-- a count goes no further than the greatest number of 64 bits
+abbrev pub bounded : ℕ → ℕ
+bounded n = min n (2 ^ 64 - 1)
+
 -- each of a list with what a function adds to it by its number
 abbrev pub raised_by : (ℕ → ℕ) → (at : ℕ) → List ℕ → List ℕ
 raised_by more at [] = []
-raised_by more at (n ∷ ns) = (n + more at) ∷ raised_by more (suc at) ns
+raised_by more at (n ∷ ns) = bounded (n + more at) ∷ raised_by more (suc at) ns
 
 abbrev pub rows_raised : (ℕ → ℕ → ℕ) → (from : ℕ) → List (List ℕ) → List (List ℕ)
 rows_raised more from [] = []

@@ -16,7 +16,8 @@ use Rattle.xmp_meaning.specs.Stores.{words_on, base_of}
 use Rattle.xmp_meaning.specs.Traffic.{traffic, turns_on, copied}
 use Rattle.xmp_move.specs.Sides.{padded, owns_cell, holds_cell, position}
 use Rattle.xmp_move.specs.Stores.{word_at}
-use Rattle.xmp_nodes.specs.Worlds.{World, bounded}
+use Rattle.xmp_nodes.specs.Nodes.{bounded}
+use Rattle.xmp_nodes.specs.Worlds.{World}
 
 -- The store of a node where a program ends by itself: it has the node's words; each cell stands at its owner's slot, and
 -- each other holder has the copied value.

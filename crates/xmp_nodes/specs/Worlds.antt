@@ -1,5 +1,5 @@
 -- A world of nodes at its end, as contracts see it (this project).
-use Rattle.std.specs.Prelude.{ℕ, ◌-◌, ◌^◌, min, List, [], ◌∷◌, map, ℤ, Option}
+use Rattle.std.specs.Prelude.{ℕ, List, [], ◌∷◌, map, ℤ, Option}
 use Rattle.xmp_meaning.specs.declared.ends.End.{End}
 use Rattle.xmp_meaning.specs.declared.ends.Flow.{Flow}
 use Rattle.xmp_meaning.specs.Runs.{State, StepIn, end_of, state_of}
@@ -15,9 +15,6 @@ pub record World : Type 0 where
   pub turns : List ℕ
   pub sent : List (List ℕ)
 
-abbrev pub bounded : ℕ → ℕ
-bounded n = min n (2 ^ 64 - 1)
-
 abbrev pub out_of : List (State (Unit {0})) → List ℕ
 out_of [] = []
 out_of (s ∷ ss) = s.out
@@ -27,6 +24,6 @@ world_after step = record {
   ended = end_of step;
   out = out_of (state_of step).stores;
   stores = map store_of (state_of step).stores;
-  turns = map bounded (state_of step).turns;
-  sent = map (map bounded) (state_of step).sent;
+  turns = (state_of step).turns;
+  sent = (state_of step).sent;
 }
