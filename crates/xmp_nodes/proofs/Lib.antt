@@ -80,3 +80,5 @@ pub mod PlainValues
 pub mod PlainWriting
 pub mod CountedCarried
 pub mod StatementsCarried
+pub mod PlainsCarried
+pub mod CellsCarried
