@@ -1,6 +1,6 @@
 -- What a node reads where nothing is wrong: an expression at a node follows the serial one.
 use Rattle.std.proofs.Common.{◌≡◌, ◌≢◌, ◌<◌, ◌++◌, ◌*◌, ◌&&◌, ◌||◌, ◌⊎◌, inl, inr, not, ℕ, zero, suc, ℤ, pos, Bool, true, false, true≢false, List, [], ◌∷◌, length, map, Option, Some, None, refl, sym, subst, ap, ◌∙◌, ⊎_elim, if◌then◌else◌, eqb-true}
-use Rattle.std.specs.Prelude.{slice_get, is_none, unwrap_or}
+use Rattle.std.specs.Prelude.{slice_get, is_none, is_some, unwrap_or}
 use Rattle.std.specs.List.{AllByRecursion, list_all, flat_map}
 use Rattle.std.specs.Option.{option_map}
 use Rattle.std.proofs.lemmas.List.{length-map}
@@ -171,6 +171,13 @@ module _ (a : Stand) (is : IsSetting a) (there : has a.set.nodes a.node ≡ true
   long_of e h =
       sym (length-map (map (typed a.program) e.subscripts) (λ x. x.ty) ∙ length-map e.subscripts (typed a.program))
       ∙ long_subscripts a.program (slice_get a.program.arrays e.array) (map (λ x. x.ty) (map (typed a.program) e.subscripts)) (element_test e h).0
+
+  pub some_of : (e : Access) → list_all (term_test a.program) (terms_of_access a.program e) ≡ true → is_some (slice_get a.program.arrays e.array) ≡ true
+  some_of e h = of_array_there (slice_get a.program.arrays e.array) (element_test e h).0
+    where
+      of_array_there : (o : Option Array) → subscripts_fit o (types_of e).subscripts ≡ true → is_some o ≡ true
+      of_array_there None h = h
+      of_array_there (Some r) h = refl
 
   pub own_of : (e : Access) → list_all (term_test a.program) (terms_of_access a.program e) ≡ true → is_none e.image ≡ true
   own_of e h = of_image e.image (element_test e h).1

@@ -24,7 +24,7 @@ use Rattle.xmp_nodes.proofs.ReadEvents.{expr_each, access_each}
 use Rattle.xmp_nodes.proofs.Leaves.{ReadsKeep}
 
 module _ (s : Setting) where
-  role_unmarked : (slot : ℕ) (at : Place) (r : Role) → EachEvent NoMark (read_scalar s slot at r)
+  pub role_unmarked : (slot : ℕ) (at : Place) (r : Role) → EachEvent NoMark (read_scalar s slot at r)
   role_unmarked slot at Shared = each_emit NoMark (Read (scalar_object slot) s.nodes 1 at) tt
   role_unmarked slot at Index = each_skip NoMark
   role_unmarked slot at (Reduced op) = each_emit NoMark (Wrong 5 at) tt
