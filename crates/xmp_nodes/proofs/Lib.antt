@@ -76,3 +76,7 @@ pub mod PlainValues
 pub mod PlainWriting
 pub mod PlainsCarried
 pub mod CellsCarried
+pub mod WideBits
+pub mod SameGives
+pub mod SumWrites
+pub mod ReductionValues
