@@ -119,7 +119,7 @@ module _ (a : Stand) where
   goes_weaker V W p q stale s n (Ended e t) (Ended d m) f g h = h
 
   -- what is done first, and then the rest
-  goes_behind : {B : Type 0} (W : B → Type 0) (p q : Plan Event) (stale : ℕ → Bool) (s t : State Notes) (n m : State (Unit {0})) (way : List Event)
+  pub goes_behind : {B : Type 0} (W : B → Type 0) (p q : Plan Event) (stale : ℕ → Bool) (s t : State Notes) (n m : State (Unit {0})) (way : List Event)
       → Path p way → Framed a s t → (r : Step Notes B) (r' : Step (Unit {0}) B)
       → Along a W q (left a.node way stale) t m r r' → Along a W (sequence p q) stale s n r r'
   goes_behind W p q stale s t n m way path f (Gave v u) (Gave w l) h = record {

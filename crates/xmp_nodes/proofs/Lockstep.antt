@@ -122,10 +122,10 @@ no_form p e a b = of_tests (is_nothing (out-Stmt b)) (assigns (out-Stmt a))
     of_tests true (Some set) = refl
 
 -- the index of a counted loop is an int that its body doesn't write
-index_int : (p : ProgParts) (head : LoopHead) (x : Stmt) → is_counted p head (writes_of x) ≡ true → scalar_type p head.index.number ≡ Int
+pub index_int : (p : ProgParts) (head : LoopHead) (x : Stmt) → is_counted p head (writes_of x) ≡ true → scalar_type p head.index.number ≡ Int
 index_int p head x e = (nest_ints p (head ∷ []) (writes_of x) (ap (λ b. b && true) e)).0
 
-index_unwritten : (p : ProgParts) (head : LoopHead) (x : Stmt) → is_counted p head (writes_of x) ≡ true → AllByRecursion (λ n. n ≢ head.index.number) (scalars_written x)
+pub index_unwritten : (p : ProgParts) (head : LoopHead) (x : Stmt) → is_counted p head (writes_of x) ≡ true → AllByRecursion (λ n. n ≢ head.index.number) (scalars_written x)
 index_unwritten p head x e =
     let slots : List ℕ = slots_of_terms (terms_of p head.to) in
     let others : Bool = ((head.step == 1) && not head.inclusive) || (is_small_constant head.to && (nat_le 1 head.step && nat_le head.step most_counted)) in

@@ -84,7 +84,7 @@ module _ (p : ProgParts) (global : IsGlobal p) (some : 0 < node_count p) (input 
   pub first_have : has (all_nodes p) 0 ≡ true
   first_have = all_have p 0 some
 
-  apart_all : Apart slots
+  pub apart_all : Apart slots
   apart_all = indices_apart p global some first_have d body fits nothing
 
   abbrev stand : (node : ℕ) → (ℕ → ℤ) → Stand
@@ -98,10 +98,10 @@ module _ (p : ProgParts) (global : IsGlobal p) (some : 0 < node_count p) (input 
       let behind : _ = all_apart (λ n. n < length p.scalars) (flat_map slots_of_point d.points) (slots ++ map (λ r. r.variable.number) d.reductions) beside.0 in
       (all_apart (λ n. n < length p.scalars) slots (map (λ r. r.variable.number) d.reductions) behind.1).0
 
-  serial_there : (s : State Notes) → IsWhole p s → Exists s slots
+  pub serial_there : (s : State Notes) → IsWhole p s → Exists s slots
   serial_there s w = exist_below s slots (length p.scalars) w.scalars indices_below
 
-  node_there : (node : ℕ) (n : State (Unit {0})) → IsNodeState p node n → Exists n slots
+  pub node_there : (node : ℕ) (n : State (Unit {0})) → IsNodeState p node n → Exists n slots
   node_there node n w = exist_below n slots (length p.scalars) w.scalars indices_below
 
   -- an index has no other role
