@@ -83,3 +83,7 @@ pub mod StatementsCarried
 pub mod PlainsCarried
 pub mod CellsCarried
 pub mod Theorem
+pub mod WideBits
+pub mod SameGives
+pub mod SumWrites
+pub mod ReductionValues
