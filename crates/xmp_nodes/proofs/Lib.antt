@@ -87,3 +87,6 @@ pub mod WideBits
 pub mod SameGives
 pub mod SumWrites
 pub mod ReductionValues
+pub mod AllPlains
+pub mod ReductionForms
+pub mod SetForms
