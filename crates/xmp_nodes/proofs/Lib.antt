@@ -82,3 +82,4 @@ pub mod CountedCarried
 pub mod StatementsCarried
 pub mod PlainsCarried
 pub mod CellsCarried
+pub mod SkipMarks
