@@ -160,13 +160,13 @@ module _ (a : Stand) (is : IsSetting a) (there : has a.set.nodes a.node ≡ true
       (each_is_fine a.node (in_order (reads_of_all es a.set)) stale safe none (ordered_each NoMark (reads_of_all es a.set) (all_unmarked a.set es)))
 
   -- `v o= x`
-  compound_form : (d : Compound) (x : Expr) (es : List Expr) → assignment_form a.program slot r here (Some d) x ≡ Some es → AllByRecursion (TermStands a.program) (terms_of a.program x) → fits_in a.program slot d.ty ≡ true
+  compound_form : (d : Compound) (x : Expr) (es : List Expr) → assignment_form a.program slot r here (Some d) x ≡ Some es → AllByRecursion (TermStands a.program) (terms_of a.program x)
       → NothingWrong (in_order (reads_of_all es a.set)) → Follows (Some d) x es
-  compound_form d x es form terms wide none =
-      let k : _ = if_apart_is slot (is_operator r d.op) (x ∷ []) x es form in
+  compound_form d x es form terms none =
+      let k : _ = if_apart_is slot (is_operator r d.op && fits_in a.program slot d.ty) (x ∷ []) x es form in
       subst (Follows (Some d) x) k.1 (λ stale s n safe g.
       let fine : _ = fine_of (x ∷ []) stale safe (subst (λ l. NothingWrong (in_order (reads_of_all l a.set))) (sym k.1) none) in
-      joins_along a is there input stale s n g slot r role lies (reads_of_all (x ∷ []) a.set) (all_unmarked a.set (x ∷ [])) d.op d.ty (type_of a.program x) d.at k.0 (wide_of a.program slot d.ty wide)
+      joins_along a is there input stale s n g slot r role lies (reads_of_all (x ∷ []) a.set) (all_unmarked a.set (x ∷ [])) d.op d.ty (type_of a.program x) d.at (and_left (is_operator r d.op) (fits_in a.program slot d.ty) k.0) (wide_of a.program slot d.ty (and_right (is_operator r d.op) (fits_in a.program slot d.ty) k.0))
       (expr_of erased (serial_cx a.program input) x s) (expr_of erased (node_context a.program a.node input) x n) (value_or_stop a is there input stale s n g x (in_loop a is slot r role) terms fine.0))
 
   -- `v = v o x`
@@ -231,7 +231,7 @@ module _ (a : Stand) (is : IsSetting a) (there : has a.set.nodes a.node ≡ true
 
   pub set_form : (c : Option Compound) (e : Expr) (es : List Expr) → assignment_form a.program slot r here c e ≡ Some es → StepFits a.program (Stmt-F.Plain (plain.Set (target.Scalar slot here) c e)) → NothingWrong (in_order (reads_of_all es a.set)) → Follows c e es
   set_form None e es form fits none = value_forms e es form fits.terms none
-  set_form (Some d) e es form fits none = compound_form d e es form fits.terms fits.stands.wide none
+  set_form (Some d) e es form fits none = compound_form d e es form fits.terms none
 
 pub set_forms_carry : SetFormsCarry
 set_forms_carry a is there input slot at c e op es role form fits writes none =
