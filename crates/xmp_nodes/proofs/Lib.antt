@@ -90,3 +90,4 @@ pub mod ReductionValues
 pub mod AllPlains
 pub mod ReductionForms
 pub mod SetForms
+pub mod SkipMarks

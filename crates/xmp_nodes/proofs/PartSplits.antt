@@ -133,7 +133,7 @@ abbrev Pass : (Statement → Bool) → List Statement → Type 0
 Pass test ys = list_all test ys ≡ true
 
 pub body_fits : BodyFits
-body_fits p g = record {
+body_fits p g wide = record {
   terms = terms_stand p (terms_of_stmt p p.body) (of_terms constant_fits g.fits.expressions.constants) (of_terms operands_fit g.fits.expressions.operands) (of_terms choice_fits g.fits.expressions.choices)
       (of_terms (element_fits p) g.fits.expressions.elements) (of_terms (image_fits p) g.fits.kinds.images) (of_terms asks_no_node (global_not p p.kind (list_all asks_no_node (terms_of_program p)) g.kind g.fits.kinds.node_numbers));
   statements = all_stand (statements_of p.body)
@@ -153,7 +153,7 @@ body_fits p g = record {
       (of_statements (cast_fits p) g.fits.directives.casts)
       (of_statements (tasks_inside p) g.fits.directives.tasks)
       (of_statements (tasks_apart p) g.fits.directives.tasks_apart)
-      g.wide;
+      wide;
   slots = all_below (length p.scalars) (slots_of_stmt p p.body)
       (list_last (λ n. nat_lt n (length p.scalars)) (slots_of_starts p) (slots_of_stmt p p.body)
       (list_last (λ n. nat_lt n (length p.scalars)) (flat_map (slots_of_function p) p.functions) (slots_of_main p) g.fits.scalars.numbers));

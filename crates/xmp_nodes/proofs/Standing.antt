@@ -18,7 +18,7 @@ use Rattle.xmp_meaning.specs.Declarations.{home_of, scalar_type}
 use Rattle.xmp_num.specs.declared.types.Ty.TheVariants.{Int}
 use Rattle.xmp_meaning.specs.Writes.{scalars_written, arrays_written}
 use Rattle.xmp_nodes.specs.Lists.{HasAxes}
-use Rattle.xmp_nodes.specs.Wide.{compound_wide, CompoundsAreWide}
+use Rattle.xmp_nodes.specs.Wide.{compound_wide}
 use Rattle.xmp_nodes.proofs.Agrees.{Stand, is_changed}
 
 -- a program of one view for all nodes, whose parts fit
@@ -26,7 +26,6 @@ pub record IsGlobal (p : ProgParts) : Type 0 where
   pub fits : PartsFit p
   pub kind : p.kind ≡ Global
   pub axes : HasAxes p
-  pub wide : CompoundsAreWide p
 
 -- ---- parts
 

@@ -70,8 +70,8 @@ pub nodes_carry_out : PlainsCarry → IfFormsCarry → StatementsSkip → (p : P
     → PartsFit p → p.kind ≡ Global → HasAxes p → CompoundsAreWide p → IsFirst (FlowBreaks p) None
     → StandsFor p input steps (world_after (nodes_end p input steps))
 nodes_carry_out plains if_forms skips p input steps fits kind axes wide none =
-    carried_out p (record { fits = fits; kind = kind; axes = axes; wide = wide }) input steps (all_parts plains if_forms skips) body_fits none
+    carried_out p (record { fits = fits; kind = kind; axes = axes }) input steps (all_parts plains if_forms skips) body_fits wide none
 
-pub worlds_answer : (p : ProgParts) (input : List ℕ) (steps : ℕ) (w : World) → PartsFit p → p.kind ≡ Global → HasAxes p → CompoundsAreWide p
+pub worlds_answer : (p : ProgParts) (input : List ℕ) (steps : ℕ) (w : World) → PartsFit p → p.kind ≡ Global → HasAxes p
     → StandsFor p input steps w → answer_of p w ≡ serial p input steps
-worlds_answer p input steps w fits kind axes wide st = answers p (record { fits = fits; kind = kind; axes = axes; wide = wide }) input steps w st
+worlds_answer p input steps w fits kind axes st = answers p (record { fits = fits; kind = kind; axes = axes }) input steps w st
