@@ -51,7 +51,6 @@ use Rattle.xmp_meaning.specs.Writes.{scalars_written}
 use Rattle.xmp_meaning.specs.Exchanges.{Notes, traced}
 use Rattle.xmp_meaning.specs.Traffic.{node_context}
 use Rattle.xmp_meaning_laws.specs.Laws.{is_plain}
-use Rattle.xmp_nodes.specs.Wide.{CompoundsAreWide}
 use Rattle.xmp_nodes.specs.Casting.{cast_all}
 use Rattle.xmp_nodes.specs.Reflecting.{reflect_all}
 use Rattle.xmp_nodes.specs.Moving.{gmove_all}
@@ -71,7 +70,7 @@ noting p input x = stmt_of (traced p) (serial_cx p input) x
 -- ---- the second helper's: parts of programs
 
 abbrev pub BodyFits : Type 0
-BodyFits = (p : ProgParts) → IsGlobal p → CompoundsAreWide p → PartFits p p.body
+BodyFits = (p : ProgParts) → IsGlobal p → PartFits p p.body
 
 abbrev pub BlocksFit : Type 0
 BlocksFit = (p : ProgParts) (all : List Stmt) → PartFits p (stmt.Block all) → AllByRecursion (PartFits p) all

@@ -48,7 +48,6 @@ use Rattle.xmp_move.specs.Whole.{HasSlots}
 use Rattle.xmp_move.proofs.SidesKept.{owners_hold}
 use Rattle.xmp_nodes.specs.Nodes.{Nodes, bounded, all_do, nodes_beginning}
 use Rattle.xmp_nodes.specs.Lockstep.{lockstep, nodes_end}
-use Rattle.xmp_nodes.specs.Wide.{CompoundsAreWide}
 use Rattle.xmp_nodes.specs.Worlds.{World, out_of, world_after}
 use Rattle.xmp_nodes.specs.Stands.{StoreStands, StoresStand, StandsFor}
 use Rattle.xmp_nodes.proofs.Agrees.{Agrees, Anything, IsNext, base_at, at_main, ReadyAt, Counted, Ready, AllAlong}
@@ -170,8 +169,8 @@ module _ (p : ProgParts) (global : IsGlobal p) (input : List ℕ) (steps : ℕ) 
     at_end = λ none. absurd (none-some f (sym none));
   }
 
-  pub carried_out : Parts → BodyFits → CompoundsAreWide p → IsFirst (FlowBreaks p) None → StandsFor p input steps (world_after (nodes_end p input steps))
-  carried_out parts body_fits wide none =
+  pub carried_out : Parts → BodyFits → IsFirst (FlowBreaks p) None → StandsFor p input steps (world_after (nodes_end p input steps))
+  carried_out parts body_fits none =
       let fine : ((node : ℕ) → Safe node (plan_of_program p) (λ object. false)) × NothingWrong (plan_of_program p) = (safe_is (plan_of_program p)).0 (nothing_breaks p none) in
       let ready : Ready p (sequence (sequence skip (plan_of_program p)) skip) (first_state p steps) (nodes_beginning p steps) =
           begins_ready p global steps (sequence (sequence skip (plan_of_program p)) skip)
@@ -180,5 +179,5 @@ module _ (p : ProgParts) (global : IsGlobal p) (input : List ℕ) (steps : ℕ) 
       (all_then p Anything skip (plan_of_program p) (starts (traced p) (serial_cx p input) p.start) (noting p input p.body)
       (all_do Next (λ node. starts erased (node_context p node input) p.start)) (lockstep p input p.body).all
       (starts_go p input (some_nodes p) (all_of_test (λ s. is_constant s.value) p.start global.fits.scalars.start_values))
-      (main_goes parts p global (some_nodes p) input global.fits.statements.returns (body_fits p global wide) fine.1)
+      (main_goes parts p global (some_nodes p) input global.fits.statements.returns (body_fits p global) fine.1)
       skip (first_state p steps) (nodes_beginning p steps) ready)

@@ -7,7 +7,6 @@ use Rattle.xmp_prog.specs.Fits.{PartsFit}
 use Rattle.xmp_flow.specs.Program.{FlowBreaks}
 use Rattle.xmp_meaning.specs.Programs.{serial}
 use Rattle.xmp_nodes.specs.Lists.{HasAxes}
-use Rattle.xmp_nodes.specs.Wide.{CompoundsAreWide}
 use Rattle.xmp_nodes.specs.Lockstep.{nodes_end}
 use Rattle.xmp_nodes.specs.Worlds.{World, world_after}
 use Rattle.xmp_nodes.specs.Stands.{StandsFor}
@@ -67,10 +66,10 @@ all_parts plains if_forms skips = record {
 }
 
 pub nodes_carry_out : PlainsCarry → IfFormsCarry → StatementsSkip → (p : ProgParts) (input : List ℕ) (steps : ℕ)
-    → PartsFit p → p.kind ≡ Global → HasAxes p → CompoundsAreWide p → IsFirst (FlowBreaks p) None
+    → PartsFit p → p.kind ≡ Global → HasAxes p → IsFirst (FlowBreaks p) None
     → StandsFor p input steps (world_after (nodes_end p input steps))
-nodes_carry_out plains if_forms skips p input steps fits kind axes wide none =
-    carried_out p (record { fits = fits; kind = kind; axes = axes }) input steps (all_parts plains if_forms skips) body_fits wide none
+nodes_carry_out plains if_forms skips p input steps fits kind axes none =
+    carried_out p (record { fits = fits; kind = kind; axes = axes }) input steps (all_parts plains if_forms skips) body_fits none
 
 pub worlds_answer : (p : ProgParts) (input : List ℕ) (steps : ℕ) (w : World) → PartsFit p → p.kind ≡ Global → HasAxes p
     → StandsFor p input steps w → answer_of p w ≡ serial p input steps
