@@ -48,11 +48,12 @@ use Rattle.xmp_meaning_laws.specs.Laws.{scalar_in}
 use Rattle.xmp_meaning_laws.proofs.Values.{wrap_fits}
 use Rattle.xmp_nodes.proofs.Agrees.{Stand, Agrees, Along, Carried, IsNext}
 use Rattle.xmp_nodes.proofs.Standing.{TermStands, PartFits, IsSetting}
-use Rattle.xmp_nodes.proofs.Leaves.{serial_cx, StepFits, SetFormsCarry}
+use Rattle.xmp_nodes.proofs.Leaves.{serial_cx, StepFits, SetFormsCarry, PlainsCarry}
 use Rattle.xmp_nodes.proofs.MetEvents.{EachEvent, EachOf, NoMark, IsFine, each_ordered, ordered_each, each_is_fine}
 use Rattle.xmp_nodes.proofs.PartSplits.{plain_fits}
 use Rattle.xmp_nodes.proofs.SameRuns.{noted_plain}
 use Rattle.xmp_nodes.proofs.PlainsCarried.{all_unmarked}
+use Rattle.xmp_nodes.proofs.AllPlains.{plains_carry}
 use Rattle.xmp_nodes.proofs.WideBits.{Wide, StepIs, step_is}
 use Rattle.xmp_nodes.proofs.SameGives.{same_gives, gave_first, gave_second}
 use Rattle.xmp_nodes.proofs.ReductionValues.{Value, Stop, value_or_stop, stop_along, sum_along, in_loop}
@@ -239,3 +240,6 @@ set_forms_carry a is there input slot at c e op es role form fits writes none =
     subst (λ (f : Run Notes Flow). Carried a IsNext (in_order (reads_of_all es a.set)) f (plain_of erased (node_context a.program a.node input) (plain.Set (target.Scalar slot at) c e)))
     (sym (noted_plain a.program (serial_cx a.program input) (plain.Set (target.Scalar slot at) c e) refl))
     (set_form a is there input slot at op role (plain_fits a.program (plain.Set (target.Scalar slot at) c e) fits).slots.0 c e es form (plain_fits a.program (plain.Set (target.Scalar slot at) c e) fits) none)
+
+pub all_plains_carry : PlainsCarry
+all_plains_carry = plains_carry set_forms_carry
