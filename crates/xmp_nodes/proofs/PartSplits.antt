@@ -83,8 +83,7 @@ module _ (p : ProgParts) where
   head_fits : (y : Statement) (ys : List Statement) → ListFits (y ∷ ys) → StepFits p y × ListFits ys
   head_fits y ys f =
       let terms : _ = all_apart (TermStands p) (terms_in p y) (flat_map (terms_in p) ys) f.terms in
-      let slots : _ = all_apart (λ n. n < length p.scalars) (slots_in p y) (flat_map (slots_in p) ys) f.slots in
-      (
+      let slots : _ = all_apart (λ n. n < length p.scalars) (slots_in p y) (flat_map (slots_in p) ys) f.slots in (
         record { terms = terms.0; stands = f.statements.0; slots = slots.0 },
         record { terms = terms.1; statements = f.statements.1; slots = slots.1 },
       )
@@ -93,8 +92,7 @@ module _ (p : ProgParts) where
   two_fit xs ys f =
       let terms : _ = all_apart (TermStands p) (flat_map (terms_in p) xs) (flat_map (terms_in p) ys) (subst (AllByRecursion (TermStands p)) (flat_append (terms_in p) xs ys) f.terms) in
       let statements : _ = all_apart (StatementStands p) xs ys f.statements in
-      let slots : _ = all_apart (λ n. n < length p.scalars) (flat_map (slots_in p) xs) (flat_map (slots_in p) ys) (subst (AllByRecursion (λ n. n < length p.scalars)) (flat_append (slots_in p) xs ys) f.slots) in
-      (
+      let slots : _ = all_apart (λ n. n < length p.scalars) (flat_map (slots_in p) xs) (flat_map (slots_in p) ys) (subst (AllByRecursion (λ n. n < length p.scalars)) (flat_append (slots_in p) xs ys) f.slots) in (
         record { terms = terms.0; statements = statements.0; slots = slots.0 },
         record { terms = terms.1; statements = statements.1; slots = slots.1 },
       )
@@ -231,5 +229,5 @@ loops_fit p d body f =
 pub all_tasks_fit : AllTasksFit
 all_tasks_fit p all at f =
     let parts : _ = head_fits p (Stmt-F.Tasks (map (λ t. t.nodes) (map (walked_task p) all)) at) (flat_map (λ t. t.statements) (map (walked_task p) all))
-        (walk_of p (stmt.Tasks all at) _ (at_tasks Walked WalkedTask walk_step walk_task all at) f) in
+    (walk_of p (stmt.Tasks all at) _ (at_tasks Walked WalkedTask walk_step walk_task all at) f) in
     record { step = subst (λ sets. StepFits p (Stmt-F.Tasks sets at)) (task_sets p all) parts.0; bodies = all_of_tasks p all parts.1 }

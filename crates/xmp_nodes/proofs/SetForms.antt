@@ -31,6 +31,7 @@ use Rattle.xmp_loops.specs.Forms.{in_type, variable, fits_in, is_operator, compa
 use Rattle.xmp_loops.specs.declared.role.Role.TheVariants.{Reduced}
 use Rattle.xmp_flow.specs.Reads.{reads_of, reads_of_all}
 use Rattle.xmp_meaning.specs.declared.location.Location.TheVariants as location
+use Rattle.xmp_meaning.specs.declared.ends.End.{End}
 use Rattle.xmp_meaning.specs.declared.ends.Flow.{Flow}
 use Rattle.xmp_meaning.specs.declared.ends.Flow.TheVariants.{Next}
 use Rattle.xmp_meaning.specs.Runs.{State, Step, Gave, Ended, Run, and_then, ◌>>=◌, pure, or_trap}
@@ -47,11 +48,12 @@ use Rattle.xmp_meaning_laws.specs.Laws.{scalar_in}
 use Rattle.xmp_meaning_laws.proofs.Values.{wrap_fits}
 use Rattle.xmp_nodes.proofs.Agrees.{Stand, Agrees, Along, Carried, IsNext}
 use Rattle.xmp_nodes.proofs.Standing.{TermStands, PartFits, IsSetting}
-use Rattle.xmp_nodes.proofs.Leaves.{serial_cx, StepFits, SetFormsCarry}
+use Rattle.xmp_nodes.proofs.Leaves.{serial_cx, StepFits, SetFormsCarry, PlainsCarry}
 use Rattle.xmp_nodes.proofs.MetEvents.{EachEvent, EachOf, NoMark, IsFine, each_ordered, ordered_each, each_is_fine}
 use Rattle.xmp_nodes.proofs.PartSplits.{plain_fits}
 use Rattle.xmp_nodes.proofs.SameRuns.{noted_plain}
 use Rattle.xmp_nodes.proofs.PlainsCarried.{all_unmarked}
+use Rattle.xmp_nodes.proofs.AllPlains.{plains_carry}
 use Rattle.xmp_nodes.proofs.WideBits.{Wide, StepIs, step_is}
 use Rattle.xmp_nodes.proofs.SameGives.{same_gives, gave_first, gave_second}
 use Rattle.xmp_nodes.proofs.ReductionValues.{Value, Stop, value_or_stop, stop_along, sum_along, in_loop}
@@ -114,7 +116,7 @@ module _ (a : Stand) (is : IsSetting a) (there : has a.set.nodes a.node ≡ true
           ap (λ (run : Run X ℤ). run t) (at_choose (Run X ℤ) (Element X) (expr_step erased cx) (meaning.access_step cx) q x w)
           ∙ ap (λ z. and_then z (λ b. if is_zero b then expr_of erased cx w else expr_of erased cx x)) k
 
-      stored : (z : ℤ) → FitsType ty z → and_then (Gave {S = State X} z t) (stores cx slot) ≡ Gave Next (record t { scalars = slice_set t.scalars slot z })
+      stored : (z : ℤ) → FitsType ty z → stores cx slot z t ≡ Gave Next (record t { scalars = slice_set t.scalars slot z })
       stored z h = ap (λ y. Gave Next (record t { scalars = slice_set t.scalars slot y })) (ap (λ p. wrap (scalar_type p slot) z) program ∙ int_wrap_fits (width_of ty) z h)
 
       of_test : (test : Bool) → expr_of erased cx q t ≡ Gave (truth test) t → (if test then v else scalar_in t slot) ≡ combine_of r ty (scalar_in t slot) v
@@ -170,25 +172,25 @@ module _ (a : Stand) (is : IsSetting a) (there : has a.set.nodes a.node ≡ true
       (expr_of erased (serial_cx a.program input) x s) (expr_of erased (node_context a.program a.node input) x n) (value_or_stop a is there input stale s n g x (in_loop a is slot r role) terms fine.0))
 
   -- `v = v o x`
-  operator_form : (o : BinOp) (operation : Ty) (y x : Expr) (at : Place) (es : List Expr) → (is_operator r o && (fits_in a.program slot operation && same y (in_type a.program operation (variable slot here)))) ≡ true → x ∷ [] ≡ es
+  operator_form : (o : BinOp) (operation : Ty) (y x : Expr) (at : Place) (es : List Expr) → (is_operator r o && (fits_in a.program slot operation && same y (in_type a.program operation (variable slot at)))) ≡ true → x ∷ [] ≡ es
       → AllByRecursion (TermStands a.program) (terms_of a.program (expr.Binary o operation y x at)) → NothingWrong (in_order (reads_of_all es a.set)) → Follows None (expr.Binary o operation y x at) es
   operator_form o operation y x at es test same_list terms none =
-      let rest : _ = and_right (is_operator r o) (fits_in a.program slot operation && same y (in_type a.program operation (variable slot here))) test in
-      let wide : fits_in a.program slot operation ≡ true = and_left (fits_in a.program slot operation) (same y (in_type a.program operation (variable slot here))) rest in
-      let alike : same y (in_type a.program operation (variable slot here)) ≡ true = and_right (fits_in a.program slot operation) (same y (in_type a.program operation (variable slot here))) rest in
+      let rest : _ = and_right (is_operator r o) (fits_in a.program slot operation && same y (in_type a.program operation (variable slot at))) test in
+      let wide : fits_in a.program slot operation ≡ true = and_left (fits_in a.program slot operation) (same y (in_type a.program operation (variable slot at))) rest in
+      let alike : same y (in_type a.program operation (variable slot at)) ≡ true = and_right (fits_in a.program slot operation) (same y (in_type a.program operation (variable slot at))) rest in
       let parts : BinaryParts a.program o operation y x = binary_parts a.program o operation y x at terms in
       subst (Follows None (expr.Binary o operation y x at)) same_list (λ stale s n safe g.
       let fine : _ = fine_of (x ∷ []) stale safe (subst (λ l. NothingWrong (in_order (reads_of_all l a.set))) (sym same_list) none) in
       subst (λ z. Along a IsNext (in_order (reads_of_all (x ∷ []) a.set)) stale s n z (plain_of erased (node_context a.program a.node input) (plain.Set (target.Scalar slot here) None (expr.Binary o operation y x at)) n))
       (sym (binary_is a is there input stale s n g slot r role lies (reads_of_all (x ∷ []) a.set) (all_unmarked a.set (x ∷ [])) Notes (serial_cx a.program input) s o operation y x at (scalar_in s slot)
-      (gave_first Notes (serial_cx a.program input) (expr_of erased (serial_cx a.program input) y s) (expr_of erased (serial_cx a.program input) (in_type a.program operation (variable slot here)) s) (scalar_in s slot) s
-      (same_gives Notes (serial_cx a.program input) y (in_type a.program operation (variable slot here)) alike s)
-      (in_type_gives a.program Notes (serial_cx a.program input) s slot operation here (g.whole.values.scalars slot) wide))))
+      (gave_first Notes (serial_cx a.program input) (expr_of erased (serial_cx a.program input) y s) (expr_of erased (serial_cx a.program input) (in_type a.program operation (variable slot at)) s) (scalar_in s slot) s
+      (same_gives Notes (serial_cx a.program input) y (in_type a.program operation (variable slot at)) alike s)
+      (in_type_gives a.program Notes (serial_cx a.program input) s slot operation at (g.whole.values.scalars slot) wide))))
       (subst (λ z. Along a IsNext (in_order (reads_of_all (x ∷ []) a.set)) stale s n (joins (serial_cx a.program input) slot o operation at (scalar_in s slot) (expr_of erased (serial_cx a.program input) x s)) z)
       (sym (binary_is a is there input stale s n g slot r role lies (reads_of_all (x ∷ []) a.set) (all_unmarked a.set (x ∷ [])) (Unit {0}) (node_context a.program a.node input) n o operation y x at (scalar_in n slot)
-      (gave_first (Unit {0}) (node_context a.program a.node input) (expr_of erased (node_context a.program a.node input) y n) (expr_of erased (node_context a.program a.node input) (in_type a.program operation (variable slot here)) n) (scalar_in n slot) n
-      (same_gives (Unit {0}) (node_context a.program a.node input) y (in_type a.program operation (variable slot here)) alike n)
-      (in_type_gives a.program (Unit {0}) (node_context a.program a.node input) n slot operation here (g.typed slot) wide))))
+      (gave_first (Unit {0}) (node_context a.program a.node input) (expr_of erased (node_context a.program a.node input) y n) (expr_of erased (node_context a.program a.node input) (in_type a.program operation (variable slot at)) n) (scalar_in n slot) n
+      (same_gives (Unit {0}) (node_context a.program a.node input) y (in_type a.program operation (variable slot at)) alike n)
+      (in_type_gives a.program (Unit {0}) (node_context a.program a.node input) n slot operation at (g.typed slot) wide))))
       (joins_along a is there input stale s n g slot r role lies (reads_of_all (x ∷ []) a.set) (all_unmarked a.set (x ∷ [])) o operation (type_of a.program x) at (and_left (is_operator r o) _ test) (wide_of a.program slot operation wide)
       (expr_of erased (serial_cx a.program input) x s) (expr_of erased (node_context a.program a.node input) x n) (value_or_stop a is there input stale s n g x (in_loop a is slot r role) parts.second fine.0))))
 
@@ -216,15 +218,15 @@ module _ (a : Stand) (is : IsSetting a) (there : has a.set.nodes a.node ≡ true
       of_form : (z : Expr-F Expr Access) → e ≡ roll-Expr z → value_form a.program slot r here z ≡ Some es → Follows None e es
       of_form (Expr-F.Binary o operation y x at) i k =
           let j : e ≡ expr.Binary o operation y x at = i ∙ expr.rolls-Binary o operation y x at in
-          let t : _ = if_apart_is slot (is_operator r o && (fits_in a.program slot operation && same y (in_type a.program operation (variable slot here)))) (x ∷ []) x es k in
+          let t : _ = if_apart_is slot (is_operator r o && (fits_in a.program slot operation && same y (in_type a.program operation (variable slot at)))) (x ∷ []) x es k in
           subst (λ z. Follows None z es) (sym j) (operator_form o operation y x at es t.0 t.1 (subst (λ z. AllByRecursion (TermStands a.program) (terms_of a.program z)) j terms) none)
       of_form (Expr-F.Choose q x w) i k = of_compared q x w (i ∙ expr.rolls-Choose q x w) (compared a.program slot r (out-Expr q)) refl k
-      of_form (Expr-F.Const v ty) i k = cc
+      of_form (Expr-F.Const v c) i k = cc
       of_form (Expr-F.Scalar v at) i k = cc
       of_form (Expr-F.Cell b) i k = cc
       of_form (Expr-F.Both b c) i k = cc
       of_form (Expr-F.Either b c) i k = cc
-      of_form (Expr-F.Convert ty b) i k = cc
+      of_form (Expr-F.Convert c b) i k = cc
       of_form (Expr-F.Call function arguments at) i k = cc
       of_form Expr-F.Node i k = cc
       of_form Expr-F.Nodes i k = cc
@@ -238,3 +240,6 @@ set_forms_carry a is there input slot at c e op es role form fits writes none =
     subst (λ (f : Run Notes Flow). Carried a IsNext (in_order (reads_of_all es a.set)) f (plain_of erased (node_context a.program a.node input) (plain.Set (target.Scalar slot at) c e)))
     (sym (noted_plain a.program (serial_cx a.program input) (plain.Set (target.Scalar slot at) c e) refl))
     (set_form a is there input slot at op role (plain_fits a.program (plain.Set (target.Scalar slot at) c e) fits).slots.0 c e es form (plain_fits a.program (plain.Set (target.Scalar slot at) c e) fits) none)
+
+pub all_plains_carry : PlainsCarry
+all_plains_carry = plains_carry set_forms_carry
