@@ -83,3 +83,4 @@ pub mod StatementsCarried
 pub mod PlainsCarried
 pub mod CellsCarried
 pub mod SkipMarks
+pub mod SkipPlains
