@@ -35,7 +35,7 @@ use Rattle.xmp_nodes.proofs.ElementCells.{known_in}
 use Rattle.xmp_nodes.proofs.NodeExpressions.{terms_fit, agreed, MayGet, Beside, readers}
 use Rattle.xmp_nodes.proofs.NodeReads.{Good, seen_good, expr_meets, expr_steps, agrees_stepped}
 
-first_below : (k n : ℕ) → k < n → 0 < n
+pub first_below : (k n : ℕ) → k < n → 0 < n
 first_below k n h = omega (arith, h)
 
 module _ (a : Stand) (is : IsSetting a) (there : has a.set.nodes a.node ≡ true) (input : List ℕ) (stale : ℕ → Bool) (s : State Notes) (n : State (Unit {0})) (g : Agrees a stale s n) where

@@ -3,9 +3,12 @@ use Rattle.std.specs.Prelude.{◌≡◌, ◌≢◌, ◌<◌, ℕ, Bool, true, fa
 use Rattle.std.specs.List.{AllByRecursion}
 use Rattle.xmp_base.specs.declared.place.Place.{Place}
 use Rattle.xmp_map.specs.declared.grid.NodeSet.{NodeSet}
+use Rattle.xmp_num.specs.declared.types.RedOp.{RedOp}
 use Rattle.xmp_num.specs.Arithmetic.{FitsType}
 use Rattle.xmp_prog.specs.declared.parts.ProgParts.{ProgParts}
 use Rattle.xmp_prog.specs.declared.expressions.Expr.{Expr}
+use Rattle.xmp_prog.specs.declared.statements.Compound.{Compound}
+use Rattle.xmp_prog.specs.declared.statements.Target.TheVariants as target
 use Rattle.xmp_prog.specs.declared.statements.LoopDirective.{LoopDirective}
 use Rattle.xmp_prog.specs.declared.statements.LoopHead.{LoopHead}
 use Rattle.xmp_prog.specs.declared.statements.MoveSide.{MoveSide}
@@ -26,6 +29,8 @@ use Rattle.xmp_paths.specs.NodeSets.{has}
 use Rattle.xmp_paths.specs.Plans.{Plan, Path, in_order}
 use Rattle.xmp_paths.specs.Safe.{left, NothingWrong}
 use Rattle.xmp_loops.specs.Objects.{scalar_object, all_nodes}
+use Rattle.xmp_loops.specs.Forms.{assignment_form}
+use Rattle.xmp_loops.specs.declared.role.Role.TheVariants.{Reduced}
 use Rattle.xmp_flow.specs.Setting.{Setting, wrong_where, in_task}
 use Rattle.xmp_flow.specs.Reads.{reads_of, reads_of_all}
 use Rattle.xmp_flow.specs.PlainEvents.{plain_events}
@@ -154,6 +159,15 @@ PlainsCarry = (a : Stand) → IsSetting a → has a.set.nodes a.node ≡ true �
     → PartFits a.program (stmt.Plain q) → WritesFit a (stmt.Plain q) → NothingWrong (plain_events q a.set)
     → Carried a (GivesNext q) (plain_events q a.set)
     (plain_of (traced a.program) (serial_cx a.program input) q) (plain_of erased (node_context a.program a.node input) q)
+
+-- an assignment that is the form of a reduction
+abbrev pub SetFormsCarry : Type 0
+SetFormsCarry = (a : Stand) → IsSetting a → has a.set.nodes a.node ≡ true → (input : List ℕ) (slot : ℕ) (at : Place) (c : Option Compound) (e : Expr) (op : RedOp) (es : List Expr)
+    → a.set.roles slot ≡ Reduced op → assignment_form a.program slot op at c e ≡ Some es → PartFits a.program (stmt.Plain (plain.Set (target.Scalar slot at) c e))
+    → WritesFit a (stmt.Plain (plain.Set (target.Scalar slot at) c e)) → NothingWrong (in_order (reads_of_all es a.set))
+    → Carried a IsNext (in_order (reads_of_all es a.set))
+    (plain_of (traced a.program) (serial_cx a.program input) (plain.Set (target.Scalar slot at) c e))
+    (plain_of erased (node_context a.program a.node input) (plain.Set (target.Scalar slot at) c e))
 
 -- `if (q) v = x;` where that is the form of a reduction
 abbrev pub IfFormsCarry : Type 0

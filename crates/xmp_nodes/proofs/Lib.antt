@@ -82,5 +82,13 @@ pub mod CountedCarried
 pub mod StatementsCarried
 pub mod PlainsCarried
 pub mod CellsCarried
+pub mod Theorem
+pub mod WideBits
+pub mod SameGives
+pub mod SumWrites
+pub mod ReductionValues
+pub mod AllPlains
+pub mod ReductionForms
+pub mod SetForms
 pub mod SkipMarks
 pub mod SkipPlains

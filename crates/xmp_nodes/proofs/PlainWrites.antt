@@ -51,7 +51,7 @@ set_both (x ∷ xs) [] i v e = absurd (omega (arith, e))
 set_both (x ∷ xs) (y ∷ ys) zero v e = refl
 set_both (x ∷ xs) (y ∷ ys) (suc i) v e = set_both xs ys i v (let l : length xs ≡ length ys = omega (arith, e) in l)
 
-set_length : {A : Type 0} (xs : List A) (i : ℕ) (v : A) → length (slice_set xs i v) ≡ length xs
+pub set_length : {A : Type 0} (xs : List A) (i : ℕ) (v : A) → length (slice_set xs i v) ≡ length xs
 set_length [] i v = refl
 set_length (x ∷ xs) zero v = refl
 set_length (x ∷ xs) (suc i) v = ap suc (set_length xs i v)
