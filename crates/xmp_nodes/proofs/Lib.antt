@@ -92,3 +92,4 @@ pub mod ReductionForms
 pub mod SetForms
 pub mod SkipMarks
 pub mod SkipPlains
+pub mod StatementsSkipped
