@@ -91,3 +91,5 @@ pub mod AllPlains
 pub mod ReductionForms
 pub mod SetForms
 pub mod SkipMarks
+pub mod SkipPlains
+pub mod StatementsSkipped

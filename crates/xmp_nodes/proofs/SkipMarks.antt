@@ -145,7 +145,7 @@ module _ (node : ℕ) where
   none_has : has 0 node ≡ false
   none_has = ap (λ m. m == 1) (bit_at-zero node)
 
-  wrong_fades : (b : Bool) (rule : ℕ) (at : Place) → AllFade (wrong_where b rule at)
+  pub wrong_fades : (b : Bool) (rule : ℕ) (at : Place) → AllFade (wrong_where b rule at)
   wrong_fades true rule at = each_emit Fades (Wrong rule at) tt
   wrong_fades false rule at = each_skip Fades
 
@@ -283,7 +283,7 @@ module _ (node : ℕ) where
     abbrev pub CopyMarks : Plan Event → ℕ → Type 0
     CopyMarks plan array = (home_at s.program array ≡ home.Copy) × Marks (array_object array) plan
 
-    write_marks : (array : ℕ) (es : List Expr) (at : Place) (o : Option Array) → slice_get s.program.arrays array ≡ o → is_some o ≡ true → ((r : Array) → o ≡ Some r → r.home ≢ home.Image)
+    pub write_marks : (array : ℕ) (es : List Expr) (at : Place) (o : Option Array) → slice_get s.program.arrays array ≡ o → is_some o ≡ true → ((r : Array) → o ≡ Some r → r.home ≢ home.Image)
         → NothingWrong (element_write s array es at) → CopyMarks (element_write s array es at) array
     write_marks array es at None e some image right = absurd (true≢false (sym some))
     write_marks array es at (Some r) e some image right = of_home r.home refl right
