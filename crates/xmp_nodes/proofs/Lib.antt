@@ -93,3 +93,5 @@ pub mod SetForms
 pub mod SkipMarks
 pub mod SkipPlains
 pub mod StatementsSkipped
+pub mod IfFormsCarried
+pub mod ReductionIfs
