@@ -87,3 +87,5 @@ pub mod WideBits
 pub mod SameGives
 pub mod SumWrites
 pub mod ReductionValues
+pub mod ReductionIfs
+pub mod IfFormsCarried
