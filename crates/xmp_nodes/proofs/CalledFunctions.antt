@@ -59,8 +59,7 @@ module _ (p : ProgParts) (loops test : ℕ → Bool) (h : (k : ℕ) → loops k 
   all_clear (y ∷ ys) e =
       let both : _ = neither (loops_at p loops y) (list_any (loops_at p loops) ys) e in
       let here : _ = neither (is_uncounted y) (list_any (calls_looping loops) (terms_in p y)) both.0 in
-      let rest : Clear ys = all_clear ys both.1 in
-      (
+      let rest : Clear ys = all_clear ys both.1 in (
         both_true (is_no_while y) (list_all is_no_while ys) (counted_is y here.0) rest.0,
         list_all-append (calls_pass test) (terms_in p y) (flat_map (terms_in p) ys)
             ∙ both_true (list_all (calls_pass test) (terms_in p y)) (list_all (calls_pass test) (flat_map (terms_in p) ys)) (terms_pass (terms_in p y) here.1) rest.1,
@@ -86,7 +85,6 @@ flag_last (k ∷ known) b = flag_last known b
 more_long : (known : List Bool) (b : Bool) → length (known ++ b ∷ []) ≡ suc (length known)
 more_long [] b = refl
 more_long (k ∷ known) b = ap suc (more_long known b)
-
 
 not_equal : (j m : ℕ) → (j == m) ≡ false → j ≢ m
 not_equal j m e same = true≢false (sym (eq-eqb j m same) ∙ e)

@@ -154,6 +154,6 @@ module _ (a : Stand) (is : IsSetting a) (there : has a.set.nodes a.node ≡ true
             (let f : home_of a.program array ≡ home.Spread t m = ap (home_of a.program) same ∙ e in
             let j : IsInside cell (extents a.program array) = subst (λ k. IsInside cell (extents a.program k)) (sym same) i in
             let ne : row_major (extents a.program array) cell ≢ row_major (extents a.program array) xs = λ k.
-                true≢false (sym (subst (λ h. owns_cell h a.node xs ≡ true) f owns) ∙ (ap (owns_cell (home.Spread t m) a.node) (sym (one_cell a is s n array xs inside v cell j k)) ∙ o)) in
+            true≢false (sym (subst (λ h. owns_cell h a.node xs ≡ true) f owns) ∙ (ap (owns_cell (home.Spread t m) a.node) (sym (one_cell a is s n array xs inside v cell j k)) ∙ o)) in
             ap (λ r. word_at r (row_major (extents a.program array) cell)) (written_row s.arrays array (row_major (extents a.program array) xs) v)
             ∙ word_other (row_in s.arrays array) (row_major (extents a.program array) xs) (row_major (extents a.program array) cell) v (λ k. ne (sym k)))

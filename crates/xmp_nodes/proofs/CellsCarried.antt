@@ -287,16 +287,16 @@ module _ (a : Stand) (is : IsSetting a) (there : has a.set.nodes a.node ≡ true
       let cut : Cut write = cut_write e (λ rule at st. right rule at (inl st)) in
       let whole : ((subs ++ more) ++ cut.front) ++ cut.back ≡ subs ++ (more ++ write ∷ []) = cut_list subs more cut.front cut.back write cut.whole in
       let clear : EachOf NoMark ((subs ++ more) ++ cut.front) =
-          together (EachEvent NoMark) (subs ++ more) cut.front (together (EachEvent NoMark) subs more (subscripts_unmarked a.set e) (old_unmarked e c, (reads_unmarked a.set value, tt))) cut.clear in
+      together (EachEvent NoMark) (subs ++ more) cut.front (together (EachEvent NoMark) subs more (subscripts_unmarked a.set e) (old_unmarked e c, (reads_unmarked a.set value, tt))) cut.clear in
       let fine : EachOf (IsFine a.node stale) ((subs ++ more) ++ cut.front) =
-          fine_front a.node ((subs ++ more) ++ cut.front) cut.back stale (subst (λ l. Safe a.node (in_order l) stale) (sym whole) safe) (subst (λ l. NothingWrong (in_order l)) (sym whole) none) clear in
+      fine_front a.node ((subs ++ more) ++ cut.front) cut.back stale (subst (λ l. Safe a.node (in_order l) stale) (sym whole) safe) (subst (λ l. NothingWrong (in_order l)) (sym whole) none) clear in
       let parts : _ = apart (EachEvent (IsFine a.node stale)) (subs ++ more) cut.front fine in
       let inner : _ = apart (EachEvent (IsFine a.node stale)) subs more parts.0 in
       let both_terms : _ = apart (TermStands a.program) (terms_of_access a.program e) (terms_of a.program value) terms in
       let calls_pass_all : list_all (calls_pass (calls a is there input stale s n g)) (terms_of_plain a.program q) ≡ true =
-          list_all-append (calls_pass (calls a is there input stale s n g)) (terms_of_access a.program e) (terms_of a.program value)
-          ∙ both_true (list_all (calls_pass (calls a is there input stale s n g)) (terms_of_access a.program e)) (list_all (calls_pass (calls a is there input stale s n g)) (terms_of a.program value))
-          (access_good a is there input stale s n g e both_terms.0 inner.0).2 (value_calls a is there input stale s n g value both_terms.1 inner.1.1.0) in
+      list_all-append (calls_pass (calls a is there input stale s n g)) (terms_of_access a.program e) (terms_of a.program value)
+      ∙ both_true (list_all (calls_pass (calls a is there input stale s n g)) (terms_of_access a.program e)) (list_all (calls_pass (calls a is there input stale s n g)) (terms_of a.program value))
+      (access_good a is there input stale s n g e both_terms.0 inner.0).2 (value_calls a is there input stale s n g value both_terms.1 inner.1.1.0) in
       subst (λ l. Along a (GivesNext q) (in_order l) stale s n (plain_of erased (serial_cx a.program input) q s) (plain_of erased (node_context a.program a.node input) q n)) whole
       (subst (λ z. Along a (GivesNext q) (in_order (((subs ++ more) ++ cut.front) ++ cut.back)) stale s n z (plain_of erased (node_context a.program a.node input) q n))
       (re_join (cell_of erased (serial_cx a.program input) e s) (λ x. new_value erased (serial_cx a.program input) (location.Cell e.array x) c value) (put_run (serial_cx a.program input) e.array))
@@ -350,10 +350,10 @@ module _ (a : Stand) (is : IsSetting a) (there : has a.set.nodes a.node ≡ true
       let right : NothingWrong (in_order (write ∷ rest)) = right_rest subs (write ∷ rest) (subst (λ l. NothingWrong (in_order l)) (append_assoc subs (write ∷ []) rest) none) in
       let cut : Cut write = cut_write e (λ rule at st. right rule at (inl st)) in
       let whole : (subs ++ cut.front) ++ (cut.back ++ rest) ≡ (subs ++ write ∷ []) ++ rest =
-          append_assoc subs cut.front (cut.back ++ rest) ∙ (ap (λ l. subs ++ l) (sym (append_assoc cut.front cut.back rest) ∙ ap (λ l. l ++ rest) cut.whole) ∙ sym (append_assoc subs (write ∷ []) rest)) in
+      append_assoc subs cut.front (cut.back ++ rest) ∙ (ap (λ l. subs ++ l) (sym (append_assoc cut.front cut.back rest) ∙ ap (λ l. l ++ rest) cut.whole) ∙ sym (append_assoc subs (write ∷ []) rest)) in
       let clear : EachOf NoMark (subs ++ cut.front) = together (EachEvent NoMark) subs cut.front (subscripts_unmarked a.set e) cut.clear in
       let fine : EachOf (IsFine a.node stale) (subs ++ cut.front) =
-          fine_front a.node (subs ++ cut.front) (cut.back ++ rest) stale (subst (λ l. Safe a.node (in_order l) stale) (sym whole) safe) (subst (λ l. NothingWrong (in_order l)) (sym whole) none) clear in
+      fine_front a.node (subs ++ cut.front) (cut.back ++ rest) stale (subst (λ l. Safe a.node (in_order l) stale) (sym whole) safe) (subst (λ l. NothingWrong (in_order l)) (sym whole) none) clear in
       let parts : _ = apart (EachEvent (IsFine a.node stale)) subs cut.front fine in
       let tests : list_all (term_test a.program) (terms_of_access a.program e) ≡ true = terms_test a.program (terms_of_access a.program e) terms in
       subst (λ l. Along a (GivesNext q) (in_order l) stale s n (plain_of erased (serial_cx a.program input) q s) (plain_of erased (node_context a.program a.node input) q n)) whole

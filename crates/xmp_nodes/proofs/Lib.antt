@@ -89,3 +89,9 @@ pub mod SumWrites
 pub mod ReductionValues
 pub mod ReductionIfs
 pub mod IfFormsCarried
+pub mod AllPlains
+pub mod ReductionForms
+pub mod SetForms
+pub mod SkipMarks
+pub mod SkipPlains
+pub mod StatementsSkipped

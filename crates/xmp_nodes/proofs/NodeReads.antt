@@ -163,8 +163,8 @@ module _ (a : Stand) (is : IsSetting a) (there : has a.set.nodes a.node ≡ true
       → (element_fits a.program (Element (types_of e)) ≡ true) × (is_none (types_of e).image ≡ true)
   element_test e h =
       let first : term_test a.program (Element (types_of e)) ≡ true =
-          and_left (term_test a.program (Element (types_of e))) (list_all (term_test a.program) (inner_terms e))
-          (subst (λ ts. list_all (term_test a.program) ts ≡ true) (access_terms a.program e.array e.subscripts e.image e.at) h) in
+      and_left (term_test a.program (Element (types_of e))) (list_all (term_test a.program) (inner_terms e))
+      (subst (λ ts. list_all (term_test a.program) ts ≡ true) (access_terms a.program e.array e.subscripts e.image e.at) h) in
       (and_left (element_fits a.program (Element (types_of e))) (image_fits a.program (Element (types_of e))) first, no_image (types_of e) first)
 
   pub long_of : (e : Access) → list_all (term_test a.program) (terms_of_access a.program e) ≡ true → length e.subscripts ≡ length (extents a.program e.array)

@@ -27,7 +27,6 @@ use Rattle.xmp_prog.specs.Fits.{PartsFit, has_coarrays, terms_of_program, statem
 use Rattle.xmp_prog.specs.Statements.{Statement, Walked, WalkedTask, walk_step, walk_task, walked, arrays_beside, statements_of, terms_in, slots_in, terms_of_stmt, slots_of_stmt, writes_of}
 use Rattle.xmp_prog.proofs.Rolls.{at_plain, at_block, at_if, at_while, at_counted, at_loop, at_tasks}
 use Rattle.xmp_meaning_laws.proofs.Conditions.{all_apart}
-use Rattle.xmp_nodes.specs.Wide.{compound_wide}
 use Rattle.xmp_nodes.proofs.Standing.{IsGlobal, TermStands, StatementStands, PartFits}
 use Rattle.xmp_nodes.proofs.Leaves.{BodyFits, BlocksFit, IfFits, IfsFit, WhileFits, WhilesFit, CountedFits, CountedsFit, StepFits, PlainFits, LoopFits, LoopsFit, TasksFit, AllTasksFit}
 
@@ -84,8 +83,7 @@ module _ (p : ProgParts) where
   head_fits : (y : Statement) (ys : List Statement) → ListFits (y ∷ ys) → StepFits p y × ListFits ys
   head_fits y ys f =
       let terms : _ = all_apart (TermStands p) (terms_in p y) (flat_map (terms_in p) ys) f.terms in
-      let slots : _ = all_apart (λ n. n < length p.scalars) (slots_in p y) (flat_map (slots_in p) ys) f.slots in
-      (
+      let slots : _ = all_apart (λ n. n < length p.scalars) (slots_in p y) (flat_map (slots_in p) ys) f.slots in (
         record { terms = terms.0; stands = f.statements.0; slots = slots.0 },
         record { terms = terms.1; statements = f.statements.1; slots = slots.1 },
       )
@@ -94,8 +92,7 @@ module _ (p : ProgParts) where
   two_fit xs ys f =
       let terms : _ = all_apart (TermStands p) (flat_map (terms_in p) xs) (flat_map (terms_in p) ys) (subst (AllByRecursion (TermStands p)) (flat_append (terms_in p) xs ys) f.terms) in
       let statements : _ = all_apart (StatementStands p) xs ys f.statements in
-      let slots : _ = all_apart (λ n. n < length p.scalars) (flat_map (slots_in p) xs) (flat_map (slots_in p) ys) (subst (AllByRecursion (λ n. n < length p.scalars)) (flat_append (slots_in p) xs ys) f.slots) in
-      (
+      let slots : _ = all_apart (λ n. n < length p.scalars) (flat_map (slots_in p) xs) (flat_map (slots_in p) ys) (subst (AllByRecursion (λ n. n < length p.scalars)) (flat_append (slots_in p) xs ys) f.slots) in (
         record { terms = terms.0; statements = statements.0; slots = slots.0 },
         record { terms = terms.1; statements = statements.1; slots = slots.1 },
       )
@@ -152,8 +149,7 @@ body_fits p g = record {
       (of_statements (at_gmoves sections_agree) g.fits.directives.sections)
       (of_statements (cast_fits p) g.fits.directives.casts)
       (of_statements (tasks_inside p) g.fits.directives.tasks)
-      (of_statements (tasks_apart p) g.fits.directives.tasks_apart)
-      g.wide;
+      (of_statements (tasks_apart p) g.fits.directives.tasks_apart);
   slots = all_below (length p.scalars) (slots_of_stmt p p.body)
       (list_last (λ n. nat_lt n (length p.scalars)) (slots_of_starts p) (slots_of_stmt p p.body)
       (list_last (λ n. nat_lt n (length p.scalars)) (flat_map (slots_of_function p) p.functions) (slots_of_main p) g.fits.scalars.numbers));
@@ -171,9 +167,9 @@ body_fits p g = record {
         → Pass (at_loops indices_once) ys → Pass (at_loops indices_of_nest) ys → Pass (nest_counted p) ys
         → Pass (λ s. list_all (λ a. nat_lt a (length p.arrays)) (arrays_beside s)) ys
         → Pass (at_gmoves (λ target source. side_fits p target && side_fits p source)) ys → Pass (at_gmoves sections_agree) ys → Pass (cast_fits p) ys
-        → Pass (tasks_inside p) ys → Pass (tasks_apart p) ys → Pass (compound_wide p) ys → AllByRecursion (StatementStands p) ys
-    all_stand [] a b c d e f h i j k l m n o q r s = tt
-    all_stand (y ∷ ys) a b c d e f h i j k l m n o q r s = (
+        → Pass (tasks_inside p) ys → Pass (tasks_apart p) ys → AllByRecursion (StatementStands p) ys
+    all_stand [] a b c d e f h i j k l m n o q r = tt
+    all_stand (y ∷ ys) a b c d e f h i j k l m n o q r = (
       record {
         assignment = and_left (assignment_fits p y) _ a;
         counted = and_left (counted_fits p y) _ b;
@@ -191,14 +187,13 @@ body_fits p g = record {
         cast = and_left (cast_fits p y) _ o;
         inside = and_left (tasks_inside p y) _ q;
         apart = and_left (tasks_apart p y) _ r;
-        wide = and_left (compound_wide p y) _ s;
       },
       all_stand ys (and_right (assignment_fits p y) _ a) (and_right (counted_fits p y) _ b) (and_right (is_no_sync y) _ c) (and_right (at_loops (names_template p) y) _ d)
           (and_right (at_loops (has_points p) y) _ e) (and_right (at_loops (λ d. list_all is_small_point d.points) y) _ f) (and_right (at_loops (has_indices p) y) _ h)
           (and_right (at_loops indices_once y) _ i) (and_right (at_loops indices_of_nest y) _ j) (and_right (nest_counted p y) _ k)
           (and_right (list_all (λ a. nat_lt a (length p.arrays)) (arrays_beside y)) _ l)
           (and_right (at_gmoves (λ target source. side_fits p target && side_fits p source) y) _ m) (and_right (at_gmoves sections_agree y) _ n) (and_right (cast_fits p y) _ o)
-          (and_right (tasks_inside p y) _ q) (and_right (tasks_apart p y) _ r) (and_right (compound_wide p y) _ s),
+          (and_right (tasks_inside p y) _ q) (and_right (tasks_apart p y) _ r),
     )
 
 -- ---- form by form
@@ -234,5 +229,5 @@ loops_fit p d body f =
 pub all_tasks_fit : AllTasksFit
 all_tasks_fit p all at f =
     let parts : _ = head_fits p (Stmt-F.Tasks (map (λ t. t.nodes) (map (walked_task p) all)) at) (flat_map (λ t. t.statements) (map (walked_task p) all))
-        (walk_of p (stmt.Tasks all at) _ (at_tasks Walked WalkedTask walk_step walk_task all at) f) in
+    (walk_of p (stmt.Tasks all at) _ (at_tasks Walked WalkedTask walk_step walk_task all at) f) in
     record { step = subst (λ sets. StepFits p (Stmt-F.Tasks sets at)) (task_sets p all) parts.0; bodies = all_of_tasks p all parts.1 }

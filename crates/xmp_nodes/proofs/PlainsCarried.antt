@@ -86,6 +86,7 @@ no_more (x ∷ xs) = ap (λ l. x ∷ l) (no_more xs)
 module _ (a : Stand) (is : IsSetting a) (there : has a.set.nodes a.node ≡ true) (input : List ℕ) where
   abbrev pub Follows : (q : Plain) → Plan Event → Type 0
   Follows q plan = Carried a (GivesNext q) plan (plain_of erased (serial_cx a.program input) q) (plain_of erased (node_context a.program a.node input) q)
+
   -- ---- `return`, calls and `printf`
 
   pub return_follows : (e : Expr) → AllByRecursion (TermStands a.program) (terms_of a.program e) → NothingWrong (reads_of e a.set) → Follows (plain.Return e) (reads_of e a.set)

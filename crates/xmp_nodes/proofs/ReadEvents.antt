@@ -107,8 +107,7 @@ module _ (s : Setting) (known : ℕ → Option ℤ) (p : ProgParts) (Q : Event �
     expr_step (Expr-F.Cell e) a m =
         let terms : list_all test (typed_access p (g e)).terms ≡ true = and_right _ (list_all test (typed_access p (g e)).terms) a in
         let parts : _ = all_apart (EachEvent Q) ((element (g e)).parts s) _ (each_ordered Q _ m) in
-        let rest : Named (seen_access known (g e)).slots (seen_access known (g e)).spots (typed_access p (g e)).terms = l e terms parts.0 in
-        (
+        let rest : Named (seen_access known (g e)).slots (seen_access known (g e)).spots (typed_access p (g e)).terms = l e terms parts.0 in (
           rest.0,
           (of_element (g e) terms (subst (λ z. EachEvent Q (element_read s z.array z.subscripts z.at)) (access-told (g e)) parts.1.0), rest.1),
           rest.2,
@@ -133,9 +132,9 @@ module _ (s : Setting) (known : ℕ → Option ℤ) (p : ProgParts) (Q : Event �
         let terms : list_all test all ≡ true = and_right _ (list_all test all) a in
         let parts : _ = each_ordered Q (reads_of (f e) s ∷ branch (reads_of (f h) s) (reads_of (f d) s) ∷ []) m in
         let three : _ = named_both (seen known (f e)).slots ((seen known (f h)).slots ++ (seen known (f d)).slots) (seen known (f e)).spots ((seen known (f h)).spots ++ (seen known (f d)).spots)
-            (typed p (f e)).terms ((typed p (f h)).terms ++ (typed p (f d)).terms)
-            (j e (terms_first test (typed p (f e)).terms ((typed p (f h)).terms ++ (typed p (f d)).terms) terms) parts.0)
-            (two h d skip (terms_last test (typed p (f e)).terms ((typed p (f h)).terms ++ (typed p (f d)).terms) terms) (λ x t. parts.1.0 x (inl t)) (λ x t. parts.1.0 x (inr t))) in
+        (typed p (f e)).terms ((typed p (f h)).terms ++ (typed p (f d)).terms)
+        (j e (terms_first test (typed p (f e)).terms ((typed p (f h)).terms ++ (typed p (f d)).terms) terms) parts.0)
+        (two h d skip (terms_last test (typed p (f e)).terms ((typed p (f h)).terms ++ (typed p (f d)).terms) terms) (λ x t. parts.1.0 x (inl t)) (λ x t. parts.1.0 x (inr t))) in
         (three.0, three.1, three.2)
     expr_step (Expr-F.Convert ty e) a m =
         let one : _ = j e (and_right _ (list_all test (typed p (f e)).terms) a) m in
@@ -163,7 +162,7 @@ module _ (s : Setting) (known : ℕ → Option ℤ) (p : ProgParts) (Q : Event �
     access_parts array cs None at a m =
         let terms : _ = and_right (test (Element _)) (list_all test (flat_map (λ e. e.terms) (all_typed cs) ++ [])) a in
         let all : _ = named_both (flat_map (λ e. e.slots) (all_seen cs)) [] (flat_map (λ e. e.spots) (all_seen cs)) [] (flat_map (λ e. e.terms) (all_typed cs)) []
-            (items cs (terms_first test (flat_map (λ e. e.terms) (all_typed cs)) [] terms) m) named_none in
+        (items cs (terms_first test (flat_map (λ e. e.terms) (all_typed cs)) [] terms) m) named_none in
         (all.0, all.1, all.2)
     access_parts array cs (Some x) at a m = absurd (true≢false (sym (no_image _ (and_left (test (Element _)) _ a))))
 

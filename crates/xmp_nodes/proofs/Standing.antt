@@ -18,7 +18,6 @@ use Rattle.xmp_meaning.specs.Declarations.{home_of, scalar_type}
 use Rattle.xmp_num.specs.declared.types.Ty.TheVariants.{Int}
 use Rattle.xmp_meaning.specs.Writes.{scalars_written, arrays_written}
 use Rattle.xmp_nodes.specs.Lists.{HasAxes}
-use Rattle.xmp_nodes.specs.Wide.{compound_wide, CompoundsAreWide}
 use Rattle.xmp_nodes.proofs.Agrees.{Stand, is_changed}
 
 -- a program of one view for all nodes, whose parts fit
@@ -26,7 +25,6 @@ pub record IsGlobal (p : ProgParts) : Type 0 where
   pub fits : PartsFit p
   pub kind : p.kind ≡ Global
   pub axes : HasAxes p
-  pub wide : CompoundsAreWide p
 
 -- ---- parts
 
@@ -56,7 +54,6 @@ pub record StatementStands (p : ProgParts) (y : Statement) : Type 0 where
   pub cast : cast_fits p y ≡ true
   pub inside : tasks_inside p y ≡ true
   pub apart : tasks_apart p y ≡ true
-  pub wide : compound_wide p y ≡ true
 
 -- all of a statement does
 pub record PartFits (p : ProgParts) (x : Stmt) : Type 0 where

@@ -1,6 +1,5 @@
 pub mod Nodes
 pub mod Lists
-pub mod Wide
 pub mod Casting
 pub mod Rows
 pub mod Reflecting
