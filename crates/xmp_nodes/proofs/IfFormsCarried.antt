@@ -300,9 +300,14 @@ module _ (a : Stand) (is : IsSetting a) (there : has a.set.nodes a.node ≡ true
       (holds (expr_of erased (node_context a.program a.node input) e) >>= (λ v. choose v ((lockstep a.program input x).at a.node) ((lockstep a.program input y).at a.node)))) (sym f.reads)
       (subst (λ q. Carried a IsNext form_plan q
       (holds (expr_of erased (node_context a.program a.node input) e) >>= (λ v. choose v ((lockstep a.program input x).at a.node) ((lockstep a.program input y).at a.node))))
-      (λ j. holds (serial_test (~ j)) >>= (λ v. choose v (serial_set (~ j)) (serial_empty (~ j))))
-      (subst (λ q. Carried a IsNext form_plan serial_form q)
-      (λ j. holds (node_test (~ j)) >>= (λ v. choose v (node_set (~ j)) (node_empty (~ j)))) carried))
+      (sym serial_is)
+      (subst (λ q. Carried a IsNext form_plan serial_form q) (sym node_is) carried))
+    where
+      serial_is : (holds (expr_of (traced a.program) (serial_cx a.program input) e) >>= (λ v. choose v (noting a.program input x) (noting a.program input y))) ≡ serial_form
+      serial_is = λ j. holds (serial_test j) >>= (λ v. choose v (serial_set j) (serial_empty j))
+
+      node_is : (holds (expr_of erased (node_context a.program a.node input) e) >>= (λ v. choose v ((lockstep a.program input x).at a.node) ((lockstep a.program input y).at a.node))) ≡ node_form
+      node_is = λ j. holds (node_test j) >>= (λ v. choose v (node_set j) (node_empty j))
 
 pub if_forms_carry : IfFormsCarry
 if_forms_carry a is there input e x y es form terms fits empty writes quiet =
