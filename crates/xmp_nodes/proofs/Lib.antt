@@ -87,6 +87,8 @@ pub mod WideBits
 pub mod SameGives
 pub mod SumWrites
 pub mod ReductionValues
+pub mod ReductionIfs
+pub mod IfFormsCarried
 pub mod AllPlains
 pub mod ReductionForms
 pub mod SetForms
