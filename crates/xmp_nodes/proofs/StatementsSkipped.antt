@@ -1,21 +1,17 @@
 -- Every statement of a task at a node outside: the node is left as it was, and what is written is out of date there.
-use Rattle.std.proofs.Common.{◌≡◌, ◌≢◌, ◌<◌, ◌++◌, ◌⊎◌, inl, inr, ⊎_elim, ℕ, zero, suc, ℤ, pos, ◌+ℤ◌, Bool, true, false, true≢false, not, List, [], ◌∷◌, map, length, Option, Some, None, refl, sym, subst, ap, ◌∙◌, append-nil, append_assoc, if◌then◌else◌}
-use Rattle.std.specs.Prelude.{◌||◌, is_some, slice_get, slice_set, unwrap_or}
+use Rattle.std.proofs.Common.{◌≡◌, ◌≢◌, ◌<◌, ◌++◌, ⊎_elim, ℕ, zero, suc, ℤ, pos, ◌+ℤ◌, Bool, true, false, true≢false, not, List, [], ◌∷◌, map, Option, Some, None, refl, sym, subst, ap, ◌∙◌, append-nil, append_assoc, if◌then◌else◌}
+use Rattle.std.specs.Prelude.{◌||◌, is_some, slice_get, unwrap_or}
 use Rattle.std.specs.List.{AllByRecursion}
 use Rattle.std.proofs.lemmas.Option.{none-some}
 use Rattle.xmp_base.specs.declared.place.Place.{Place}
 use Rattle.xmp_num.specs.declared.types.Ty.TheVariants.{Int}
 use Rattle.xmp_num.specs.Arithmetic.{FitsType, wrap}
-use Rattle.xmp_prog.specs.declared.parts.ProgParts.{ProgParts}
 use Rattle.xmp_prog.specs.declared.parts.Array.{Array}
-use Rattle.xmp_prog.specs.declared.parts.Home.{Home}
 use Rattle.xmp_prog.specs.declared.parts.Home.TheVariants as home
 use Rattle.xmp_prog.specs.declared.expressions.Expr.{Expr}
 use Rattle.xmp_prog.specs.declared.expressions.Access.{Access}
-use Rattle.xmp_prog.specs.declared.statements.Compound.{Compound}
 use Rattle.xmp_prog.specs.declared.statements.LoopDirective.{LoopDirective}
 use Rattle.xmp_prog.specs.declared.statements.LoopHead.{LoopHead}
-use Rattle.xmp_prog.specs.declared.statements.Target.{Target}
 use Rattle.xmp_prog.specs.declared.statements.Target.TheVariants as target
 use Rattle.xmp_prog.specs.declared.statements.Plain.{Plain}
 use Rattle.xmp_prog.specs.declared.statements.Plain.TheVariants as plain
@@ -26,13 +22,13 @@ use Rattle.xmp_prog.specs.declared.statements.Stmt.TheFolds.{ind-Stmt}
 use Rattle.xmp_prog.specs.declared.statements.Stmt.TheViews.{roll-Stmt}
 use Rattle.xmp_prog.specs.declared.statements.Task.{Task}
 use Rattle.xmp_prog.specs.Fits.{node_count}
-use Rattle.xmp_prog.specs.Terms.{Term, Element, terms_of, terms_of_access, typed}
-use Rattle.xmp_prog.specs.Tests.{subscripts_fit, element_fits, is_image, is_return}
+use Rattle.xmp_prog.specs.Terms.{terms_of, terms_of_access, typed}
+use Rattle.xmp_prog.specs.Tests.{subscripts_fit, is_image, is_return}
 use Rattle.xmp_prog.specs.Statements.{terms_of_plain}
 use Rattle.xmp_paths.specs.declared.event.Event.{Event}
-use Rattle.xmp_paths.specs.declared.event.Event.TheVariants.{Read, Wrong, Mark}
+use Rattle.xmp_paths.specs.declared.event.Event.TheVariants.{Wrong, Mark}
 use Rattle.xmp_paths.specs.NodeSets.{has}
-use Rattle.xmp_paths.specs.Plans.{Plan, Stands, skip, emit, sequence, branch, loop, Path, in_order}
+use Rattle.xmp_paths.specs.Plans.{Plan, Stands, skip, sequence, branch, loop, Path, in_order}
 use Rattle.xmp_paths.specs.Walk.{after_events}
 use Rattle.xmp_paths.specs.Safe.{left, NothingWrong}
 use Rattle.xmp_paths.proofs.PathLaws.{some_path}
@@ -40,10 +36,10 @@ use Rattle.xmp_loops.specs.Objects.{scalar_object, array_object, all_nodes}
 use Rattle.xmp_loops.specs.Roles.{scalars_of}
 use Rattle.xmp_loops.specs.declared.role.Role.{Role}
 use Rattle.xmp_loops.specs.declared.role.Role.TheVariants.{Shared, Index, Reduced, Own}
-use Rattle.xmp_flow.specs.Setting.{Setting, others, is_first_alone, is_reduced, wrong_where, assigned, in_task}
+use Rattle.xmp_flow.specs.Setting.{others, is_first_alone, is_reduced, wrong_where, assigned, in_task}
 use Rattle.xmp_flow.specs.Reads.{reads_of, subscript_reads}
 use Rattle.xmp_flow.specs.Elements.{element_write}
-use Rattle.xmp_flow.specs.PlainEvents.{old_element, scanned, in_form, reflected, cast, side_events, source_events, moved, plain_events}
+use Rattle.xmp_flow.specs.PlainEvents.{old_element, in_form, reflected, cast, side_events, source_events, moved, plain_events}
 use Rattle.xmp_flow.specs.Statements.{events_of, if_form, form_of_if}
 use Rattle.xmp_loops.specs.Forms.{is_nothing, assigns}
 use Rattle.xmp_flow.specs.LoopEvents.{at_bounds, nest_events, reduction_events, iteration, ends}
@@ -57,7 +53,7 @@ use Rattle.xmp_meaning.specs.Context.{Context}
 use Rattle.xmp_meaning.specs.Handlers.{erased}
 use Rattle.xmp_meaning.specs.Expressions.{expr_of, holds, is_zero}
 use Rattle.xmp_meaning.specs.Loops.{is_inside, turn_count, entering, inside, step_up, counted}
-use Rattle.xmp_meaning.specs.Statements.{plain_of, stmt_of}
+use Rattle.xmp_meaning.specs.Statements.{stmt_of}
 use Rattle.xmp_meaning.specs.Exchanges.{Notes, traced}
 use Rattle.xmp_meaning.specs.Writes.{plain_arrays}
 use Rattle.xmp_meaning.proofs.Forms.{stmt_plain, stmt_block, stmt_if, stmt_counted}
@@ -65,13 +61,13 @@ use Rattle.xmp_meaning.proofs.Stays.{set_other}
 use Rattle.xmp_meaning_laws.specs.Laws.{scalar_in, is_plain}
 use Rattle.xmp_meaning_laws.proofs.Values.{wrap_fits, set_has}
 use Rattle.xmp_meaning_laws.proofs.Conditions.{all_apart}
-use Rattle.xmp_nodes.proofs.Agrees.{Stand, IsWhole, Agrees, Anything, IsNext, StandsStill, Still, Skipped}
-use Rattle.xmp_nodes.proofs.Standing.{IsGlobal, TermStands, PartFits, NoReturn, IsSetting}
+use Rattle.xmp_nodes.proofs.Agrees.{Stand, IsWhole, Agrees, Anything, IsNext, Still, Skipped}
+use Rattle.xmp_nodes.proofs.Standing.{TermStands, PartFits, NoReturn, IsSetting}
 use Rattle.xmp_nodes.proofs.Leaves.{serial_cx, noting, StatementsSkip}
-use Rattle.xmp_nodes.proofs.Below.{every_plain, every_block, every_if, every_counted}
+use Rattle.xmp_nodes.proofs.Below.{every_block, every_if, every_counted}
 use Rattle.xmp_nodes.proofs.Follow.{right_front, right_back, right_first, right_second, right_turn, agrees_fewer, way_none, skipped_pure, skipped_paths, skipped_on, skipped_then, skipped_choose, skipped_block}
-use Rattle.xmp_nodes.proofs.InStep.{way_first, way_last, way_right, way_skipped}
-use Rattle.xmp_nodes.proofs.LoopsInStep.{MarksNothing, turn_plan, one_turn, unrolled}
+use Rattle.xmp_nodes.proofs.InStep.{way_first, way_last, way_right}
+use Rattle.xmp_nodes.proofs.LoopsInStep.{MarksNothing, one_turn, unrolled}
 use Rattle.xmp_nodes.proofs.CountedInStep.{way_skip, way_loop}
 use Rattle.xmp_nodes.proofs.Lockstep.{index_int}
 use Rattle.xmp_nodes.proofs.MetEvents.{each_emit}
