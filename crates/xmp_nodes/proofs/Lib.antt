@@ -92,4 +92,5 @@ pub mod ReductionForms
 pub mod SetForms
 pub mod SkipMarks
 pub mod SkipPlains
+pub mod SkipSteps
 pub mod StatementsSkipped
