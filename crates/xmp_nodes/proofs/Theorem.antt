@@ -12,7 +12,9 @@ use Rattle.xmp_nodes.specs.Worlds.{World, world_after}
 use Rattle.xmp_nodes.specs.Stands.{StandsFor}
 use Rattle.xmp_nodes.specs.Answers.{answer_of}
 use Rattle.xmp_nodes.proofs.Standing.{IsGlobal}
-use Rattle.xmp_nodes.proofs.Leaves.{PlainsCarry, IfFormsCarry, StatementsCarry, StatementsSkip}
+use Rattle.xmp_nodes.proofs.Leaves.{IfFormsCarry, StatementsCarry}
+use Rattle.xmp_nodes.proofs.SetForms.{all_plains_carry}
+use Rattle.xmp_nodes.proofs.StatementsSkipped.{statements_skip}
 use Rattle.xmp_nodes.proofs.PartSplits.{body_fits, plain_fits, blocks_fit, ifs_fit, whiles_fit, counteds_fit, loops_fit, all_tasks_fit}
 use Rattle.xmp_nodes.proofs.NodeBits.{all_have}
 use Rattle.xmp_nodes.proofs.ReadsMark.{reads_keep}
@@ -32,8 +34,8 @@ use Rattle.xmp_nodes.proofs.Standings.{carried_out}
 use Rattle.xmp_nodes.proofs.Answering.{answers}
 
 -- what holds of a statement at a node
-at_a_node : PlainsCarry → IfFormsCarry → StatementsCarry
-at_a_node plains if_forms = statements_carry (record {
+at_a_node : IfFormsCarry → StatementsCarry
+at_a_node if_forms = statements_carry (record {
   plain_parts = plain_fits;
   block_parts = blocks_fit;
   if_parts = ifs_fit;
@@ -41,12 +43,12 @@ at_a_node plains if_forms = statements_carry (record {
   reads_keep = reads_keep;
   unwritten_stay = unwritten_stay;
   expressions = expressions_carry;
-  plains = plains;
+  plains = all_plains_carry;
   if_forms = if_forms;
 })
 
-all_parts : PlainsCarry → IfFormsCarry → StatementsSkip → Parts
-all_parts plains if_forms skips = record {
+all_parts : IfFormsCarry → Parts
+all_parts if_forms = record {
   plain_parts = plain_fits;
   block_parts = blocks_fit;
   if_parts = ifs_fit;
@@ -56,20 +58,20 @@ all_parts plains if_forms skips = record {
   reads_keep = reads_keep;
   unwritten_stay = unwritten_stay;
   expressions = expressions_carry;
-  plains = plains;
-  loops = loops_follow loops_fit alone_is_erased (at_a_node plains if_forms);
+  plains = all_plains_carry;
+  loops = loops_follow loops_fit alone_is_erased (at_a_node if_forms);
   casts = casts_follow;
   reflects = reflects_follow;
   gmoves = gmoves_follow;
   barriers = barriers_follow;
-  tasks = tasks_follow (at_a_node plains if_forms) skips all_tasks_fit;
+  tasks = tasks_follow (at_a_node if_forms) statements_skip all_tasks_fit;
 }
 
-pub nodes_carry_out : PlainsCarry → IfFormsCarry → StatementsSkip → (p : ProgParts) (input : List ℕ) (steps : ℕ)
+pub nodes_carry_out : IfFormsCarry → (p : ProgParts) (input : List ℕ) (steps : ℕ)
     → PartsFit p → p.kind ≡ Global → HasAxes p → IsFirst (FlowBreaks p) None
     → StandsFor p input steps (world_after (nodes_end p input steps))
-nodes_carry_out plains if_forms skips p input steps fits kind axes none =
-    carried_out p (record { fits = fits; kind = kind; axes = axes }) input steps (all_parts plains if_forms skips) body_fits none
+nodes_carry_out if_forms p input steps fits kind axes none =
+    carried_out p (record { fits = fits; kind = kind; axes = axes }) input steps (all_parts if_forms) body_fits none
 
 pub worlds_answer : (p : ProgParts) (input : List ℕ) (steps : ℕ) (w : World) → PartsFit p → p.kind ≡ Global → HasAxes p
     → StandsFor p input steps w → answer_of p w ≡ serial p input steps
