@@ -1,20 +1,18 @@
 -- What a gmove aims at: every node finds it, and without a trap its cells are those of the pairs of the sections.
-use Rattle.std.proofs.Common.{◌≡◌, ◌+◌, ◌++◌, ◌⊎◌, inl, inr, ◌==◌, ◌||◌, ℕ, zero, suc, ℤ, Bool, true, false, List, [], ◌∷◌, map, length, cond, Option, Some, None, refl, sym, ap, subst, ◌∙◌, arith, append_assoc, length-append}
+use Rattle.std.proofs.Common.{◌≡◌, ◌+◌, ◌++◌, ◌⊎◌, inl, inr, ◌==◌, ◌||◌, ℕ, suc, Bool, true, false, List, [], ◌∷◌, map, length, cond, Option, Some, None, refl, sym, ap, subst, ◌∙◌, arith, append_assoc, length-append}
 use Rattle.std.specs.Prelude.{slice_get}
-use Rattle.std.specs.List.{AllByRecursion, count_by}
+use Rattle.std.specs.List.{count_by}
 use Rattle.std.proofs.lemmas.Bool.{eqb-true}
 use Rattle.std.proofs.lemmas.List.Sums.{sum_by-cons}
 use Rattle.xmp_base.specs.declared.place.Place.{Place}
-use Rattle.xmp_prog.specs.declared.parts.ProgParts.{ProgParts}
 use Rattle.xmp_prog.specs.declared.parts.Array.{Array}
-use Rattle.xmp_prog.specs.declared.expressions.Expr.{Expr}
 use Rattle.xmp_prog.specs.declared.statements.Part.{Part}
 use Rattle.xmp_prog.specs.declared.statements.Part.TheVariants as part
 use Rattle.xmp_prog.specs.declared.statements.MoveSide.{MoveSide}
 use Rattle.xmp_prog.specs.declared.statements.MoveSide.TheVariants as side
 use Rattle.xmp_prog.specs.Directives.{is_section, sections_in, sections_agree, side_fits, parts_fit}
 use Rattle.xmp_meaning.specs.declared.ends.End.{End}
-use Rattle.xmp_meaning.specs.Runs.{State, StepIn, Step, Gave, Ended, RunIn, Run, and_then, ◌>>=◌, pure}
+use Rattle.xmp_meaning.specs.Runs.{State, Step, Gave, Ended, RunIn, Run, and_then, ◌>>=◌, pure}
 use Rattle.xmp_meaning.specs.Blocks.{each}
 use Rattle.xmp_meaning.specs.Context.{Context}
 use Rattle.xmp_meaning.specs.Handlers.{Handlers, Aim}
@@ -22,7 +20,6 @@ use Rattle.xmp_meaning.specs.Declarations.{extents, extents_of_array}
 use Rattle.xmp_meaning.specs.Expressions.{expr_of, within, or_subscript, natural}
 use Rattle.xmp_meaning.specs.Sections.{Chosen, One, Many, chosen, numbers, in_range, progression, section, subscripts, all_subscripts, cells_from, cells, lengths, fit, name_of, lengths_fit, spread, aim}
 use Rattle.xmp_move.specs.declared.kind.Fault.{Fault}
-use Rattle.xmp_move.specs.Ways.{Pair}
 use Rattle.xmp_move.specs.Cells.{pairs_between}
 use Rattle.xmp_move.specs.Faults.{first_fault}
 use Rattle.xmp_move.specs.Meant.{extents_in, aim_of}

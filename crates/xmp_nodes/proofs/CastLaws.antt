@@ -1,10 +1,10 @@
 -- A bcast: the variables that are set, and the marks of its plan.
-use Rattle.std.proofs.Common.{⊎_elim, ◌≡◌, ◌≢◌, ◌<◌, ◌≤◌, ◌+◌, ◌*◌, ◌==◌, ◌||◌, ◌&&◌, ◌⊎◌, inl, inr, if◌then◌else◌, ℕ, zero, suc, ℤ, pos, Bool, true, false, not, List, [], ◌∷◌, ◌++◌, map, length, Option, Some, None, ne_eqb, refl, sym, ap, subst, ◌∙◌, arith}
+use Rattle.std.proofs.Common.{⊎_elim, ◌≡◌, ◌≢◌, ◌<◌, ◌*◌, ◌==◌, ◌||◌, ◌&&◌, ◌⊎◌, inl, inr, if◌then◌else◌, ℕ, zero, suc, ℤ, pos, Bool, true, false, not, List, [], ◌∷◌, map, length, Some, ne_eqb, refl, sym, ap, subst, ◌∙◌, arith}
 use Rattle.std.specs.Prelude.{slice_get, slice_set, unwrap_or}
 use Rattle.std.proofs.lemmas.Bool.{eqb-true, eq-eqb, cases_lt}
 use Rattle.std.proofs.lemmas.Bool.Decides.{nat_tests}
 use Rattle.std.proofs.lemmas.Nat.Bits.{bit_at-zero}
-use Rattle.std.proofs.lemmas.Option.{slice_get-get_or, slice_get_past, unwrap_or-slice_get}
+use Rattle.std.proofs.lemmas.Option.{slice_get_past}
 use Rattle.std.proofs.lemmas.List.{length-set}
 use Rattle.xmp_map.specs.declared.grid.NodeSet.{NodeSet}
 use Rattle.xmp_prog.specs.declared.parts.ProgParts.{ProgParts}
@@ -16,17 +16,16 @@ use Rattle.xmp_meaning.specs.Runs.{State, Gave}
 use Rattle.xmp_meaning.specs.LoopEnds.{set_all}
 use Rattle.xmp_meaning.proofs.Stays.{set_other}
 use Rattle.xmp_paths.specs.NodeSets.{has}
-use Rattle.xmp_paths.specs.Plans.{Plan, skip, emit, sequence, in_order, Path}
-use Rattle.xmp_paths.specs.Walk.{after_event, after_events}
+use Rattle.xmp_paths.specs.Plans.{Plan, emit, in_order, Path}
+use Rattle.xmp_paths.specs.Walk.{after_event}
 use Rattle.xmp_paths.specs.Safe.{left, Safe}
 use Rattle.xmp_paths.specs.declared.event.Event.{Event}
 use Rattle.xmp_paths.specs.declared.event.Event.TheVariants.{Read, Mark}
 use Rattle.xmp_paths.proofs.SafeLaws.{safe_front, safe_back, safe_read}
 use Rattle.xmp_loops.specs.Objects.{scalar_object, nodes_in, all_nodes}
-use Rattle.xmp_flow.specs.Setting.{Setting}
 use Rattle.xmp_flow.specs.PlainEvents.{cast}
 use Rattle.xmp_flow.specs.Program.{outermost}
-use Rattle.xmp_nodes.proofs.NodeBits.{all_have, set_has}
+use Rattle.xmp_nodes.proofs.NodeBits.{all_have}
 
 -- ---- scalars that are set
 

@@ -1,30 +1,25 @@
 -- All nodes follow a bcast.
-use Rattle.std.proofs.Common.{⊎_elim, ◌≡◌, ◌≢◌, ◌<◌, ◌+◌, ◌*◌, ◌++◌, ◌==◌, ◌||◌, ◌⊎◌, inl, inr, if◌then◌else◌, ℕ, zero, suc, ℤ, pos, Bool, true, false, List, [], ◌∷◌, map, length, Option, Some, None, refl, sym, ap, subst, ◌∙◌, arith, IsTrue}
-use Rattle.std.specs.Prelude.{slice_get, slice_set, unwrap_or, ◌&&◌}
-use Rattle.std.specs.List.{AllByRecursion}
+use Rattle.std.proofs.Common.{◌≡◌, ◌<◌, ◌*◌, ◌==◌, ◌||◌, inl, ℕ, ℤ, pos, Bool, true, false, List, [], ◌∷◌, map, length, Some, refl, sym, ap, subst, ◌∙◌, arith}
+use Rattle.std.specs.Prelude.{slice_get, unwrap_or, ◌&&◌}
 use Rattle.std.proofs.lemmas.Bool.{eq-eqb}
 use Rattle.std.proofs.lemmas.Option.{slice_get_within}
-use Rattle.xmp_base.specs.declared.place.Place.{Place}
 use Rattle.xmp_num.specs.Arithmetic.{FitsType}
 use Rattle.xmp_map.specs.declared.grid.NodeSet.{NodeSet}
 use Rattle.xmp_map.specs.RowMajor.{product}
 use Rattle.xmp_prog.specs.declared.parts.ProgParts.{ProgParts}
 use Rattle.xmp_prog.specs.declared.statements.Name.{Name}
 use Rattle.xmp_prog.specs.declared.statements.Plain.TheVariants as plain
-use Rattle.xmp_prog.specs.declared.statements.Stmt.TheVariants as stmt
 use Rattle.xmp_prog.specs.Fits.{node_count}
 use Rattle.xmp_prog.specs.Numbers.{is_in}
-use Rattle.xmp_prog.specs.NodeSets.{is_node_set, is_one_node, has_node}
-use Rattle.xmp_paths.specs.NodeSets.{has}
+use Rattle.xmp_prog.specs.NodeSets.{is_node_set}
 use Rattle.xmp_paths.specs.declared.event.Event.{Event}
 use Rattle.xmp_paths.specs.Plans.{Plan, skip, sequence, in_order, Path}
-use Rattle.xmp_paths.specs.Safe.{left, Safe, NothingWrong}
+use Rattle.xmp_paths.specs.Safe.{left}
 use Rattle.xmp_paths.proofs.SafeLaws.{safe_front, safe_back}
-use Rattle.xmp_loops.specs.Objects.{scalar_object, array_object, nodes_in}
+use Rattle.xmp_loops.specs.Objects.{scalar_object, array_object}
 use Rattle.xmp_flow.specs.Setting.{is_reduced}
 use Rattle.xmp_flow.specs.PlainEvents.{cast, plain_events}
 use Rattle.xmp_flow.specs.Program.{outermost}
-use Rattle.xmp_meaning.specs.declared.ends.Flow.{Flow}
 use Rattle.xmp_meaning.specs.declared.ends.Flow.TheVariants.{Next}
 use Rattle.xmp_meaning.specs.Runs.{State, Gave}
 use Rattle.xmp_meaning.specs.Declarations.{scalar_type}
@@ -32,18 +27,17 @@ use Rattle.xmp_meaning.specs.LoopEnds.{set_all}
 use Rattle.xmp_meaning.specs.TaskEnds.{leader}
 use Rattle.xmp_meaning.specs.Exchanges.{Notes, Exchange, Broadcast, values_of}
 use Rattle.xmp_meaning.specs.Messages.{message, words_sent}
-use Rattle.xmp_meaning.specs.Traffic.{node_beginning, copied}
+use Rattle.xmp_meaning.specs.Traffic.{node_beginning}
 use Rattle.xmp_meaning_laws.specs.Laws.{scalar_in}
-use Rattle.xmp_nodes.specs.Nodes.{Nodes, store_at}
-use Rattle.xmp_nodes.specs.Casting.{cast_values, cast_all}
-use Rattle.xmp_nodes.proofs.Agrees.{Stand, Agrees, ReadyAt, Ready, at_main, AllAlong, IsNext}
-use Rattle.xmp_nodes.proofs.Standing.{IsGlobal, PartFits}
+use Rattle.xmp_nodes.specs.Nodes.{store_at}
+use Rattle.xmp_nodes.specs.Casting.{cast_values}
+use Rattle.xmp_nodes.proofs.Agrees.{Agrees, ReadyAt, at_main, IsNext}
 use Rattle.xmp_nodes.proofs.Leaves.{CastsFollow}
 use Rattle.xmp_nodes.proofs.PlainParts.{plain_stands}
 use Rattle.xmp_nodes.proofs.Each.{Alone, store_there}
 use Rattle.xmp_nodes.proofs.NodeBits.{set_has, leader_below, leader_has}
 use Rattle.xmp_nodes.proofs.Saying.{noted_behind, say_and_do}
-use Rattle.xmp_nodes.proofs.CastLaws.{set_slots, sets_all, slots_length, value, set_same, set_others, cast_way, cast_path, cast_keeps, cast_others, cast_current}
+use Rattle.xmp_nodes.proofs.CastLaws.{set_slots, sets_all, slots_length, set_same, set_others, cast_way, cast_path, cast_others, cast_current}
 use Rattle.xmp_nodes.proofs.CopiedLaws.{copied_stays, cast_copies}
 
 -- with another exchange noted

@@ -1,8 +1,7 @@
 -- The copied values of an array's cells, as exchanges are noted.
-use Rattle.std.proofs.Common.{◌≡◌, ◌≢◌, ◌++◌, ◌==◌, if◌then◌else◌, ℕ, ℤ, pos, Bool, true, false, List, [], ◌∷◌, refl, sym, ap, ◌∙◌, arith}
+use Rattle.std.proofs.Common.{◌≡◌, ◌++◌, ◌==◌, if◌then◌else◌, ℕ, ℤ, pos, false, List, [], ◌∷◌, refl, ap, ◌∙◌}
 use Rattle.std.specs.Prelude.{slice_get, unwrap_or}
 use Rattle.std.proofs.lemmas.Bool.{eq-eqb}
-use Rattle.std.proofs.lemmas.Bool.Decides.{nat_tests}
 use Rattle.std.proofs.lemmas.Option.{unwrap_or-slice_get}
 use Rattle.xmp_meaning.specs.Exchanges.{Exchange, AtBarrier, Broadcast, Reflected, Moved, LoopEnd, TasksEnd}
 use Rattle.xmp_meaning.specs.Traffic.{last_reflected, copied}

@@ -1,17 +1,17 @@
 -- What every node does by itself, node by node.
 use Rattle.std.proofs.Common.{◌≡◌, ◌<◌, ◌+◌, ◌++◌, ◌==◌, if◌then◌else◌, ℕ, zero, suc, List, [], ◌∷◌, map, length, Option, Some, None, option_map, refl, sym, ap, subst, ◌∙◌, arith, zero-add}
-use Rattle.std.specs.Prelude.{slice_get, unwrap_or, replicate}
+use Rattle.std.specs.Prelude.{slice_get, unwrap_or}
 use Rattle.std.specs.List.{range_with_len}
-use Rattle.std.proofs.lemmas.Option.{slice_get-map, slice_get_within, slice_get-get_or, none-some, same_Some}
+use Rattle.std.proofs.lemmas.Option.{slice_get-map, none-some, same_Some}
 use Rattle.std.proofs.lemmas.List.{length-map}
 use Rattle.xmp_prog.specs.declared.parts.ProgParts.{ProgParts}
 use Rattle.xmp_prog.specs.declared.statements.LoopDirective.{LoopDirective}
 use Rattle.xmp_prog.specs.Fits.{node_count}
-use Rattle.xmp_meaning.specs.Runs.{State, StepIn, Step, Gave, Ended, RunIn, Run, state_of}
+use Rattle.xmp_meaning.specs.Runs.{State, StepIn, Step, Gave, Ended, Run, state_of}
 use Rattle.xmp_meaning.specs.Messages.{Message, words_sent}
 use Rattle.xmp_meaning.specs.Traffic.{node_beginning}
 use Rattle.xmp_meaning_laws.specs.Agreement.{StepsMeet}
-use Rattle.xmp_nodes.specs.Nodes.{bounded, Nodes, nodes_beginning, store_at, each_does, led, with_steps, all_do, raised_by, rows_raised, saying, say}
+use Rattle.xmp_nodes.specs.Nodes.{bounded, Nodes, nodes_beginning, store_at, each_does, led, with_steps, all_do, raised_by, rows_raised, saying}
 use Rattle.xmp_nodes.specs.Parts.{own_tuples, own_turns}
 use Rattle.xmp_nodes.specs.Tasks.{with_texts}
 

@@ -94,6 +94,7 @@ pub mod ReductionForms
 pub mod SetForms
 pub mod SkipMarks
 pub mod SkipPlains
+pub mod SkipSteps
 pub mod StatementsSkipped
 pub mod IfFormsCarried
 pub mod ReductionIfs

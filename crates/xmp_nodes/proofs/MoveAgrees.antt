@@ -1,12 +1,11 @@
 -- A node agrees after a gmove: on a scalar, on an array without align, and on a distributed one.
-use Rattle.std.proofs.Common.{◌≡◌, ◌≢◌, ◌<◌, ◌≤◌, ◌+◌, ◌*◌, ◌++◌, ◌==◌, ◌⊎◌, inl, inr, ℕ, zero, suc, ℤ, pos, Bool, true, false, List, [], ◌∷◌, map, length, Option, Some, None, refl, sym, ap, subst, ◌∙◌, arith, ne_eqb}
+use Rattle.std.proofs.Common.{◌≡◌, ◌≢◌, ◌<◌, ◌+◌, ◌*◌, ◌++◌, ◌⊎◌, inl, inr, ℕ, zero, suc, ℤ, pos, Bool, true, false, List, [], ◌∷◌, map, length, Some, refl, sym, ap, subst, ◌∙◌, arith, ne_eqb}
 use Rattle.std.specs.Prelude.{slice_get, slice_set, unwrap_or}
 use Rattle.std.proofs.lemmas.List.{length-set}
 use Rattle.xmp_num.specs.Arithmetic.{FitsType}
 use Rattle.xmp_map.specs.declared.array_map.ArrayMap.{ArrayMap}
-use Rattle.xmp_map.specs.RowMajor.{product, row_major}
+use Rattle.xmp_map.specs.RowMajor.{row_major}
 use Rattle.xmp_map.specs.Boxes.{IsInside}
-use Rattle.xmp_map.specs.Held as held
 use Rattle.xmp_prog.specs.declared.parts.ProgParts.{ProgParts}
 use Rattle.xmp_prog.specs.declared.parts.Home.{Home}
 use Rattle.xmp_prog.specs.declared.parts.Home.TheVariants as home
@@ -22,16 +21,14 @@ use Rattle.xmp_meaning.specs.Runs.{State}
 use Rattle.xmp_meaning.specs.Declarations.{extents, home_of, scalar_type}
 use Rattle.xmp_meaning.specs.Exchanges.{Notes, Exchange}
 use Rattle.xmp_meaning.specs.Traffic.{copied}
-use Rattle.xmp_meaning_laws.specs.Laws.{scalar_in}
 use Rattle.xmp_meaning_laws.proofs.Values.{set_has}
 use Rattle.xmp_meaning.proofs.Stays.{set_other}
 use Rattle.xmp_move.specs.Sides.{owns_cell, holds_cell, position}
 use Rattle.xmp_move.specs.Stores.{word_at}
 use Rattle.xmp_move.specs.Whole.{Shows}
 use Rattle.xmp_nodes.proofs.Agrees.{IsWhole, Agrees, at_main}
-use Rattle.xmp_nodes.proofs.Standing.{IsGlobal}
 use Rattle.xmp_nodes.proofs.Each.{Alone}
-use Rattle.xmp_nodes.proofs.CastLaws.{cleared, staled, untouched, set_slots, set_same}
+use Rattle.xmp_nodes.proofs.CastLaws.{staled, untouched}
 use Rattle.xmp_nodes.proofs.CastLeaf.{noting_one}
 use Rattle.xmp_nodes.proofs.CopiedLaws.{IsNoReflect, copied_stays}
 use Rattle.xmp_nodes.proofs.PackedRows.{same_or_other, tell, row_read, set_lengths, set_row_here, set_row_other}

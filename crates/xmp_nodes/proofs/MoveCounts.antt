@@ -1,15 +1,13 @@
 -- A gmove says as many words as its exchange has.
-use Rattle.std.proofs.Common.{◌≡◌, ◌≢◌, ◌<◌, ◌≤◌, ◌+◌, ◌-◌, ◌*◌, ◌/◌, ◌%◌, ◌++◌, ◌==◌, if◌then◌else◌, cond, ℕ, zero, suc, ℤ, Bool, true, false, List, [], ◌∷◌, map, length, refl, sym, ap, subst, ◌∙◌, arith, ne_eqb, mod-lt, mul-zero}
+use Rattle.std.proofs.Common.{◌≡◌, ◌≢◌, ◌<◌, ◌≤◌, ◌+◌, ◌-◌, ◌*◌, ◌/◌, ◌%◌, ◌++◌, if◌then◌else◌, cond, ℕ, zero, suc, ℤ, Bool, true, false, List, [], ◌∷◌, map, length, refl, sym, ap, ◌∙◌, arith, ne_eqb, mod-lt, mul-zero}
 use Rattle.std.specs.Prelude.{◌&&◌, filter, replicate}
 use Rattle.std.specs.List.{AllByRecursion, count_by, zip}
 use Rattle.std.proofs.lemmas.List.{length-map}
 use Rattle.std.proofs.lemmas.List.Sums.{sum_by-cons}
 use Rattle.xmp_map.specs.declared.array_map.ArrayMap.{ArrayMap}
-use Rattle.xmp_map.specs.RowMajor.{product, row_major, unravel}
-use Rattle.xmp_map.specs.Boxes.{IsInside}
-use Rattle.xmp_map.specs.Nodes.{filled}
+use Rattle.xmp_map.specs.RowMajor.{product, unravel}
 use Rattle.xmp_map.specs.Held as held
-use Rattle.xmp_map.proofs.Order.{row_major-lt, inside_below, unravel_below, length_below}
+use Rattle.xmp_map.proofs.Order.{unravel_below, length_below}
 use Rattle.xmp_prog.specs.declared.parts.ProgParts.{ProgParts}
 use Rattle.xmp_prog.specs.declared.parts.Home.{Home}
 use Rattle.xmp_prog.specs.declared.parts.Home.TheVariants as home
@@ -18,12 +16,11 @@ use Rattle.xmp_prog.specs.declared.statements.MoveSide.TheVariants as side
 use Rattle.xmp_prog.specs.Fits.{node_count}
 use Rattle.xmp_meaning.specs.Declarations.{extents, home_of}
 use Rattle.xmp_meaning.specs.Handlers.{Aim}
-use Rattle.xmp_meaning.specs.Exchanges.{Exchange, Moved}
+use Rattle.xmp_meaning.specs.Exchanges.{Moved}
 use Rattle.xmp_meaning.specs.Messages.{message, said, words_sent, words_alone, takes, takes_cell, gives, gives_cell as gives_number, cell_by}
 use Rattle.xmp_meaning.proofs.WordsDue.{as_due}
 use Rattle.xmp_move.specs.Ways.{Pair, due, sends}
 use Rattle.xmp_move.specs.Sides.{padded, owns_cell, gives_cell}
-use Rattle.xmp_move.specs.Stores.{IsIn}
 use Rattle.xmp_move.specs.Laid.{MapFits}
 use Rattle.xmp_move.specs.Kept.{HasThree}
 use Rattle.xmp_move.proofs.PlanLaws.{product_pad}
@@ -31,7 +28,7 @@ use Rattle.xmp_nodes.specs.Nodes.{Nodes}
 use Rattle.xmp_nodes.specs.Rows.{home_of_side, extents_of_side}
 use Rattle.xmp_nodes.specs.Moving.{move_ways, pairs_of_aim, move_said}
 use Rattle.xmp_nodes.proofs.Standing.{IsGlobal}
-use Rattle.xmp_nodes.proofs.PackedRows.{IsSpreadArray, spread_array, few_dims}
+use Rattle.xmp_nodes.proofs.PackedRows.{spread_array, few_dims}
 use Rattle.xmp_nodes.proofs.ReflectCounts.{filled_out, row_of_home, rows_fit, message_words}
 
 -- ---- subscripts of a number, in more dimensions

@@ -1,27 +1,19 @@
 -- All nodes follow a gmove.
-use Rattle.std.proofs.Common.{◌⊎◌, inl, inr, append-nil, ◌≡◌, ◌≢◌, ◌<◌, ◌≤◌, ◌+◌, ◌*◌, ◌++◌, ◌==◌, ◌&&◌, if◌then◌else◌, ℕ, zero, suc, ℤ, pos, Bool, true, false, List, [], ◌∷◌, map, length, Option, Some, None, option_map, refl, sym, ap, subst, subst₂, ◌∙◌, arith}
-use Rattle.std.specs.Prelude.{slice_get, slice_set, unwrap_or}
+use Rattle.std.proofs.Common.{inl, inr, append-nil, ◌≡◌, ◌<◌, ◌++◌, ◌&&◌, ℕ, ℤ, Bool, true, false, List, [], ◌∷◌, map, Some, refl, sym, ap, subst, subst₂, ◌∙◌, arith}
+use Rattle.std.specs.Prelude.{slice_get}
 use Rattle.std.specs.List.{AllByRecursion, range_with_len}
 use Rattle.std.proofs.lemmas.List.{length-map}
 use Rattle.std.proofs.lemmas.Option.{slice_get_within, none-some, same_Some}
 use Rattle.xmp_base.specs.declared.place.Place.{Place}
-use Rattle.xmp_num.specs.Arithmetic.{FitsType, wrap}
-use Rattle.xmp_map.specs.declared.array_map.ArrayMap.{ArrayMap}
+use Rattle.xmp_num.specs.Arithmetic.{wrap}
 use Rattle.xmp_map.specs.RowMajor.{product, row_major}
-use Rattle.xmp_map.specs.Boxes.{IsInside}
 use Rattle.xmp_map.proofs.Order.{row_major-lt, inside_below}
 use Rattle.xmp_prog.specs.declared.parts.ProgParts.{ProgParts}
-use Rattle.xmp_prog.specs.declared.parts.Array.{Array}
-use Rattle.xmp_prog.specs.declared.parts.Home.{Home}
 use Rattle.xmp_prog.specs.declared.parts.Home.TheVariants as home
-use Rattle.xmp_prog.specs.declared.statements.Name.{Name}
-use Rattle.xmp_prog.specs.declared.statements.Part.{Part}
 use Rattle.xmp_prog.specs.declared.statements.MoveSide.{MoveSide}
 use Rattle.xmp_prog.specs.declared.statements.MoveSide.TheVariants as side
 use Rattle.xmp_prog.specs.declared.statements.Plain.TheVariants as plain
-use Rattle.xmp_prog.specs.declared.statements.Stmt.TheVariants as stmt
 use Rattle.xmp_prog.specs.Fits.{node_count}
-use Rattle.xmp_prog.specs.Tests.{is_image}
 use Rattle.xmp_prog.specs.Directives.{side_fits, sections_agree}
 use Rattle.xmp_paths.specs.NodeSets.{has}
 use Rattle.xmp_paths.specs.declared.event.Event.{Event}
@@ -30,55 +22,46 @@ use Rattle.xmp_paths.specs.Walk.{after_events}
 use Rattle.xmp_paths.specs.Safe.{left, Safe, NothingWrong}
 use Rattle.xmp_paths.proofs.PathLaws.{walk-append}
 use Rattle.xmp_paths.proofs.SafeLaws.{safe_front, safe_back}
-use Rattle.xmp_loops.specs.Objects.{scalar_object, array_object, all_nodes}
-use Rattle.xmp_flow.specs.PlainEvents.{side_events, source_events, moved_at, moved, plain_events}
+use Rattle.xmp_loops.specs.Objects.{all_nodes}
+use Rattle.xmp_flow.specs.PlainEvents.{side_events, source_events, moved, plain_events}
 use Rattle.xmp_flow.specs.Program.{outermost}
 use Rattle.xmp_meaning.specs.declared.ends.Flow.{Flow}
 use Rattle.xmp_meaning.specs.declared.ends.Flow.TheVariants.{Next}
-use Rattle.xmp_meaning.specs.Cells.{row_in}
-use Rattle.xmp_meaning.specs.Runs.{State, Step, StepIn, Gave, Ended, Run, and_then, ◌>>=◌, state_of}
+use Rattle.xmp_meaning.specs.Runs.{State, Step, Gave, Ended, Run, and_then, ◌>>=◌}
 use Rattle.xmp_meaning.specs.Blocks.{each, then_run}
 use Rattle.xmp_meaning.specs.Handlers.{Aim, erased}
-use Rattle.xmp_meaning.specs.Declarations.{extents, home_of, scalar_type}
-use Rattle.xmp_meaning.specs.Layouts.{Packed, words_of}
 use Rattle.xmp_meaning.specs.Sections.{Chosen, aim, read_cell, store_all, numbers}
-use Rattle.xmp_meaning.specs.Exchanges.{Notes, Exchange, Moved, note, traced}
+use Rattle.xmp_meaning.specs.Exchanges.{Notes, Moved, note, traced}
 use Rattle.xmp_meaning.specs.Traffic.{node_context, node_beginning}
-use Rattle.xmp_meaning_laws.proofs.Values.{wrap_fits}
 use Rattle.xmp_move.specs.Ways.{Pair}
-use Rattle.xmp_move.specs.Cells.{indices, counts, cell_at, pairs_between}
-use Rattle.xmp_move.specs.Sides.{owns_cell, holds_cell, gives_cell, position}
-use Rattle.xmp_move.specs.Stores.{IsIn, word_at, packed, write_all, unpacked_of}
-use Rattle.xmp_move.specs.Whole.{Shows, assigned}
-use Rattle.xmp_move.specs.Meant.{extents_in, aim_of}
+use Rattle.xmp_move.specs.Cells.{pairs_between}
+use Rattle.xmp_move.specs.Sides.{gives_cell, position}
+use Rattle.xmp_move.specs.Stores.{IsIn, unpacked_of}
+use Rattle.xmp_move.specs.Whole.{Shows}
+use Rattle.xmp_move.specs.Meant.{extents_in}
 use Rattle.xmp_move.specs.Assigned.{AreGood, AreNodes, IsAssigned}
-use Rattle.xmp_move.proofs.Writes.{length-write_all}
 use Rattle.xmp_move.proofs.Boxes.{in_range, range_in}
 use Rattle.xmp_move.proofs.Assigning.{assignment, source_inside, aims_are_pairs, gmoves_arrays, rows_are_kept}
-use Rattle.xmp_nodes.specs.Nodes.{Nodes, store_at, all_do, each_does, with_steps, led}
+use Rattle.xmp_nodes.specs.Nodes.{Nodes, store_at, all_do}
 use Rattle.xmp_nodes.specs.Worlds.{out_of}
-use Rattle.xmp_nodes.specs.Rows.{home_of_side, extents_of_side, type_of_side, row_of, with_row}
-use Rattle.xmp_nodes.specs.Moving.{move_ways, pairs_of_aim, source_row, move_said, moved_row, move_all, gmove_all}
-use Rattle.xmp_nodes.proofs.Agrees.{IsWhole, Agrees, ReadyAt, Ready, at_main, AllEnd, AllAlong, IsNext}
-use Rattle.xmp_nodes.proofs.Standing.{IsGlobal, PartFits}
+use Rattle.xmp_nodes.specs.Rows.{home_of_side, extents_of_side, type_of_side, with_row}
+use Rattle.xmp_nodes.specs.Moving.{move_ways, source_row, move_said, moved_row, move_all}
+use Rattle.xmp_nodes.proofs.Agrees.{Agrees, ReadyAt, Ready, at_main, AllAlong, IsNext}
+use Rattle.xmp_nodes.proofs.Standing.{IsGlobal}
 use Rattle.xmp_nodes.proofs.Leaves.{serial_cx, GmovesFollow}
 use Rattle.xmp_nodes.proofs.Follow.{agrees_fewer}
 use Rattle.xmp_nodes.proofs.Each.{Alone, store_there, store_is}
 use Rattle.xmp_nodes.proofs.NodeBits.{all_have}
 use Rattle.xmp_nodes.proofs.PlainParts.{plain_stands}
-use Rattle.xmp_nodes.proofs.Words.{words_of_side, with_words, value_word, row_of_is, with_row_is, Plainly, InSide, value_in, reads_all, values_packed, stores_array}
-use Rattle.xmp_nodes.proofs.Stillness.{Came, Value, Stopped, came_to, as_step, Still, Quiet, quiet_skip, quiet_then, safe_behind}
+use Rattle.xmp_nodes.proofs.Words.{words_of_side, row_of_is, value_in, reads_all}
+use Rattle.xmp_nodes.proofs.Stillness.{Came, Value, Stopped, came_to, as_step, Still, Quiet, quiet_skip, safe_behind}
 use Rattle.xmp_nodes.proofs.NumberLaws.{Alike, alike_side}
 use Rattle.xmp_nodes.proofs.AimLaws.{still_aim, GoodAim, good_aim}
 use Rattle.xmp_nodes.proofs.Saying.{say_and_do}
-use Rattle.xmp_nodes.proofs.CastLeaf.{noting_one}
-use Rattle.xmp_nodes.proofs.CopiedLaws.{moved_copies}
-use Rattle.xmp_nodes.proofs.PackedRows.{some_nodes, home_there}
-use Rattle.xmp_nodes.proofs.MoveStates.{moved_rows, moved_scalar}
+use Rattle.xmp_nodes.proofs.PackedRows.{some_nodes}
 use Rattle.xmp_nodes.proofs.MoveCounts.{InSideOf, move_counts}
-use Rattle.xmp_nodes.proofs.MoveAgrees.{scalar_marks, spread_marks, scalar_agrees, copy_agrees, spread_agrees}
-use Rattle.xmp_nodes.proofs.MoveSides.{array_of_side, is_array, ArrayRow, array_row, side_long, SerialRow, serial_row, no_image, whole_rows, home_in_is, source_quiet, source_current, source_shows}
-use Rattle.xmp_nodes.proofs.MoveAfter.{traced_plainly, all_still, meant, values, exchange, RowAssigned, NodeAfter, After, side_after}
+use Rattle.xmp_nodes.proofs.MoveSides.{is_array, side_long, source_quiet, source_current, source_shows}
+use Rattle.xmp_nodes.proofs.MoveAfter.{traced_plainly, all_still, meant, values, exchange, RowAssigned, After, side_after}
 
 -- ---- a way through the plan
 

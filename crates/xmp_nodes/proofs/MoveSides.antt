@@ -1,13 +1,9 @@
 -- The sides of a gmove: their rows on a node, and what each node gives of the source.
-use Rattle.std.proofs.Common.{◌≡◌, ◌≢◌, ◌<◌, ◌≤◌, ◌+◌, ◌*◌, ◌==◌, if◌then◌else◌, ℕ, zero, suc, ℤ, pos, Bool, true, false, List, [], ◌∷◌, map, length, Option, Some, None, option_map, refl, sym, ap, subst, ◌∙◌, arith, ext_get_or}
-use Rattle.std.specs.Prelude.{slice_get, unwrap_or}
-use Rattle.std.specs.List.{AllByRecursion, range_with_len}
+use Rattle.std.proofs.Common.{◌≡◌, ◌<◌, ◌≤◌, ◌*◌, if◌then◌else◌, ℕ, ℤ, pos, Bool, true, false, List, [], ◌∷◌, length, Option, Some, None, option_map, refl, sym, ap, subst, ◌∙◌, arith, ext_get_or}
+use Rattle.std.specs.Prelude.{slice_get}
 use Rattle.std.proofs.lemmas.Bool.{eqb-true}
-use Rattle.std.proofs.lemmas.Option.{none-some}
-use Rattle.xmp_map.specs.declared.array_map.ArrayMap.{ArrayMap}
 use Rattle.xmp_map.specs.RowMajor.{product, row_major, unravel}
 use Rattle.xmp_map.specs.Boxes.{IsInside}
-use Rattle.xmp_map.specs.Held as held
 use Rattle.xmp_map.proofs.Order.{row_major-unravel, unravel_below, below_inside}
 use Rattle.xmp_prog.specs.declared.parts.ProgParts.{ProgParts}
 use Rattle.xmp_prog.specs.declared.parts.Array.{Array}
@@ -21,34 +17,29 @@ use Rattle.xmp_prog.specs.Fits.{node_count}
 use Rattle.xmp_prog.specs.Tests.{is_image}
 use Rattle.xmp_prog.specs.Directives.{side_fits, parts_fit}
 use Rattle.xmp_paths.specs.NodeSets.{has}
-use Rattle.xmp_paths.specs.declared.event.Event.{Event}
-use Rattle.xmp_paths.specs.declared.event.Event.TheVariants.{Read, Mark}
-use Rattle.xmp_paths.specs.Plans.{Plan, skip, emit, Path}
-use Rattle.xmp_paths.specs.Safe.{left, Safe}
+use Rattle.xmp_paths.specs.declared.event.Event.TheVariants.{Read}
+use Rattle.xmp_paths.specs.Plans.{emit}
+use Rattle.xmp_paths.specs.Safe.{Safe}
 use Rattle.xmp_paths.proofs.SafeLaws.{safe_read}
 use Rattle.xmp_loops.specs.Objects.{scalar_object, array_object, all_nodes}
 use Rattle.xmp_flow.specs.Elements.{home_of as home_in}
-use Rattle.xmp_flow.specs.PlainEvents.{source_at, source_events, moved_at, moved}
+use Rattle.xmp_flow.specs.PlainEvents.{source_at, source_events}
 use Rattle.xmp_flow.specs.Program.{outermost}
 use Rattle.xmp_meaning.specs.Cells.{row_in}
 use Rattle.xmp_meaning.specs.Runs.{State}
 use Rattle.xmp_meaning.specs.Declarations.{extents, home_of}
-use Rattle.xmp_meaning.specs.Layouts.{Packed, Whole, words_of, cell_count, row_length}
+use Rattle.xmp_meaning.specs.Layouts.{Packed, Whole, words_of, row_length}
 use Rattle.xmp_meaning.specs.Exchanges.{Notes}
-use Rattle.xmp_meaning.specs.Traffic.{node_beginning}
 use Rattle.xmp_meaning.specs.TrafficLaws.{IsNodeState}
-use Rattle.xmp_meaning_laws.specs.Laws.{scalar_in}
-use Rattle.xmp_move.specs.Sides.{owns_cell, holds_cell, gives_cell, position}
+use Rattle.xmp_move.specs.Sides.{gives_cell, position}
 use Rattle.xmp_move.specs.Stores.{word_at}
-use Rattle.xmp_move.specs.Whole.{Shows, HasSlots}
+use Rattle.xmp_move.specs.Whole.{Shows}
 use Rattle.xmp_move.specs.Assigned.{IsArray}
-use Rattle.xmp_nodes.specs.Nodes.{Nodes, store_at}
-use Rattle.xmp_nodes.specs.Rows.{home_of_side, extents_of_side, row_of}
-use Rattle.xmp_nodes.specs.Moving.{source_row}
+use Rattle.xmp_nodes.specs.Rows.{home_of_side, extents_of_side}
 use Rattle.xmp_nodes.proofs.Agrees.{IsWhole, Agrees, at_main}
 use Rattle.xmp_nodes.proofs.Standing.{IsGlobal}
 use Rattle.xmp_nodes.proofs.Each.{Alone}
-use Rattle.xmp_nodes.proofs.Words.{words_of_side, row_of_is}
+use Rattle.xmp_nodes.proofs.Words.{words_of_side}
 use Rattle.xmp_nodes.proofs.Stillness.{Quiet, quiet_skip, quiet_read}
 use Rattle.xmp_nodes.proofs.PackedRows.{row_there, row_read, home_there, extents_there, spread_array, all_at}
 

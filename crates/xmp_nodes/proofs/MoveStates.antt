@@ -1,14 +1,13 @@
 -- The serial state after a gmove.
-use Rattle.std.proofs.Common.{◌⊎◌, inl, inr, Bool, true, false, ◌==◌, ◌≡◌, ◌≢◌, ◌<◌, ◌++◌, ℕ, zero, suc, ℤ, pos, negsuc, List, [], ◌∷◌, map, length, Option, Some, None, refl, sym, ap, subst, ◌∙◌, arith}
+use Rattle.std.proofs.Common.{inl, inr, ◌≡◌, ℕ, ℤ, pos, negsuc, List, [], ◌∷◌, map, Some, sym, subst, ◌∙◌}
 use Rattle.std.specs.Prelude.{slice_get, slice_set, unwrap_or}
 use Rattle.std.proofs.lemmas.List.{length-set}
 use Rattle.xmp_num.specs.Arithmetic.{FitsType, wrap}
 use Rattle.xmp_prog.specs.declared.parts.ProgParts.{ProgParts}
-use Rattle.xmp_meaning.specs.Cells.{row_in, cell_in, read_in}
+use Rattle.xmp_meaning.specs.Cells.{read_in}
 use Rattle.xmp_meaning.specs.Runs.{State}
 use Rattle.xmp_meaning.specs.Declarations.{scalar_type, array_type}
 use Rattle.xmp_meaning.specs.Exchanges.{Notes}
-use Rattle.xmp_meaning_laws.specs.Laws.{ValuesLie}
 use Rattle.xmp_meaning_laws.proofs.Values.{wrap_fits, set_has}
 use Rattle.xmp_move.specs.Stores.{write_all}
 use Rattle.xmp_move.proofs.Writes.{length-write_all}

@@ -1,22 +1,22 @@
 -- Node sets as bits, and the least node of a set.
-use Rattle.std.proofs.Common.{◌≡◌, ◌≢◌, ◌<◌, ◌≤◌, ◌+◌, ◌-◌, ◌*◌, ◌/◌, ◌%◌, ◌^◌, ◌==◌, ◌&&◌, ◌⊎◌, inl, inr, if◌then◌else◌, ℕ, zero, suc, Bool, true, false, not, List, [], ◌∷◌, IsTrue, refl, sym, ap, subst, ◌∙◌, arith}
-use Rattle.std.specs.Prelude.{nat_lt, nat_le, bit_xor}
-use Rattle.std.specs.List.{list_all, range_with_len, AllByRecursion}
+use Rattle.std.proofs.Common.{◌≡◌, ◌<◌, ◌≤◌, ◌+◌, ◌-◌, ◌*◌, ◌^◌, ◌==◌, ◌&&◌, if◌then◌else◌, ℕ, zero, suc, Bool, true, false, not, List, [], ◌∷◌, refl, sym, ap, ◌∙◌, arith}
+use Rattle.std.specs.Prelude.{nat_lt, nat_le}
+use Rattle.std.specs.List.{list_all, range_with_len}
 use Rattle.std.specs.Int.{bit_at}
-use Rattle.std.proofs.lemmas.Bool.{eqb-true, eq-eqb, lt-ltb}
+use Rattle.std.proofs.lemmas.Bool.{eqb-true, lt-ltb}
 use Rattle.std.proofs.lemmas.Bool.Decides.{nat_tests}
-use Rattle.std.proofs.lemmas.Nat.Bits.{bit_at_cat_low, bit_at_cat_high, bit_at-lt, bit_at_xor}
+use Rattle.std.proofs.lemmas.Nat.Bits.{bit_at_cat_low, bit_at_cat_high}
 use Rattle.xmp_map.specs.declared.grid.Grid.{Grid}
 use Rattle.xmp_map.specs.declared.grid.NodeSet.{NodeSet}
-use Rattle.xmp_map.specs.RowMajor.{product, row_major, unravel}
-use Rattle.xmp_map.specs.Nodes.{is_grid, in_box}
+use Rattle.xmp_map.specs.RowMajor.{product}
+use Rattle.xmp_map.specs.Nodes.{in_box}
 use Rattle.xmp_map.proofs.Order.{AllBelow, none_below, more_below, unravel-row_major, row_major-lt}
 use Rattle.xmp_prog.specs.declared.parts.ProgParts.{ProgParts}
 use Rattle.xmp_prog.specs.Fits.{node_count}
-use Rattle.xmp_prog.specs.NodeSets.{lies_inside, is_node_set, is_one_node, has_node, sets_apart}
+use Rattle.xmp_prog.specs.NodeSets.{lies_inside, is_node_set, has_node, sets_apart}
 use Rattle.xmp_meaning.specs.TaskEnds.{leader}
 use Rattle.xmp_paths.specs.NodeSets.{has}
-use Rattle.xmp_loops.specs.Objects.{bits_where, is_in_set, nodes_in, is_in_grid, nodes_of, all_nodes}
+use Rattle.xmp_loops.specs.Objects.{bits_where, is_in_set, nodes_in, is_in_grid, all_nodes}
 
 -- ---- bits
 

@@ -1,6 +1,5 @@
 -- The numbers of a gmove: every node finds those of the serial run.
-use Rattle.std.proofs.Common.{◌≡◌, ◌++◌, ◌&&◌, ◌⊎◌, inl, inr, ℕ, ℤ, pos, Bool, true, false, not, List, [], ◌∷◌, map, refl, sym, ap, subst, ◌∙◌}
-use Rattle.std.specs.List.{AllByRecursion}
+use Rattle.std.proofs.Common.{◌≡◌, ◌++◌, ◌&&◌, inl, inr, ℕ, ℤ, Bool, true, false, not, List, [], ◌∷◌, map, refl, sym, ap, subst, ◌∙◌}
 use Rattle.xmp_base.specs.declared.place.Place.{Place}
 use Rattle.xmp_num.specs.declared.types.Ty.{Ty}
 use Rattle.xmp_num.specs.declared.types.BinOp.{BinOp}
@@ -8,7 +7,7 @@ use Rattle.xmp_num.specs.Arithmetic.{binary_of, wrap}
 use Rattle.xmp_prog.specs.declared.parts.ProgParts.{ProgParts}
 use Rattle.xmp_prog.specs.declared.expressions.Expr.{Expr, map-Expr}
 use Rattle.xmp_prog.specs.declared.expressions.Expr.TheVariants as expr
-use Rattle.xmp_prog.specs.declared.expressions.Expr.TheOpen.{Expr-F, Access-F}
+use Rattle.xmp_prog.specs.declared.expressions.Expr.TheOpen.{Expr-F}
 use Rattle.xmp_prog.specs.declared.expressions.Expr.TheFolds.{ind-Expr}
 use Rattle.xmp_prog.specs.declared.expressions.Expr.TheViews.{roll-Expr}
 use Rattle.xmp_prog.specs.declared.expressions.Access.{Access}
@@ -22,8 +21,8 @@ use Rattle.xmp_prog.proofs.Rolls as rolls
 use Rattle.xmp_paths.specs.NodeSets.{has}
 use Rattle.xmp_paths.specs.declared.event.Event.{Event}
 use Rattle.xmp_paths.specs.declared.event.Event.TheVariants.{Read, Wrong}
-use Rattle.xmp_paths.specs.Plans.{Plan, skip, emit, sequence, in_order, Path, Stands}
-use Rattle.xmp_paths.specs.Safe.{left, Safe, NothingWrong}
+use Rattle.xmp_paths.specs.Plans.{Plan, skip, emit, sequence, in_order, Stands}
+use Rattle.xmp_paths.specs.Safe.{Safe, NothingWrong}
 use Rattle.xmp_paths.proofs.SafeLaws.{safe_front, safe_read}
 use Rattle.xmp_loops.specs.Objects.{scalar_object, all_nodes}
 use Rattle.xmp_loops.specs.Bounds.{is_number, built_step}
@@ -43,7 +42,7 @@ use Rattle.xmp_meaning.proofs.Forms.{expr_const, expr_scalar, expr_binary, expr_
 use Rattle.xmp_meaning_laws.specs.Laws.{scalar_in}
 use Rattle.xmp_nodes.proofs.Leaves.{serial_cx}
 use Rattle.xmp_nodes.proofs.Each.{Alone}
-use Rattle.xmp_nodes.proofs.Stillness.{Still, still_pure, still_trap, still_on, still_each, still_runs, Quiet, quiet_skip, quiet_read, quiet_then, quiet_all, safe_behind}
+use Rattle.xmp_nodes.proofs.Stillness.{Still, still_pure, still_trap, still_on, Quiet, quiet_skip, quiet_read, quiet_then, safe_behind}
 
 abbrev any_slot : ℕ → Bool
 any_slot slot = true

@@ -1,14 +1,13 @@
 -- The rows of a node: their lengths, and one row set anew.
-use Rattle.std.proofs.Common.{◌⊎◌, inl, inr, ◌==◌, ◌≡◌, ◌≢◌, ◌<◌, ◌*◌, if◌then◌else◌, ℕ, zero, suc, ℤ, pos, Bool, true, false, List, [], ◌∷◌, map, length, take, ◌≤◌, Option, Some, None, option_map, refl, sym, ap, subst, ◌∙◌, arith, mul-pos}
-use Rattle.std.specs.Prelude.{slice_get, slice_set, unwrap_or, nat_le, ◌&&◌, IsTrue}
+use Rattle.std.proofs.Common.{◌⊎◌, inl, inr, ◌==◌, ◌≡◌, ◌≢◌, ◌<◌, ◌*◌, if◌then◌else◌, ℕ, zero, suc, ℤ, Bool, true, false, List, [], ◌∷◌, map, length, take, ◌≤◌, Option, Some, None, option_map, refl, sym, ap, subst, ◌∙◌, arith, mul-pos}
+use Rattle.std.specs.Prelude.{slice_get, slice_set, unwrap_or, nat_le, IsTrue}
 use Rattle.std.specs.List.{AllByRecursion, list_all}
 use Rattle.std.proofs.lemmas.Bool.{eqb-true, eq-eqb}
 use Rattle.std.proofs.lemmas.Bool.Decides.{nat_tests}
-use Rattle.std.proofs.lemmas.Option.{none-some, same_Some, slice_get-map, slice_get_within}
+use Rattle.std.proofs.lemmas.Option.{none-some, same_Some, slice_get-map}
 use Rattle.std.proofs.lemmas.List.{length-map}
 use Rattle.xmp_map.specs.declared.array_map.ArrayMap.{ArrayMap}
 use Rattle.xmp_map.specs.declared.grid.Grid.{Grid}
-use Rattle.xmp_map.specs.declared.template.Template.{Template}
 use Rattle.xmp_map.specs.RowMajor.{product}
 use Rattle.xmp_map.specs.Nodes.{is_grid}
 use Rattle.xmp_map.specs.Held as held
@@ -16,7 +15,7 @@ use Rattle.xmp_prog.specs.declared.parts.ProgParts.{ProgParts}
 use Rattle.xmp_prog.specs.declared.parts.Array.{Array}
 use Rattle.xmp_prog.specs.declared.parts.Home.{Home}
 use Rattle.xmp_prog.specs.declared.parts.Home.TheVariants as home
-use Rattle.xmp_prog.specs.Fits.{node_count, HomeFits, PartsFit, SpreadFits}
+use Rattle.xmp_prog.specs.Fits.{node_count, HomeFits, SpreadFits}
 use Rattle.xmp_prog.specs.Tests.{is_image}
 use Rattle.xmp_meaning.specs.Cells.{row_in}
 use Rattle.xmp_meaning.specs.Runs.{State}
@@ -31,7 +30,7 @@ use Rattle.xmp_move.specs.Kept.{IsOfCode, HasThree}
 use Rattle.xmp_move.proofs.SidesKept.{take_short}
 use Rattle.xmp_nodes.proofs.Agrees.{IsWhole}
 use Rattle.xmp_nodes.proofs.Standing.{IsGlobal}
-use Rattle.xmp_nodes.proofs.Each.{there, mapped_at}
+use Rattle.xmp_nodes.proofs.Each.{mapped_at}
 use Rattle.xmp_nodes.proofs.Words.{set_there}
 
 -- ---- numbers

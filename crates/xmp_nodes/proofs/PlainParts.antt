@@ -1,5 +1,5 @@
 -- The tests of a plain statement and of tasks, from those of all that stands in them.
-use Rattle.std.proofs.Common.{◌≡◌, ◌<◌, ℕ, List, [], ◌∷◌, map, length, ap, subst}
+use Rattle.std.proofs.Common.{List, map, ap, subst}
 use Rattle.std.specs.List.{AllByRecursion}
 use Rattle.xmp_base.specs.declared.place.Place.{Place}
 use Rattle.xmp_prog.specs.declared.parts.ProgParts.{ProgParts}

@@ -1,12 +1,11 @@
 -- A reflect says as many words as its exchange has.
-use Rattle.std.proofs.Common.{◌≡◌, ◌≢◌, ◌<◌, ◌≤◌, ◌+◌, ◌-◌, ◌*◌, ◌/◌, ◌++◌, ◌==◌, if◌then◌else◌, cond, ℕ, zero, suc, ℤ, Bool, true, false, not, List, [], ◌∷◌, map, length, refl, sym, ap, subst, ◌∙◌, arith, ne_eqb, length-append}
+use Rattle.std.proofs.Common.{◌≡◌, ◌≢◌, ◌<◌, ◌≤◌, ◌+◌, ◌-◌, ◌/◌, ◌++◌, if◌then◌else◌, cond, ℕ, zero, suc, ℤ, Bool, true, false, not, List, [], ◌∷◌, map, length, refl, sym, ap, ◌∙◌, arith, ne_eqb}
 use Rattle.std.specs.Prelude.{◌&&◌, filter, replicate}
 use Rattle.std.specs.List.{flat_map, range_with_len}
 use Rattle.std.proofs.lemmas.List.{length-map}
 use Rattle.xmp_map.specs.declared.array_map.ArrayMap.{ArrayMap}
 use Rattle.xmp_map.specs.RowMajor.{product}
 use Rattle.xmp_map.specs.Boxes.{sum_below, count_cells}
-use Rattle.xmp_map.specs.Nodes.{filled}
 use Rattle.xmp_map.specs.Held as held
 use Rattle.xmp_prog.specs.declared.parts.ProgParts.{ProgParts}
 use Rattle.xmp_prog.specs.declared.parts.Home.{Home}
@@ -19,7 +18,6 @@ use Rattle.xmp_meaning.specs.TrafficLaws.{reflect_due}
 use Rattle.xmp_meaning.proofs.WordsDue.{RowsFit, as_due}
 use Rattle.xmp_move.specs.Ways.{Pair, due, sends}
 use Rattle.xmp_move.specs.Sides.{padded, owns_cell, holds_cell}
-use Rattle.xmp_move.specs.Stores.{IsIn}
 use Rattle.xmp_move.specs.Cells.{indices}
 use Rattle.xmp_move.specs.Laid.{MapFits}
 use Rattle.xmp_move.specs.Kept.{HasThree}

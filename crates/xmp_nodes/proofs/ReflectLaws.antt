@@ -1,18 +1,16 @@
 -- The row of a node after a reflect.
-use Rattle.std.proofs.Common.{◌≡◌, ◌<◌, ◌≤◌, ◌+◌, ℕ, zero, suc, ℤ, pos, Bool, true, false, List, [], ◌∷◌, map, length, refl, sym, ap, subst, ◌∙◌, arith}
-use Rattle.std.specs.Prelude.{◌&&◌}
+use Rattle.std.proofs.Common.{◌≡◌, ◌<◌, ◌≤◌, ◌+◌, ℕ, ℤ, List, [], ◌∷◌, map, length, refl, ap, subst, ◌∙◌, arith}
 use Rattle.std.specs.List.{range_with_len}
 use Rattle.xmp_map.specs.declared.array_map.ArrayMap.{ArrayMap}
-use Rattle.xmp_map.specs.RowMajor.{product, row_major}
-use Rattle.xmp_map.specs.Boxes.{IsInside}
+use Rattle.xmp_map.specs.RowMajor.{product}
 use Rattle.xmp_map.specs.Held as held
 use Rattle.xmp_prog.specs.declared.parts.Home.{Home}
 use Rattle.xmp_prog.specs.declared.parts.Home.TheVariants as home
 use Rattle.xmp_meaning.specs.Layouts.{Packed, words_of}
 use Rattle.xmp_move.specs.declared.kind.Side.{Side}
 use Rattle.xmp_move.specs.Ways.{Pair, Ways, sends, fills}
-use Rattle.xmp_move.specs.Sides.{owns_cell, holds_cell, position, slot_in, words_in}
-use Rattle.xmp_move.specs.Stores.{IsIn, word_at, packed, write_all, unpacked_of}
+use Rattle.xmp_move.specs.Sides.{owns_cell, holds_cell, position, slot_in}
+use Rattle.xmp_move.specs.Stores.{packed, unpacked_of}
 use Rattle.xmp_move.specs.Cells.{indices}
 use Rattle.xmp_move.specs.Whole.{Shows, HasSlots, HasOwner, reflecting, selves}
 use Rattle.xmp_move.specs.Laid.{MapFits}

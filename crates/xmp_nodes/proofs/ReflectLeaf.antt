@@ -1,10 +1,8 @@
 -- All nodes follow a reflect.
-use Rattle.std.proofs.Common.{⊎_elim, ◌≡◌, ◌≢◌, ◌<◌, ◌≤◌, ◌+◌, ◌*◌, ◌++◌, ◌==◌, ◌⊎◌, inl, inr, if◌then◌else◌, ℕ, zero, suc, ℤ, pos, Bool, true, false, List, [], ◌∷◌, map, length, Option, Some, None, option_map, refl, sym, ap, subst, ◌∙◌, arith, ne_eqb}
-use Rattle.std.specs.Prelude.{slice_get, slice_set, unwrap_or}
+use Rattle.std.proofs.Common.{◌≡◌, ◌≢◌, ◌<◌, ◌≤◌, ◌+◌, ◌*◌, ◌++◌, ◌==◌, inl, inr, if◌then◌else◌, ℕ, ℤ, Bool, true, false, List, [], ◌∷◌, map, length, Option, Some, option_map, refl, sym, ap, subst, ◌∙◌, arith, ne_eqb}
+use Rattle.std.specs.Prelude.{slice_get, slice_set}
 use Rattle.std.specs.List.{AllByRecursion, range_with_len}
-use Rattle.std.proofs.lemmas.Bool.{eqb-true, eq-eqb}
-use Rattle.std.proofs.lemmas.Option.{slice_get_within, none-some}
-use Rattle.xmp_base.specs.declared.place.Place.{Place}
+use Rattle.std.proofs.lemmas.Option.{slice_get_within}
 use Rattle.xmp_map.specs.declared.array_map.ArrayMap.{ArrayMap}
 use Rattle.xmp_map.specs.RowMajor.{product, row_major}
 use Rattle.xmp_map.specs.Boxes.{IsInside}
@@ -15,12 +13,11 @@ use Rattle.xmp_prog.specs.declared.parts.Home.{Home}
 use Rattle.xmp_prog.specs.declared.parts.Home.TheVariants as home
 use Rattle.xmp_prog.specs.declared.statements.Name.{Name}
 use Rattle.xmp_prog.specs.declared.statements.Plain.TheVariants as plain
-use Rattle.xmp_prog.specs.declared.statements.Stmt.TheVariants as stmt
 use Rattle.xmp_prog.specs.Fits.{node_count}
 use Rattle.xmp_paths.specs.declared.event.Event.{Event}
 use Rattle.xmp_paths.specs.declared.event.Event.TheVariants.{Mark}
-use Rattle.xmp_paths.specs.Plans.{Plan, skip, emit, sequence, in_order, Path}
-use Rattle.xmp_paths.specs.Safe.{left, Safe, NothingWrong}
+use Rattle.xmp_paths.specs.Plans.{Plan, skip, sequence, in_order}
+use Rattle.xmp_paths.specs.Safe.{left}
 use Rattle.xmp_paths.proofs.SafeLaws.{safe_back}
 use Rattle.xmp_loops.specs.Objects.{scalar_object, array_object, all_nodes}
 use Rattle.xmp_flow.specs.Setting.{current_on_all}
@@ -28,7 +25,7 @@ use Rattle.xmp_flow.specs.PlainEvents.{reflected, reflected_at, plain_events}
 use Rattle.xmp_flow.specs.Program.{outermost}
 use Rattle.xmp_meaning.specs.declared.ends.Flow.{Flow}
 use Rattle.xmp_meaning.specs.declared.ends.Flow.TheVariants.{Next}
-use Rattle.xmp_meaning.specs.Cells.{row_in, read_in}
+use Rattle.xmp_meaning.specs.Cells.{row_in}
 use Rattle.xmp_meaning.specs.Runs.{State, Gave, Run, pure}
 use Rattle.xmp_meaning.specs.Declarations.{extents, home_of}
 use Rattle.xmp_meaning.specs.Exchanges.{Notes, Exchange, Reflected, note, note_arrays}
@@ -39,17 +36,17 @@ use Rattle.xmp_move.specs.Stores.{word_at, unpacked_of}
 use Rattle.xmp_move.specs.Cells.{indices}
 use Rattle.xmp_move.specs.Whole.{Shows, reflecting, selves}
 use Rattle.xmp_move.proofs.SidesKept.{owners_hold}
-use Rattle.xmp_nodes.specs.Nodes.{Nodes, store_at}
+use Rattle.xmp_nodes.specs.Nodes.{store_at}
 use Rattle.xmp_nodes.specs.Reflecting.{reflect_ways, reflect_pairs, row_at, reflect_said, reflected_row, reflect_one, reflect_at, reflect_all}
-use Rattle.xmp_nodes.proofs.Agrees.{Stand, Agrees, ReadyAt, Ready, at_main, AllAlong, AllFollow, IsNext}
-use Rattle.xmp_nodes.proofs.Standing.{IsGlobal, PartFits}
+use Rattle.xmp_nodes.proofs.Agrees.{Agrees, ReadyAt, at_main, AllFollow, IsNext}
+use Rattle.xmp_nodes.proofs.Standing.{IsGlobal}
 use Rattle.xmp_nodes.proofs.Leaves.{ReflectsFollow}
 use Rattle.xmp_nodes.proofs.PlainParts.{plain_stands}
 use Rattle.xmp_nodes.proofs.Each.{Alone, there, store_there, store_is}
-use Rattle.xmp_nodes.proofs.Saying.{noted_behind, say_and_do}
-use Rattle.xmp_nodes.proofs.InStep.{ready_paths, way_skipped, way_first, all_pure, all_then, all_paths}
+use Rattle.xmp_nodes.proofs.Saying.{say_and_do}
+use Rattle.xmp_nodes.proofs.InStep.{ready_paths, way_skipped, all_pure, all_then, all_paths}
 use Rattle.xmp_nodes.proofs.AllSteps.{counts_silent}
-use Rattle.xmp_nodes.proofs.CastLaws.{cleared, untouched}
+use Rattle.xmp_nodes.proofs.CastLaws.{untouched}
 use Rattle.xmp_nodes.proofs.CastLeaf.{noting_one}
 use Rattle.xmp_nodes.proofs.CopiedLaws.{copied_here, copied_other}
 use Rattle.xmp_nodes.proofs.PackedRows.{same_or_other, tell, IsSpreadArray, spread_array, home_there, row_read, set_lengths, set_row_here, set_row_other, IsRowOf, spread_row, whole_row, some_nodes}

@@ -1,20 +1,18 @@
 -- What is said is counted as it is noted, and then every node does something by itself.
-use Rattle.std.proofs.Common.{◌≡◌, ◌≢◌, ◌<◌, ◌+◌, ◌-◌, ◌^◌, min, ◌++◌, ◌==◌, if◌then◌else◌, ℕ, zero, suc, Bool, true, false, List, [], ◌∷◌, map, length, Option, Some, None, option_map, refl, sym, ap, subst, ◌∙◌, arith}
+use Rattle.std.proofs.Common.{◌≡◌, ◌≢◌, ◌<◌, ◌+◌, ◌-◌, ◌^◌, min, ◌++◌, ◌==◌, if◌then◌else◌, ℕ, zero, suc, Bool, true, false, List, [], ◌∷◌, length, Some, refl, sym, ap, subst, ◌∙◌, arith}
 use Rattle.std.specs.Prelude.{slice_get}
-use Rattle.std.specs.List.{sum_by}
-use Rattle.std.proofs.lemmas.Bool.{eqb-true, eq-eqb}
 use Rattle.std.proofs.lemmas.Bool.Decides.{nat_tests}
 use Rattle.std.proofs.lemmas.Option.{slice_get_within, none-some, same_Some}
 use Rattle.std.proofs.lemmas.List.Sums.{sum_by_push}
 use Rattle.xmp_prog.specs.declared.parts.ProgParts.{ProgParts}
 use Rattle.xmp_prog.specs.Fits.{node_count}
 use Rattle.xmp_paths.specs.Plans.{Plan}
-use Rattle.xmp_meaning.specs.Runs.{State, Step, StepIn, Gave, Ended, Run}
+use Rattle.xmp_meaning.specs.Runs.{State, StepIn, Gave, Ended, Run}
 use Rattle.xmp_meaning.specs.Exchanges.{Exchange, Notes}
 use Rattle.xmp_meaning.specs.Messages.{Message, words_sent, words_alone, message, sent, said as said_in}
 use Rattle.xmp_nodes.specs.Nodes.{bounded, Nodes, all_do, raised_by, rows_raised, saying}
-use Rattle.xmp_nodes.proofs.Each.{Alone, AllAre, Meets, AllMeet, all_do_meets, rows_at, rows_length, raised_length}
-use Rattle.xmp_nodes.proofs.Agrees.{Counted, ReadyAt, Ready, AllGo, AllAlong}
+use Rattle.xmp_nodes.proofs.Each.{Alone, AllAre, Meets, AllMeet, all_do_meets, rows_length, raised_length}
+use Rattle.xmp_nodes.proofs.Agrees.{Counted, ReadyAt, AllAlong}
 
 -- one exchange more
 abbrev pub noted_behind : Notes → Exchange → Notes

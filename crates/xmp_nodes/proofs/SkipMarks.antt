@@ -1,5 +1,5 @@
 -- A node outside: no plain statement makes a copy current there, and what it writes is out of date there.
-use Rattle.std.proofs.Common.{◌≡◌, ◌≢◌, ◌<◌, ◌+◌, ◌%◌, ◌++◌, ◌⊎◌, inl, inr, ⊎_elim, ℕ, zero, suc, Bool, true, false, true≢false, not, if◌then◌else◌, List, [], ◌∷◌, map, Option, Some, None, refl, sym, ap, subst, ◌∙◌, arith}
+use Rattle.std.proofs.Common.{◌≡◌, ◌≢◌, ◌<◌, ◌+◌, ◌%◌, ◌++◌, inl, inr, ⊎_elim, ℕ, zero, suc, Bool, true, false, true≢false, not, if◌then◌else◌, List, [], ◌∷◌, map, Option, Some, None, refl, sym, ap, subst, ◌∙◌, arith}
 use Rattle.std.specs.Prelude.{◌&&◌, ◌||◌, ◌==◌, is_some, slice_get, bit_xor}
 use Rattle.std.specs.List.{AllByRecursion}
 use Rattle.std.specs.Int.{bit_at}
@@ -7,7 +7,6 @@ use Rattle.std.specs.Option.{option_map}
 use Rattle.std.proofs.lemmas.Bool.{eq-eqb, eqb-true}
 use Rattle.std.proofs.lemmas.Nat.Bits.{bit_at_xor, bit_at-lt, bit_at-zero}
 use Rattle.xmp_base.specs.declared.place.Place.{Place}
-use Rattle.xmp_map.specs.declared.array_map.ArrayMap.{ArrayMap}
 use Rattle.xmp_prog.specs.declared.parts.Array.{Array}
 use Rattle.xmp_prog.specs.declared.parts.Home.{Home}
 use Rattle.xmp_prog.specs.declared.parts.Home.TheVariants as home
@@ -30,12 +29,11 @@ use Rattle.xmp_paths.specs.declared.event.Event.TheVariants.{Read, Wrong, Mark}
 use Rattle.xmp_loops.specs.Objects.{scalar_object, array_object, all_nodes}
 use Rattle.xmp_loops.specs.declared.role.Role.{Role}
 use Rattle.xmp_loops.specs.declared.role.Role.TheVariants.{Shared, Index, Reduced, Own}
-use Rattle.xmp_flow.specs.Setting.{Setting, others, is_alone, is_first_alone, wrong_where, assigned, is_reduced, reads_scalar, read_scalar}
+use Rattle.xmp_flow.specs.Setting.{Setting, others, is_alone, is_first_alone, wrong_where, assigned, is_reduced, read_scalar}
 use Rattle.xmp_flow.specs.Elements.{home_of, spread_events, element_read, element_write, write_at_home, copy_written}
 use Rattle.xmp_flow.specs.Reads.{reads_of, reads_of_all, reads_of_option, subscript_reads}
 use Rattle.xmp_flow.specs.PlainEvents.{scalar_assigned, old_scalar, old_element, set_events, in_form, form_of_set, assignment_events, scanned, plain_events}
 use Rattle.xmp_meaning.specs.Declarations.{home_of as home_at, home_of_array}
-use Rattle.xmp_meaning.specs.Writes.{plain_arrays}
 use Rattle.xmp_meaning_laws.specs.Laws.{is_plain}
 use Rattle.xmp_nodes.proofs.MetEvents.{EachEvent, EachOf, NoMark, ordered_each, each_skip, each_emit, all_together}
 use Rattle.xmp_nodes.proofs.ReadsMark.{spread_unmarked, element_unmarked, reads_unmarked, subscripts_unmarked}

@@ -1,28 +1,22 @@
 -- A plain statement of a task at a node outside, and the value of an expression: the node is left as it was.
-use Rattle.std.proofs.Common.{◌≡◌, ◌≢◌, ◌<◌, ◌++◌, ◌⊎◌, inl, inr, ℕ, zero, suc, ℤ, pos, Bool, true, false, true≢false, not, List, [], ◌∷◌, map, length, Option, Some, None, refl, sym, ap, subst, ◌∙◌}
-use Rattle.std.specs.Prelude.{◌&&◌, ◌||◌, ◌==◌, is_some, is_none, slice_get, unwrap_or}
+use Rattle.std.proofs.Common.{◌≡◌, ◌≢◌, ◌<◌, ◌++◌, inl, inr, ℕ, suc, ℤ, pos, Bool, true, false, true≢false, not, List, [], ◌∷◌, map, length, Option, Some, None, refl, sym, ap, subst, ◌∙◌}
+use Rattle.std.specs.Prelude.{◌&&◌, ◌||◌, is_some, is_none, slice_get, unwrap_or}
 use Rattle.std.specs.List.{AllByRecursion, list_all, flat_map}
-use Rattle.std.specs.Option.{option_map}
-use Rattle.std.proofs.lemmas.Bool.{eqb-true, cases_Bool}
+use Rattle.std.proofs.lemmas.Bool.{eqb-true}
 use Rattle.std.proofs.lemmas.Option.{none-some, same_Some}
 use Rattle.std.proofs.lemmas.List.Folds.{list_all-append}
 use Rattle.xmp_base.specs.declared.place.Place.{Place}
 use Rattle.xmp_num.specs.declared.types.Ty.{Ty}
 use Rattle.xmp_num.specs.Arithmetic.{FitsType}
 use Rattle.xmp_map.specs.declared.array_map.ArrayMap.{ArrayMap}
-use Rattle.xmp_map.specs.declared.grid.NodeSet.{NodeSet}
 use Rattle.xmp_map.specs.RowMajor.{row_major}
-use Rattle.xmp_map.proofs.Counted.{and_left, and_right}
-use Rattle.xmp_prog.specs.declared.parts.ProgParts.{ProgParts}
-use Rattle.xmp_prog.specs.declared.parts.Array.{Array}
+use Rattle.xmp_map.proofs.Counted.{and_right}
 use Rattle.xmp_prog.specs.declared.parts.Home.{Home}
 use Rattle.xmp_prog.specs.declared.parts.Home.TheVariants as home
 use Rattle.xmp_prog.specs.declared.expressions.Expr.{Expr}
 use Rattle.xmp_prog.specs.declared.expressions.Access.{Access}
-use Rattle.xmp_prog.specs.declared.expressions.Expr.TheOpen.{Expr-F, Access-F}
+use Rattle.xmp_prog.specs.declared.expressions.Expr.TheOpen.{Access-F}
 use Rattle.xmp_prog.specs.declared.statements.Compound.{Compound}
-use Rattle.xmp_prog.specs.declared.statements.LoopDirective.{LoopDirective}
-use Rattle.xmp_prog.specs.declared.statements.Target.{Target}
 use Rattle.xmp_prog.specs.declared.statements.Target.TheVariants as target
 use Rattle.xmp_prog.specs.declared.statements.Plain.{Plain}
 use Rattle.xmp_prog.specs.declared.statements.Plain.TheVariants as plain
@@ -30,13 +24,13 @@ use Rattle.xmp_prog.specs.declared.statements.Stmt.{Stmt}
 use Rattle.xmp_prog.specs.declared.statements.Stmt.TheVariants as stmt
 use Rattle.xmp_prog.specs.declared.statements.Stmt.TheOpen.{Stmt-F}
 use Rattle.xmp_prog.specs.Fits.{node_count}
-use Rattle.xmp_prog.specs.Terms.{Term, Of, Element, terms_of, terms_of_access, terms_of_list}
+use Rattle.xmp_prog.specs.Terms.{Term, Element, terms_of, terms_of_access, terms_of_list}
 use Rattle.xmp_prog.specs.Tests.{element_fits, image_fits, is_image, is_return}
 use Rattle.xmp_prog.specs.Tests as tests
-use Rattle.xmp_prog.specs.Statements.{Walked, WalkedTask, walk_step, walk_task, statements_of, terms_in, terms_of_plain, terms_of_target, plain_writes}
+use Rattle.xmp_prog.specs.Statements.{Walked, WalkedTask, walk_step, walk_task, terms_in, terms_of_plain, plain_writes}
 use Rattle.xmp_prog.proofs.Rolls as rolls
 use Rattle.xmp_paths.specs.NodeSets.{has}
-use Rattle.xmp_paths.specs.Plans.{Plan, skip, emit, sequence, in_order, Path, Stands}
+use Rattle.xmp_paths.specs.Plans.{Plan, in_order, Path, Stands}
 use Rattle.xmp_paths.specs.Walk.{after_events}
 use Rattle.xmp_paths.specs.Safe.{left, NothingWrong}
 use Rattle.xmp_paths.proofs.PathLaws.{some_path}
@@ -45,40 +39,38 @@ use Rattle.xmp_paths.specs.declared.event.Event.TheVariants.{Read, Wrong, Mark}
 use Rattle.xmp_loops.specs.Objects.{scalar_object, array_object, all_nodes}
 use Rattle.xmp_loops.specs.declared.role.Role.{Role}
 use Rattle.xmp_loops.specs.declared.role.Role.TheVariants.{Shared, Index, Reduced, Own}
-use Rattle.xmp_flow.specs.Setting.{Setting, wrong_where, is_first_alone, is_alone}
-use Rattle.xmp_flow.specs.Reads.{reads_of, reads_of_all, reads_of_option, subscript_reads}
+use Rattle.xmp_flow.specs.Setting.{wrong_where, is_first_alone, is_alone}
+use Rattle.xmp_flow.specs.Reads.{reads_of, reads_of_all, subscript_reads}
 use Rattle.xmp_flow.specs.Elements.{element_write}
 use Rattle.xmp_flow.specs.PlainEvents.{scalar_assigned, old_scalar, old_element, set_events, in_form, form_of_set, scanned, plain_events}
 use Rattle.xmp_meaning.specs.declared.ends.Flow.{Flow}
-use Rattle.xmp_meaning.specs.declared.ends.Flow.TheVariants.{Next, Returned}
 use Rattle.xmp_meaning.specs.Cells.{row_in, read_in}
-use Rattle.xmp_meaning.specs.Declarations.{home_of, home_of_array, is_coarray, extents, scalar_type, array_type}
-use Rattle.xmp_meaning.specs.Runs.{State, Step, Gave, Ended, Run, and_then, ◌>>=◌, pure, state_of}
+use Rattle.xmp_meaning.specs.Declarations.{home_of, extents, scalar_type, array_type}
+use Rattle.xmp_meaning.specs.Runs.{State, Step, Gave, Ended, state_of}
 use Rattle.xmp_meaning.specs.Context.{Context}
-use Rattle.xmp_meaning.specs.Handlers.{TaskRun, erased}
-use Rattle.xmp_meaning.specs.Expressions.{expr_of, after_call}
-use Rattle.xmp_meaning.specs.Statements.{plain_of, stmt_of, stmt_step, task_step}
-use Rattle.xmp_meaning.specs.Exchanges.{Notes, traced}
+use Rattle.xmp_meaning.specs.Handlers.{erased}
+use Rattle.xmp_meaning.specs.Expressions.{after_call}
+use Rattle.xmp_meaning.specs.Statements.{stmt_of}
+use Rattle.xmp_meaning.specs.Exchanges.{Notes}
 use Rattle.xmp_meaning.specs.Traffic.{copied}
 use Rattle.xmp_meaning.specs.Writes.{scalars_step, arrays_step, written_in_task, scalars_written, arrays_written, plain_arrays}
-use Rattle.xmp_meaning.proofs.Forms.{stmt_plain}
 use Rattle.xmp_meaning.proofs.Preorders.{Respected, keeps as keeps_all, keeps_erased}
 use Rattle.xmp_meaning.proofs.RelatedStatements.{keeps-stmt}
 use Rattle.xmp_meaning.proofs.Stays.{Any, all_any, keeps_scalar, keeps_array}
-use Rattle.xmp_meaning_laws.specs.Laws.{ValuesLie, scalar_in, calls_pass, is_without, is_no_while, has_no_while, is_no_scan, is_plain, TakesNoStep}
+use Rattle.xmp_meaning_laws.specs.Laws.{scalar_in, calls_pass, is_without, is_no_while, has_no_while, is_no_scan, is_plain, TakesNoStep}
 use Rattle.xmp_meaning_laws.proofs.CountedLoops.{both_true}
 use Rattle.xmp_meaning_laws.proofs.Conditions.{all_apart}
 use Rattle.xmp_meaning_laws.proofs.Stays.{steps_stay, input_stays}
 use Rattle.xmp_move.specs.Sides.{owns_cell, position}
 use Rattle.xmp_move.specs.Stores.{word_at}
 use Rattle.xmp_move.specs.Whole.{Shows}
-use Rattle.xmp_nodes.proofs.Agrees.{Stand, IsWhole, Agrees, Framed, StandsStill, Still}
-use Rattle.xmp_nodes.proofs.Standing.{IsGlobal, TermStands, IsSetting}
+use Rattle.xmp_nodes.proofs.Agrees.{Stand, IsWhole, Agrees, Still}
+use Rattle.xmp_nodes.proofs.Standing.{TermStands, IsSetting}
 use Rattle.xmp_nodes.proofs.Leaves.{serial_cx}
 use Rattle.xmp_nodes.proofs.MetEvents.{EachEvent, EachOf, each_ordered}
 use Rattle.xmp_nodes.proofs.ReadEvents.{expr_seen, access_seen}
 use Rattle.xmp_nodes.proofs.CalledFunctions.{loops_or_not}
-use Rattle.xmp_nodes.proofs.CellNumbers.{not_image, not_coarray}
+use Rattle.xmp_nodes.proofs.CellNumbers.{not_coarray}
 use Rattle.xmp_nodes.proofs.NodeBits.{all_have}
 use Rattle.xmp_nodes.proofs.NodeExpressions.{term_test, terms_test}
 use Rattle.xmp_nodes.proofs.SkipMarks.{Keeps, Marks, keeps, plain_fades, plain_marks}

@@ -1,48 +1,44 @@
 -- All nodes follow tasks.
-use Rattle.std.proofs.Common.{◌≡◌, ◌≢◌, ◌<◌, ◌≤◌, ◌++◌, ◌==◌, ◌⊎◌, inl, inr, if◌then◌else◌, ℕ, zero, suc, ℤ, pos, Bool, true, false, List, [], ◌∷◌, map, length, Option, Some, None, refl, sym, ap, subst, ◌∙◌, arith, append-nil}
+use Rattle.std.proofs.Common.{◌≡◌, ◌<◌, ◌≤◌, ◌++◌, ◌==◌, ◌⊎◌, inl, inr, if◌then◌else◌, ℕ, zero, suc, Bool, true, false, List, [], ◌∷◌, map, length, Some, None, refl, sym, ap, subst, ◌∙◌, arith}
 use Rattle.std.specs.Prelude.{slice_get, unwrap_or}
-use Rattle.std.specs.List.{AllByRecursion, list_all}
+use Rattle.std.specs.List.{AllByRecursion}
 use Rattle.std.proofs.lemmas.Bool.{cases_lt, eq-eqb}
 use Rattle.xmp_paths.specs.declared.event.Event.{Event}
 use Rattle.std.proofs.lemmas.Option.{none-some, same_Some, slice_get_within}
 use Rattle.xmp_base.specs.declared.place.Place.{Place}
-use Rattle.xmp_map.specs.declared.grid.NodeSet.{NodeSet}
 use Rattle.xmp_prog.specs.declared.parts.ProgParts.{ProgParts}
 use Rattle.xmp_prog.specs.declared.statements.Task.{Task}
 use Rattle.xmp_prog.specs.Fits.{node_count}
-use Rattle.xmp_prog.specs.NodeSets.{is_node_set, has_node}
-use Rattle.xmp_paths.specs.Plans.{Plan, skip, sequence}
-use Rattle.xmp_paths.specs.Safe.{left, Safe, NothingWrong}
-use Rattle.xmp_paths.proofs.SafeLaws.{safe_paths, safe_back}
+use Rattle.xmp_prog.specs.NodeSets.{is_node_set}
+use Rattle.xmp_paths.specs.Plans.{Plan, sequence}
+use Rattle.xmp_paths.specs.Safe.{Safe}
+use Rattle.xmp_paths.proofs.SafeLaws.{safe_paths}
 use Rattle.xmp_loops.specs.Objects.{all_nodes}
-use Rattle.xmp_flow.specs.Program.{outermost}
 use Rattle.xmp_meaning.specs.declared.ends.End.{End}
 use Rattle.xmp_meaning.specs.declared.ends.Flow.{Flow}
 use Rattle.xmp_meaning.specs.declared.ends.Flow.TheVariants.{Next}
-use Rattle.xmp_meaning.specs.Runs.{State, Step, StepIn, Gave, Ended, Run, RunIn, end_of, state_of, pure}
-use Rattle.xmp_meaning.specs.Blocks.{block}
-use Rattle.xmp_meaning.specs.Handlers.{task_run}
-use Rattle.xmp_meaning.specs.Exchanges.{Notes, Exchange, TaskEnd, TasksEnd, unprinted, task_end, traced}
+use Rattle.xmp_meaning.specs.Runs.{State, Step, Gave, Ended, Run, state_of, pure}
+use Rattle.xmp_meaning.specs.Exchanges.{Notes, Exchange, TaskEnd, TasksEnd, unprinted, task_end}
 use Rattle.xmp_meaning.specs.LoopEnds.{ending}
-use Rattle.xmp_meaning.specs.TaskEnds.{leader, own_end, first_end, texts}
+use Rattle.xmp_meaning.specs.TaskEnds.{leader, first_end, texts}
 use Rattle.xmp_meaning.specs.Messages.{Message, message, words_sent}
 use Rattle.xmp_meaning.specs.Traffic.{node_beginning, copied}
 use Rattle.xmp_move.specs.Stores.{IsIn}
-use Rattle.xmp_nodes.specs.Nodes.{Nodes, store_at, each_does, saying}
-use Rattle.xmp_nodes.specs.Tasks.{TaskOf, task_at, own_runs, led_end, task_ends, with_texts, tasks_all}
+use Rattle.xmp_nodes.specs.Nodes.{Nodes, store_at, saying}
+use Rattle.xmp_nodes.specs.Tasks.{own_runs, led_end, task_ends, with_texts}
 use Rattle.xmp_nodes.specs.Worlds.{out_of}
-use Rattle.xmp_nodes.proofs.Agrees.{Stand, Agrees, ReadyAt, Counted, Ready, base_at, at_main, AllAlong, IsNext}
-use Rattle.xmp_nodes.proofs.Standing.{IsGlobal, PartFits, NoReturn}
+use Rattle.xmp_nodes.proofs.Agrees.{Agrees, ReadyAt, Counted, Ready, base_at, at_main, AllAlong, IsNext}
+use Rattle.xmp_nodes.proofs.Standing.{IsGlobal}
 use Rattle.xmp_nodes.proofs.Leaves.{StatementsCarry, StatementsSkip, AllTasksFit, TasksFollow, noted_task, node_task, task_plan}
 use Rattle.xmp_nodes.proofs.InStep.{way_skipped, way_first}
-use Rattle.xmp_nodes.proofs.Each.{Alone, each_at, state_at, with_text, texts_at, texts_length, states_length, there, store_there, store_is}
+use Rattle.xmp_nodes.proofs.Each.{Alone, each_at, state_at, with_text, texts_at, texts_length, states_length, there, store_there}
 use Rattle.xmp_nodes.proofs.NodeBits.{leader_below, leader_has}
-use Rattle.xmp_nodes.proofs.Saying.{noted_behind, counts_said, SaidAsNoted}
+use Rattle.xmp_nodes.proofs.Saying.{counts_said}
 use Rattle.xmp_nodes.proofs.PackedRows.{some_nodes}
 use Rattle.xmp_nodes.proofs.CastLeaf.{noting_one}
 use Rattle.xmp_nodes.proofs.CopiedLaws.{copied_stays, tasks_copies}
-use Rattle.xmp_nodes.proofs.TaskSteps.{is_member, alone_in, own_run, AreApart, are_apart, are_sets, own_of_member}
-use Rattle.xmp_nodes.proofs.TaskProgress.{stand_of, agrees_there, events_in, events_all, TasksGood, end_with, end_by, led, end_led, ends_led, Before, Behind, NotedLed, AllDone, OneEnds, Comes, Begins, all_serial, all_come}
+use Rattle.xmp_nodes.proofs.TaskSteps.{is_member, own_run, are_apart, are_sets, own_of_member}
+use Rattle.xmp_nodes.proofs.TaskProgress.{agrees_there, events_all, TasksGood, end_by, end_led, ends_led, Before, NotedLed, AllDone, OneEnds, Comes, Begins, all_serial, all_come}
 
 first_out : (ss : List Alone) (n : Alone) → slice_get ss 0 ≡ Some n → out_of ss ≡ n.out
 first_out [] n e = absurd (none-some n e)

@@ -1,34 +1,31 @@
 -- Tasks one after the other in the serial run, beside what each node does of them.
-use Rattle.std.proofs.Common.{◌≡◌, ◌≢◌, ◌<◌, ◌++◌, ◌==◌, ◌⊎◌, inl, inr, ℕ, zero, suc, ℤ, pos, Bool, true, false, List, [], ◌∷◌, map, length, Option, Some, None, refl, sym, ap, subst, ◌∙◌, append-nil, append_assoc}
-use Rattle.std.specs.Prelude.{slice_get, unwrap_or}
+use Rattle.std.proofs.Common.{◌≡◌, ◌<◌, ◌++◌, inl, inr, ℕ, pos, Bool, true, false, List, [], ◌∷◌, map, Option, Some, None, refl, sym, ap, subst, ◌∙◌, append-nil, append_assoc}
 use Rattle.std.specs.List.{AllByRecursion}
 use Rattle.std.proofs.lemmas.Option.{none-some, same_Some}
 use Rattle.xmp_map.specs.declared.grid.NodeSet.{NodeSet}
-use Rattle.xmp_map.specs.RowMajor.{row_major}
 use Rattle.xmp_prog.specs.declared.parts.ProgParts.{ProgParts}
 use Rattle.xmp_prog.specs.declared.statements.Task.{Task}
 use Rattle.xmp_prog.specs.Fits.{node_count}
-use Rattle.xmp_prog.specs.NodeSets.{is_node_set, has_node}
-use Rattle.xmp_paths.specs.NodeSets.{has}
+use Rattle.xmp_prog.specs.NodeSets.{is_node_set}
 use Rattle.xmp_paths.specs.declared.event.Event.{Event}
-use Rattle.xmp_paths.specs.Plans.{Plan, skip, sequence, in_order, Path}
+use Rattle.xmp_paths.specs.Plans.{Plan, skip, sequence, in_order}
 use Rattle.xmp_paths.specs.Safe.{left, Safe, NothingWrong}
 use Rattle.xmp_paths.proofs.SafeLaws.{safe_fewer, safe_paths, safe_front, safe_back}
 use Rattle.xmp_loops.specs.Objects.{nodes_in, all_nodes}
-use Rattle.xmp_flow.specs.Setting.{Setting, in_task}
+use Rattle.xmp_flow.specs.Setting.{in_task}
 use Rattle.xmp_flow.specs.Statements.{events_of}
 use Rattle.xmp_flow.specs.Program.{outermost}
 use Rattle.xmp_meaning.specs.declared.ends.End.{End}
 use Rattle.xmp_meaning.specs.declared.ends.Flow.{Flow}
 use Rattle.xmp_meaning.specs.declared.ends.Flow.TheVariants.{Next}
 use Rattle.xmp_meaning.specs.Runs.{State, Step, Gave, Ended, Run, and_then, end_of, state_of}
-use Rattle.xmp_meaning.specs.Blocks.{after, then_run, block, choose}
-use Rattle.xmp_meaning.specs.Handlers.{TaskRun, task_run}
+use Rattle.xmp_meaning.specs.Blocks.{after, block, choose}
+use Rattle.xmp_meaning.specs.Handlers.{task_run}
 use Rattle.xmp_meaning.specs.Exchanges.{Notes, TaskEnd, unprinted, task_end}
 use Rattle.xmp_meaning.specs.TaskEnds.{leader, or_later, first_end, up_to_end, texts}
 use Rattle.xmp_meaning.specs.Traffic.{copied}
 use Rattle.xmp_move.specs.Stores.{IsIn}
-use Rattle.xmp_nodes.proofs.Agrees.{Stand, IsWhole, Agrees, Framed, GoesOn, EndsSo, Along, Carried, IsNext, StandsStill, Still, Skipped, base_at, at_main}
+use Rattle.xmp_nodes.proofs.Agrees.{Stand, Agrees, Along, Carried, IsNext, Still, Skipped, base_at, at_main}
 use Rattle.xmp_nodes.proofs.Standing.{IsGlobal, PartFits, NoReturn, IsSetting, WritesFit}
 use Rattle.xmp_nodes.proofs.Leaves.{StatementsCarry, StatementsSkip, noting, noted_task}
 use Rattle.xmp_nodes.proofs.Follow.{right_front, right_back}

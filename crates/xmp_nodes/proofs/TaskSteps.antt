@@ -1,19 +1,17 @@
 -- The tasks of a node: it runs those of which it is a member, and nothing of the others.
-use Rattle.std.proofs.Common.{◌≡◌, ◌<◌, ◌++◌, ◌⊎◌, inl, inr, ◌&&◌, ℕ, Bool, true, false, not, List, [], ◌∷◌, map, length, Option, Some, None, refl, sym, ap, subst, ◌∙◌}
-use Rattle.std.specs.List.{AllByRecursion, list_all, range_with_len}
+use Rattle.std.proofs.Common.{◌≡◌, ◌<◌, inl, inr, ◌&&◌, ℕ, Bool, true, false, List, [], ◌∷◌, map, refl, sym, ap, ◌∙◌}
+use Rattle.std.specs.List.{AllByRecursion, list_all}
 use Rattle.xmp_map.specs.declared.grid.NodeSet.{NodeSet}
 use Rattle.xmp_prog.specs.declared.parts.ProgParts.{ProgParts}
 use Rattle.xmp_prog.specs.declared.statements.Task.{Task}
 use Rattle.xmp_prog.specs.Fits.{node_count}
 use Rattle.xmp_prog.specs.Numbers.{pairwise}
 use Rattle.xmp_prog.specs.NodeSets.{is_node_set, has_node, sets_apart}
-use Rattle.xmp_meaning.specs.declared.ends.End.{End}
 use Rattle.xmp_meaning.specs.declared.ends.Flow.{Flow}
 use Rattle.xmp_meaning.specs.declared.ends.Flow.TheVariants.{Next, Returned}
-use Rattle.xmp_meaning.specs.Runs.{State, Step, Gave, Ended, Run, and_then}
-use Rattle.xmp_meaning.specs.Blocks.{after, then_run, block, choose}
-use Rattle.xmp_meaning.specs.Parts.{only}
-use Rattle.xmp_meaning.specs.TaskEnds.{leader, own_tasks}
+use Rattle.xmp_meaning.specs.Runs.{Step, Gave, Ended, Run, and_then}
+use Rattle.xmp_meaning.specs.Blocks.{after, choose}
+use Rattle.xmp_meaning.specs.TaskEnds.{own_tasks}
 use Rattle.xmp_move.specs.Stores.{IsIn}
 use Rattle.xmp_nodes.specs.Tasks.{task_at}
 use Rattle.xmp_nodes.specs.Lockstep.{lockstep}

@@ -1,15 +1,13 @@
 -- A statement makes no scalar out of date that it doesn't write.
-use Rattle.std.proofs.Common.{◌≡◌, ◌≢◌, ◌+◌, ◌*◌, ◌++◌, ◌⊎◌, inl, inr, ⊎_elim, ℕ, zero, suc, Bool, true, false, not, if◌then◌else◌, cond, List, [], ◌∷◌, map, Option, Some, None, option_map, refl, sym, ap, subst, ◌∙◌, arith, ne_eqb}
+use Rattle.std.proofs.Common.{◌≡◌, ◌≢◌, ◌+◌, ◌*◌, ◌++◌, inl, inr, ⊎_elim, ℕ, zero, suc, Bool, true, false, not, if◌then◌else◌, cond, List, [], ◌∷◌, map, Option, Some, None, refl, sym, ap, subst, ◌∙◌, arith}
 use Rattle.std.specs.Prelude.{◌&&◌, ◌||◌, ◌==◌, filter, is_some}
 use Rattle.std.specs.List.{AllByRecursion, concat}
 use Rattle.std.proofs.lemmas.Bool.{eqb-true}
 use Rattle.std.proofs.lemmas.Nat.Bits.{bit_at-zero}
 use Rattle.xmp_base.specs.declared.place.Place.{Place}
-use Rattle.xmp_map.specs.declared.array_map.ArrayMap.{ArrayMap}
 use Rattle.xmp_map.specs.declared.grid.NodeSet.{NodeSet}
 use Rattle.xmp_prog.specs.declared.parts.Home.{Home}
 use Rattle.xmp_prog.specs.declared.parts.Home.TheVariants as home
-use Rattle.xmp_prog.specs.declared.parts.ProgParts.{ProgParts}
 use Rattle.xmp_prog.specs.declared.expressions.Expr.{Expr}
 use Rattle.xmp_prog.specs.declared.expressions.Access.{Access}
 use Rattle.xmp_prog.specs.declared.statements.Compound.{Compound}
@@ -26,7 +24,7 @@ use Rattle.xmp_prog.specs.declared.statements.Target.{Target}
 use Rattle.xmp_prog.specs.declared.statements.Target.TheVariants as target
 use Rattle.xmp_prog.specs.declared.statements.Plain.{Plain}
 use Rattle.xmp_prog.specs.declared.statements.Plain.TheVariants as plain
-use Rattle.xmp_prog.specs.declared.statements.Stmt.{Stmt, map-Stmt, out-Stmt}
+use Rattle.xmp_prog.specs.declared.statements.Stmt.{Stmt, map-Stmt}
 use Rattle.xmp_prog.specs.declared.statements.Stmt.TheOpen.{Stmt-F}
 use Rattle.xmp_prog.specs.declared.statements.Stmt.TheVariants as stmt
 use Rattle.xmp_prog.specs.declared.statements.Stmt.TheFolds.{ind-Stmt, fold-Task, fold-roll-Task}
@@ -38,7 +36,6 @@ use Rattle.xmp_prog.proofs.Rolls as rolls
 use Rattle.xmp_paths.specs.NodeSets.{has}
 use Rattle.xmp_paths.specs.Plans.{Plan, skip, emit, sequence, branch, loop, in_order, Path, Repeated}
 use Rattle.xmp_paths.specs.Walk.{after_event, after_events}
-use Rattle.xmp_paths.specs.Safe.{left}
 use Rattle.xmp_paths.proofs.PathLaws.{walk-append}
 use Rattle.xmp_paths.specs.declared.event.Event.{Event}
 use Rattle.xmp_paths.specs.declared.event.Event.TheVariants.{Read, Wrong, Mark}
@@ -47,15 +44,15 @@ use Rattle.xmp_loops.specs.Roles.{own_scalars, scalars_of, role_in, is_own}
 use Rattle.xmp_loops.specs.Bounds.{is_number, is_bound}
 use Rattle.xmp_loops.specs.declared.role.Role.{Role}
 use Rattle.xmp_loops.specs.declared.role.Role.TheVariants.{Shared, Index, Reduced, Own}
-use Rattle.xmp_flow.specs.Setting.{Setting, others, is_alone, is_first_alone, in_move, in_task, wrong_where, assigned, is_reduced, reads_scalar, read_scalar, stale_on_all, current_on_all}
+use Rattle.xmp_flow.specs.Setting.{Setting, others, is_alone, is_first_alone, in_move, in_task, wrong_where, assigned, is_reduced, read_scalar, stale_on_all, current_on_all}
 use Rattle.xmp_flow.specs.Elements.{home_of, spread_events, element_read, element_write, write_at_home, copy_written}
 use Rattle.xmp_flow.specs.Reads.{reads_of, reads_of_all, reads_of_option, subscript_reads}
-use Rattle.xmp_flow.specs.PlainEvents.{scalar_assigned, old_scalar, old_element, set_events, in_form, form_of_set, assignment_events, scanned, reflected_at, reflected, cast, number_events, part_events, side_events, source_at, source_events, moved_at, moved, plan_of_gmove, plain_events}
-use Rattle.xmp_flow.specs.LoopEvents.{within, at_bounds, head_events, nest_events, reduction_events, iteration, shadow_stale_at, shadow_stale, ends, loop_events}
-use Rattle.xmp_flow.specs.Statements.{events_of, if_form, while_events, counted_events}
+use Rattle.xmp_flow.specs.PlainEvents.{scalar_assigned, old_scalar, old_element, set_events, in_form, form_of_set, assignment_events, scanned, reflected_at, reflected, cast, number_events, part_events, side_events, source_at, source_events, moved_at, moved, plain_events}
+use Rattle.xmp_flow.specs.LoopEvents.{within, at_bounds, nest_events, reduction_events, iteration, shadow_stale_at, shadow_stale, ends}
+use Rattle.xmp_flow.specs.Statements.{events_of, if_form}
 use Rattle.xmp_flow.proofs.FormLaws.{events_plain, events_block, events_if, events_while, events_counted, events_loop, events_tasks}
 use Rattle.xmp_meaning.specs.Writes.{scalars_step, written_in_task, scalars_written, arrays_written}
-use Rattle.xmp_nodes.proofs.MetEvents.{EachEvent, EachOf, NoMark, each_ordered, ordered_each, each_skip, each_emit, each_branch, all_together}
+use Rattle.xmp_nodes.proofs.MetEvents.{EachEvent, EachOf, NoMark, ordered_each, each_skip, each_emit, each_branch, all_together}
 use Rattle.xmp_nodes.proofs.ReadsMark.{spread_unmarked, element_unmarked, reads_unmarked, subscripts_unmarked}
 use Rattle.xmp_nodes.proofs.Leaves.{UnwrittenStay}
 

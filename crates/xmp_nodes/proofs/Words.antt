@@ -1,5 +1,5 @@
 -- The words of a side of a gmove: what reads all its cells gives, and what writes into them leaves.
-use Rattle.std.proofs.Common.{◌≡◌, ◌<◌, ◌++◌, ℕ, zero, suc, ℤ, pos, List, [], ◌∷◌, map, length, Option, Some, None, refl, sym, ap, subst, ◌∙◌, arith, append_assoc}
+use Rattle.std.proofs.Common.{◌≡◌, ◌++◌, ℕ, zero, suc, ℤ, pos, List, [], ◌∷◌, map, Some, refl, sym, ap, ◌∙◌, append_assoc}
 use Rattle.std.specs.Prelude.{slice_get, slice_set, unwrap_or}
 use Rattle.std.proofs.lemmas.Option.{unwrap_or-slice_get, none-some, same_Some}
 use Rattle.std.proofs.lemmas.List.{set-set}
@@ -8,10 +8,9 @@ use Rattle.xmp_prog.specs.declared.statements.Name.{Name}
 use Rattle.xmp_prog.specs.declared.statements.Part.{Part}
 use Rattle.xmp_prog.specs.declared.statements.MoveSide.{MoveSide}
 use Rattle.xmp_prog.specs.declared.statements.MoveSide.TheVariants as side
-use Rattle.xmp_meaning.specs.declared.ends.Flow.{Flow}
 use Rattle.xmp_meaning.specs.declared.ends.Flow.TheVariants.{Next}
 use Rattle.xmp_meaning.specs.Cells.{row_in, cell_in}
-use Rattle.xmp_meaning.specs.Runs.{State, Step, Gave, Run, and_then, cell, set_cell}
+use Rattle.xmp_meaning.specs.Runs.{State, Gave, Run, and_then, cell, set_cell}
 use Rattle.xmp_meaning.specs.Blocks.{each}
 use Rattle.xmp_meaning.specs.Context.{Context}
 use Rattle.xmp_meaning.specs.Handlers.{Handlers}
