@@ -96,5 +96,3 @@ pub mod SkipMarks
 pub mod SkipPlains
 pub mod SkipSteps
 pub mod StatementsSkipped
-pub mod IfFormsCarried
-pub mod ReductionIfs

@@ -139,7 +139,8 @@ module _ (p : ProgParts) (global : IsGlobal p) (input : List ℕ) (steps : ℕ) 
         let x = there t.extra.turns node (omega (arith, below, long)) in
         let own : turns_on p input steps node ≡ x.0 = ap (λ (y : Notes). unwrap_or (slice_get y.turns node) 0) notes_are ∙ ap (λ o. unwrap_or o 0) x.1 in
         ap (λ l. slice_get l node) r.counts.turns ∙ (at_mapped bounded t.extra.turns node x.0 x.1 ∙ ap (λ k. Some (bounded k)) (sym own));
-    sent = λ from to row other below e.
+    rows = r.counts.rows;
+    sent = λ from to row below e.
         let long : length row ≡ node_count p = r.counts.row from row e in
         let x = there row to (omega (arith, below, long)) in
         x.1 ∙ ap Some (r.counts.sent from to x.0 row e x.1 ∙ ap (λ (y : Notes). bounded (sent p y.exchanges from to)) (sym notes_are));

@@ -12,7 +12,8 @@ use Rattle.xmp_nodes.specs.Worlds.{World, world_after}
 use Rattle.xmp_nodes.specs.Stands.{StandsFor}
 use Rattle.xmp_nodes.specs.Answers.{answer_of}
 use Rattle.xmp_nodes.proofs.Standing.{IsGlobal}
-use Rattle.xmp_nodes.proofs.Leaves.{IfFormsCarry, StatementsCarry}
+use Rattle.xmp_nodes.proofs.Leaves.{StatementsCarry}
+use Rattle.xmp_nodes.proofs.IfFormsCarried.{if_forms_carry}
 use Rattle.xmp_nodes.proofs.SetForms.{all_plains_carry}
 use Rattle.xmp_nodes.proofs.StatementsSkipped.{statements_skip}
 use Rattle.xmp_nodes.proofs.PartSplits.{body_fits, plain_fits, blocks_fit, ifs_fit, whiles_fit, counteds_fit, loops_fit, all_tasks_fit}
@@ -34,8 +35,8 @@ use Rattle.xmp_nodes.proofs.Standings.{carried_out}
 use Rattle.xmp_nodes.proofs.Answering.{answers}
 
 -- what holds of a statement at a node
-at_a_node : IfFormsCarry → StatementsCarry
-at_a_node if_forms = statements_carry (record {
+at_a_node : StatementsCarry
+at_a_node = statements_carry (record {
   plain_parts = plain_fits;
   block_parts = blocks_fit;
   if_parts = ifs_fit;
@@ -44,11 +45,11 @@ at_a_node if_forms = statements_carry (record {
   unwritten_stay = unwritten_stay;
   expressions = expressions_carry;
   plains = all_plains_carry;
-  if_forms = if_forms;
+  if_forms = if_forms_carry;
 })
 
-all_parts : IfFormsCarry → Parts
-all_parts if_forms = record {
+all_parts : Parts
+all_parts = record {
   plain_parts = plain_fits;
   block_parts = blocks_fit;
   if_parts = ifs_fit;
@@ -59,19 +60,19 @@ all_parts if_forms = record {
   unwritten_stay = unwritten_stay;
   expressions = expressions_carry;
   plains = all_plains_carry;
-  loops = loops_follow loops_fit alone_is_erased (at_a_node if_forms);
+  loops = loops_follow loops_fit alone_is_erased at_a_node;
   casts = casts_follow;
   reflects = reflects_follow;
   gmoves = gmoves_follow;
   barriers = barriers_follow;
-  tasks = tasks_follow (at_a_node if_forms) statements_skip all_tasks_fit;
+  tasks = tasks_follow at_a_node statements_skip all_tasks_fit;
 }
 
-pub nodes_carry_out : IfFormsCarry → (p : ProgParts) (input : List ℕ) (steps : ℕ)
+pub nodes_carry_out : (p : ProgParts) (input : List ℕ) (steps : ℕ)
     → PartsFit p → p.kind ≡ Global → HasAxes p → IsFirst (FlowBreaks p) None
     → StandsFor p input steps (world_after (nodes_end p input steps))
-nodes_carry_out if_forms p input steps fits kind axes none =
-    carried_out p (record { fits = fits; kind = kind; axes = axes }) input steps (all_parts if_forms) body_fits none
+nodes_carry_out p input steps fits kind axes none =
+    carried_out p (record { fits = fits; kind = kind; axes = axes }) input steps all_parts body_fits none
 
 pub worlds_answer : (p : ProgParts) (input : List ℕ) (steps : ℕ) (w : World) → PartsFit p → p.kind ≡ Global → HasAxes p
     → StandsFor p input steps w → answer_of p w ≡ serial p input steps

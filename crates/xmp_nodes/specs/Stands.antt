@@ -1,5 +1,5 @@
 -- What it means that a world stands for a program (this project).
-use Rattle.std.specs.Prelude.{◌≡◌, ◌≢◌, ◌<◌, ◌+◌, ◌&&◌, not, ℕ, ℤ, true, List, length, slice_get, Option, Some, None}
+use Rattle.std.specs.Prelude.{◌≡◌, ◌<◌, ◌+◌, ◌&&◌, not, ℕ, ℤ, true, List, length, slice_get, Option, Some, None}
 use Rattle.xmp_map.specs.declared.array_map.ArrayMap.{ArrayMap}
 use Rattle.xmp_map.specs.RowMajor.{row_major}
 use Rattle.xmp_map.specs.Boxes.{IsInside}
@@ -37,7 +37,8 @@ pub record StoresStand (p : ProgParts) (input : List ℕ) (steps : ℕ) (w : Wor
   pub many : length w.stores ≡ node_count p
   pub stores : (node : ℕ) (store : List ℤ) → slice_get w.stores node ≡ Some store → StoreStands p input steps node store
   pub turns : (node : ℕ) → node < node_count p → slice_get w.turns node ≡ Some (bounded (turns_on p input steps node))
-  pub sent : (from to : ℕ) (row : List ℕ) → from ≢ to → to < node_count p → slice_get w.sent from ≡ Some row
+  pub rows : length w.sent ≡ node_count p
+  pub sent : (from to : ℕ) (row : List ℕ) → to < node_count p → slice_get w.sent from ≡ Some row
       → slice_get row to ≡ Some (bounded (sent p (traffic p input steps) from to))
 
 -- A world stands for a program on an input, with so many steps: it ends as the program with its directives erased does,

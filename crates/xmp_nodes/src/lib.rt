@@ -12,4 +12,4 @@ mod axes;
 mod laws;
 
 pub use axes::has_axes;
-pub use laws::{nodes_run_alone, worlds_answer};
+pub use laws::{nodes_carry_out, nodes_run_alone, worlds_answer};
