@@ -1,7 +1,6 @@
 -- What it means that a node's run follows the serial run, along a plan; that a node outside a task is left as it was;
 -- and that all nodes in step follow the run that notes each exchange.
-use Rattle.std.specs.Prelude.{◌≡◌, ◌≢◌, ◌<◌, ◌++◌, ℕ, zero, suc, ℤ, pos, Bool, true, false, IsTrue, List, [], ◌∷◌, length, map, slice_get, unwrap_or, Option, Some, None}
-use Rattle.std.specs.List.{AllByRecursion}
+use Rattle.std.specs.Prelude.{◌≡◌, ◌++◌, ℕ, zero, suc, ℤ, pos, Bool, true, false, List, [], length, map, slice_get, Option, Some, None}
 use Rattle.xmp_num.specs.declared.types.Ty.{Ty}
 use Rattle.xmp_num.specs.declared.types.RedOp.{RedOp}
 use Rattle.xmp_num.specs.Arithmetic.{FitsType}

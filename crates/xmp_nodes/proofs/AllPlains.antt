@@ -1,41 +1,37 @@
 -- Every plain statement at a node follows the serial one.
-use Rattle.std.proofs.Common.{◌≡◌, ℕ, Bool, true, false, true≢false, List, [], ◌∷◌, Option, Some, None, refl, sym, subst, ap, ◌∙◌}
+use Rattle.std.proofs.Common.{◌≡◌, ℕ, true, true≢false, List, Option, Some, None, refl, sym, subst}
 use Rattle.std.specs.List.{AllByRecursion}
 use Rattle.xmp_base.specs.declared.place.Place.{Place}
 use Rattle.xmp_num.specs.declared.types.RedOp.{RedOp}
 use Rattle.xmp_paths.specs.NodeSets.{has}
-use Rattle.xmp_paths.specs.Plans.{Plan, emit, in_order}
+use Rattle.xmp_paths.specs.Plans.{Plan, in_order}
 use Rattle.xmp_paths.specs.Safe.{NothingWrong}
 use Rattle.xmp_paths.specs.declared.event.Event.{Event}
 use Rattle.xmp_prog.specs.declared.expressions.Expr.{Expr}
 use Rattle.xmp_prog.specs.declared.statements.Compound.{Compound}
 use Rattle.xmp_prog.specs.declared.statements.LoopDirective.{LoopDirective}
-use Rattle.xmp_prog.specs.declared.statements.Target.{Target}
 use Rattle.xmp_prog.specs.declared.statements.Target.TheVariants as target
 use Rattle.xmp_prog.specs.declared.statements.Plain.{Plain}
 use Rattle.xmp_prog.specs.declared.statements.Plain.TheVariants as plain
 use Rattle.xmp_prog.specs.declared.statements.Stmt.TheVariants as stmt
-use Rattle.xmp_prog.specs.declared.statements.Stmt.TheOpen.{Stmt-F}
-use Rattle.xmp_prog.specs.Statements.{plain_writes, terms_of_plain}
-use Rattle.xmp_prog.specs.Terms.{terms_of}
+use Rattle.xmp_prog.specs.Statements.{plain_writes}
 use Rattle.xmp_prog.proofs.Rolls.{at_plain}
 use Rattle.xmp_loops.specs.Forms.{assignment_form}
 use Rattle.xmp_loops.specs.declared.role.Role.{Role}
 use Rattle.xmp_loops.specs.declared.role.Role.TheVariants.{Shared, Index, Reduced, Own}
-use Rattle.xmp_flow.specs.Setting.{Setting, is_reduced}
 use Rattle.xmp_flow.specs.Reads.{reads_of_all}
-use Rattle.xmp_flow.specs.PlainEvents.{set_events, in_form, form_of_set, assignment_events, plain_events}
+use Rattle.xmp_flow.specs.PlainEvents.{set_events, in_form, form_of_set, plain_events}
 use Rattle.xmp_meaning.specs.declared.ends.Flow.{Flow}
 use Rattle.xmp_meaning.specs.Runs.{Run}
 use Rattle.xmp_meaning.specs.Handlers.{erased}
 use Rattle.xmp_meaning.specs.Statements.{plain_of}
 use Rattle.xmp_meaning.specs.Writes.{plain_arrays, scalars_step, arrays_step, written_in_task}
-use Rattle.xmp_meaning.specs.Exchanges.{Notes, traced}
+use Rattle.xmp_meaning.specs.Exchanges.{Notes}
 use Rattle.xmp_meaning.specs.Traffic.{node_context}
 use Rattle.xmp_meaning_laws.specs.Laws.{is_plain}
 use Rattle.xmp_nodes.proofs.Agrees.{Stand, Carried, IsNext, is_changed}
-use Rattle.xmp_nodes.proofs.Standing.{TermStands, PartFits, IsSetting, WritesFit}
-use Rattle.xmp_nodes.proofs.Leaves.{serial_cx, GivesNext, StepFits, PlainsCarry, SetFormsCarry}
+use Rattle.xmp_nodes.proofs.Standing.{PartFits, IsSetting, WritesFit}
+use Rattle.xmp_nodes.proofs.Leaves.{serial_cx, GivesNext, PlainsCarry, SetFormsCarry}
 use Rattle.xmp_nodes.proofs.Follow.{carried_weaker}
 use Rattle.xmp_nodes.proofs.PartSplits.{plain_fits}
 use Rattle.xmp_nodes.proofs.SameRuns.{noted_plain}

@@ -1,12 +1,11 @@
 -- A world that stands for a program answers as the program does.
-use Rattle.std.proofs.Common.{◌≡◌, ◌<◌, ◌≤◌, ◌+◌, ◌*◌, ◌++◌, ◌==◌, ◌⊎◌, inl, inr, if◌then◌else◌, ℕ, zero, suc, ℤ, pos, Bool, true, false, true≢false, List, [], ◌∷◌, map, length, Option, Some, None, refl, sym, subst, ap, ◌∙◌, arith}
+use Rattle.std.proofs.Common.{◌≡◌, ◌<◌, ◌+◌, ◌*◌, ◌++◌, ◌⊎◌, inl, inr, if◌then◌else◌, ℕ, zero, suc, ℤ, Bool, true, false, true≢false, List, [], ◌∷◌, map, length, Some, None, refl, sym, subst, ap, ◌∙◌, arith}
 use Rattle.std.specs.Prelude.{slice_get, unwrap_or}
 use Rattle.std.specs.List.{AllByRecursion, range_with_len}
 use Rattle.std.proofs.lemmas.List.{length-map}
 use Rattle.xmp_map.specs.declared.array_map.ArrayMap.{ArrayMap}
 use Rattle.xmp_map.specs.RowMajor.{product, row_major, unravel}
 use Rattle.xmp_map.specs.Boxes.{IsInside}
-use Rattle.xmp_map.specs.Held as held
 use Rattle.xmp_map.proofs.Order.{AllBelow, none_below, more_below, unravel_below, row_major-unravel}
 use Rattle.xmp_prog.specs.declared.parts.Array.{Array}
 use Rattle.xmp_prog.specs.declared.parts.Home.{Home}
@@ -14,12 +13,10 @@ use Rattle.xmp_prog.specs.declared.parts.Home.TheVariants as home
 use Rattle.xmp_prog.specs.declared.parts.ProgParts.{ProgParts}
 use Rattle.xmp_prog.specs.Tests.{is_image}
 use Rattle.xmp_prog.specs.Fits.{node_count}
-use Rattle.xmp_meaning.specs.declared.ends.End.{End}
 use Rattle.xmp_meaning.specs.declared.ends.End.TheVariants.{Trapped, OutOfSteps, PhaseEnd}
 use Rattle.xmp_meaning.specs.declared.ends.Flow.{Flow}
-use Rattle.xmp_meaning.specs.declared.outcome.Outcome.{Outcome}
 use Rattle.xmp_meaning.specs.declared.outcome.Outcome.TheVariants as outcome
-use Rattle.xmp_meaning.specs.Runs.{State, Step, Gave, Ended, end_of, state_of}
+use Rattle.xmp_meaning.specs.Runs.{Step, Gave, Ended, end_of, state_of}
 use Rattle.xmp_meaning.specs.Cells.{row_in}
 use Rattle.xmp_meaning.specs.Declarations.{extents, home_of}
 use Rattle.xmp_meaning.specs.Layouts.{Whole, words_of, row_length}
@@ -36,7 +33,7 @@ use Rattle.xmp_move.specs.Stores.{IsIn, word_at}
 use Rattle.xmp_move.specs.Whole.{HasOwner}
 use Rattle.xmp_move.proofs.SidesKept.{cells_are_owned}
 use Rattle.xmp_nodes.specs.Worlds.{World}
-use Rattle.xmp_nodes.specs.Stands.{StoreStands, StoresStand, StandsFor}
+use Rattle.xmp_nodes.specs.Stands.{StoresStand, StandsFor}
 use Rattle.xmp_nodes.specs.Answers.{owner_among, word_on, gathered_row, gathered, answer_by, answer_of}
 use Rattle.xmp_nodes.proofs.Standing.{IsGlobal}
 use Rattle.xmp_nodes.proofs.Each.{there}
@@ -95,8 +92,8 @@ module _ (p : ProgParts) (global : IsGlobal p) (input : List ℕ) (steps : ℕ) 
   serial_rows : map length (state_of (serial_end p input steps)).arrays ≡ map (row_length Whole p) p.arrays
   serial_rows =
       let shape : SameShape (beginning Whole p steps tt) (state_of (serial_end p input steps)) =
-          keeps-program (main_context p 0 input) (keeps (shape_respected (main_context p 0 input))) (keeps_erased (shape_respected (main_context p 0 input)))
-          (all_any _) (all_any _) (all_any _) (beginning Whole p steps tt) in
+      keeps-program (main_context p 0 input) (keeps (shape_respected (main_context p 0 input))) (keeps_erased (shape_respected (main_context p 0 input)))
+      (all_any _) (all_any _) (all_any _) (beginning Whole p steps tt) in
       shape.rows ∙ rows_long Whole p p.arrays
 
   module _ (stand : StoresStand p input steps w) where
@@ -111,7 +108,7 @@ module _ (p : ProgParts) (global : IsGlobal p) (input : List ℕ) (steps : ℕ) 
     a_cell array t m cell e inside =
         let of : IsSpreadArray p array t m = spread_array p global array t m e in
         let has : HasOwner (owns_cell (home.Spread t m)) (range_with_len 0 (node_count p)) cell =
-            subst (λ n. HasOwner (owns_cell (home.Spread t m)) (range_with_len 0 n) cell) of.nodes (cells_are_owned t m (extents p array) cell of.three of.fits inside) in
+        subst (λ n. HasOwner (owns_cell (home.Spread t m)) (range_with_len 0 n) cell) of.nodes (cells_are_owned t m (extents p array) cell of.three of.fits inside) in
         let own = owner_owns (home.Spread t m) cell (range_with_len 0 (node_count p)) has.owner has.among has.owns_it in
         let node : ℕ = owner_among (home.Spread t m) cell (range_with_len 0 (node_count p)) in
         let below : node < 0 + node_count p = in_range 0 (node_count p) node own.among in
@@ -127,9 +124,9 @@ module _ (p : ProgParts) (global : IsGlobal p) (input : List ℕ) (steps : ℕ) 
         let r = row_there (row_length Whole p) (state_of (serial_end p input steps)).arrays p.arrays serial_rows array of.of of.at in
         let row : List ℤ = row_in (state_of (serial_end p input steps)).arrays array in
         let long : length row ≡ product (extents p array) =
-            ap length (row_read (state_of (serial_end p input steps)).arrays array r.0 r.1) ∙ (r.2
-            ∙ (ap (λ (h : Home). words_of Whole h ((if is_image h then node_count p else 1) * product of.of.extents)) of.lies
-            ∙ (one_times (product of.of.extents) ∙ ap product (sym (extents_there p array of.of of.at))))) in
+        ap length (row_read (state_of (serial_end p input steps)).arrays array r.0 r.1) ∙ (r.2
+        ∙ (ap (λ (h : Home). words_of Whole h ((if is_image h then node_count p else 1) * product of.of.extents)) of.lies
+        ∙ (one_times (product of.of.extents) ∙ ap product (sym (extents_there p array of.of of.at))))) in
         ap (λ n. map (λ k. word_on p w array (owner_among (home_of p array) (unravel (extents p array) k) (range_with_len 0 (node_count p))) (unravel (extents p array) k)) (range_with_len 0 n)) (sym long)
         ∙ by_number (λ k. word_on p w array (owner_among (home_of p array) (unravel (extents p array) k) (range_with_len 0 (node_count p))) (unravel (extents p array) k)) 0 row (λ n l.
         let z : 0 + n ≡ n = omega arith in
@@ -162,7 +159,7 @@ module _ (p : ProgParts) (global : IsGlobal p) (input : List ℕ) (steps : ℕ) 
     all_told : told p p.arrays (gathered p w) ≡ told p p.arrays (state_of (serial_end p input steps)).arrays
     all_told =
         let l : length (state_of (serial_end p input steps)).arrays ≡ length p.arrays =
-            sym (length-map (state_of (serial_end p input steps)).arrays length) ∙ (ap length serial_rows ∙ length-map p.arrays (row_length Whole p)) in
+        sym (length-map (state_of (serial_end p input steps)).arrays length) ∙ (ap length serial_rows ∙ length-map p.arrays (row_length Whole p)) in
         told_same (gathered_row p w) 0 p.arrays (state_of (serial_end p input steps)).arrays l (no_images p global)
         (λ i a t m e g. let z : 0 + i ≡ i = omega arith in ap (gathered_row p w) z ∙ a_row i t m (home_there p i a e ∙ g))
 

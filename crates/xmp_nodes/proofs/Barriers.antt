@@ -1,20 +1,14 @@
 -- A barrier: nothing is said, and nothing changes.
-use Rattle.std.proofs.Common.{◌≡◌, ◌++◌, ◌==◌, ℕ, Bool, true, false, List, [], ◌∷◌, refl, sym, ◌∙◌, if◌then◌else◌}
-use Rattle.xmp_base.specs.declared.place.Place.{Place}
+use Rattle.std.proofs.Common.{◌≡◌, ◌==◌, ℕ, Bool, true, false, [], refl, sym, ◌∙◌, if◌then◌else◌}
 use Rattle.xmp_prog.specs.declared.parts.ProgParts.{ProgParts}
-use Rattle.xmp_prog.specs.declared.statements.Plain.TheVariants as plain
-use Rattle.xmp_paths.specs.declared.event.Event.{Event}
-use Rattle.xmp_paths.specs.Plans.{Plan, skip, sequence}
-use Rattle.xmp_paths.specs.Safe.{Safe}
+use Rattle.xmp_paths.specs.Plans.{skip}
 use Rattle.xmp_paths.proofs.SafeLaws.{safe_back}
-use Rattle.xmp_meaning.specs.declared.ends.Flow.TheVariants.{Next}
-use Rattle.xmp_meaning.specs.Runs.{State, pure}
+use Rattle.xmp_meaning.specs.Runs.{State}
 use Rattle.xmp_meaning.specs.Exchanges.{Notes, Exchange, AtBarrier}
 use Rattle.xmp_map.specs.RowMajor.{row_major}
 use Rattle.xmp_meaning.specs.Declarations.{extents}
 use Rattle.xmp_meaning.specs.Messages.{words_alone, words_sent, message}
-use Rattle.xmp_nodes.specs.Nodes.{Nodes}
-use Rattle.xmp_nodes.proofs.Agrees.{Stand, Agrees, ReadyAt, Ready, at_main}
+use Rattle.xmp_nodes.proofs.Agrees.{Stand, Agrees, at_main}
 use Rattle.xmp_nodes.proofs.Leaves.{BarriersFollow}
 use Rattle.xmp_nodes.proofs.Saying.{noted_behind}
 use Rattle.xmp_nodes.proofs.AllSteps.{counts_silent}

@@ -1,37 +1,31 @@
 -- The beginning: every node agrees with the serial run, nothing is out of date, and nothing is counted.
-use Rattle.std.proofs.Common.{◌≡◌, ◌<◌, ◌++◌, ℕ, zero, suc, ℤ, pos, negsuc, List, [], ◌∷◌, map, length, replicate, Option, Some, None, refl, sym, subst, ap, ◌∙◌, Bool, true, false, arith}
-use Rattle.std.specs.Prelude.{slice_get, unwrap_or}
-use Rattle.std.specs.List.{AllByRecursion, range_with_len}
-use Rattle.std.proofs.lemmas.Option.{none-some, same_Some, unwrap_or-slice_get, slice_get_within}
+use Rattle.std.proofs.Common.{◌≡◌, ◌<◌, ◌++◌, ℕ, zero, suc, pos, List, [], ◌∷◌, map, length, replicate, Some, refl, sym, subst, ap, ◌∙◌, false, arith}
+use Rattle.std.specs.Prelude.{slice_get}
+use Rattle.std.proofs.lemmas.Option.{none-some, same_Some, slice_get_within}
 use Rattle.xmp_num.specs.Arithmetic.{FitsType}
-use Rattle.xmp_map.specs.declared.array_map.ArrayMap.{ArrayMap}
-use Rattle.xmp_map.specs.RowMajor.{row_major}
 use Rattle.xmp_prog.specs.declared.parts.Array.{Array}
-use Rattle.xmp_prog.specs.declared.parts.Home.{Home}
 use Rattle.xmp_prog.specs.declared.parts.Home.TheVariants as home
 use Rattle.xmp_prog.specs.declared.parts.ProgParts.{ProgParts}
 use Rattle.xmp_prog.specs.Fits.{node_count}
 use Rattle.xmp_paths.specs.declared.event.Event.{Event}
 use Rattle.xmp_paths.specs.Plans.{Plan}
 use Rattle.xmp_paths.specs.Safe.{Safe}
-use Rattle.xmp_flow.specs.Program.{outermost}
-use Rattle.xmp_loops.specs.declared.role.Role.TheVariants.{Shared, Index, Reduced}
+use Rattle.xmp_loops.specs.declared.role.Role.TheVariants.{Shared, Reduced}
 use Rattle.xmp_meaning.specs.Runs.{State}
-use Rattle.xmp_meaning.specs.Cells.{row_in, read_in}
-use Rattle.xmp_meaning.specs.Declarations.{extents, home_of, home_of_array, scalar_type, array_type}
+use Rattle.xmp_meaning.specs.Cells.{row_in}
+use Rattle.xmp_meaning.specs.Declarations.{home_of_array, scalar_type, array_type}
 use Rattle.xmp_meaning.specs.Layouts.{Layout, Whole, Packed, words_of, cell_count, row_length}
 use Rattle.xmp_meaning.specs.Programs.{no_writes, beginning}
 use Rattle.xmp_meaning.specs.Exchanges.{Notes, no_notes}
-use Rattle.xmp_meaning.specs.Messages.{sent}
 use Rattle.xmp_meaning.specs.Traffic.{node_beginning}
 use Rattle.xmp_meaning.proofs.StoresLaid.{begins_laid}
 use Rattle.xmp_meaning_laws.proofs.Values.{zero_fits, zero_read, zero_rows}
 use Rattle.xmp_move.specs.Stores.{word_at}
-use Rattle.xmp_nodes.specs.Nodes.{Nodes, bounded, nodes_beginning}
-use Rattle.xmp_nodes.proofs.Agrees.{IsWhole, Agrees, base_at, at_main, ReadyAt, Counted, Ready}
+use Rattle.xmp_nodes.specs.Nodes.{bounded, nodes_beginning}
+use Rattle.xmp_nodes.proofs.Agrees.{IsWhole, Agrees, base_at, at_main, Counted, Ready}
 use Rattle.xmp_nodes.proofs.Standing.{IsGlobal}
 use Rattle.xmp_nodes.proofs.CellNumbers.{cell_word, no_images}
-use Rattle.xmp_nodes.proofs.Each.{Alone, begins_many, begins_at}
+use Rattle.xmp_nodes.proofs.Each.{begins_many, begins_at}
 
 abbrev pub first_state : ProgParts → (steps : ℕ) → State Notes
 first_state p steps = beginning Whole p steps (no_notes p)

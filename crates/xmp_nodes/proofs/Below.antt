@@ -1,5 +1,5 @@
 -- What holds of every statement in a statement holds of those in its parts.
-use Rattle.std.proofs.Common.{◌≡◌, ◌++◌, List, [], ◌∷◌, map, refl, sym, subst, ap, ◌∙◌}
+use Rattle.std.proofs.Common.{◌≡◌, List, [], ◌∷◌, map, subst}
 use Rattle.std.specs.List.{AllByRecursion, flat_map}
 use Rattle.xmp_base.specs.declared.place.Place.{Place}
 use Rattle.xmp_prog.specs.declared.expressions.Expr.{Expr}

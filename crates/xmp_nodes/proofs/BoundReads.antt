@@ -1,6 +1,6 @@
 -- What a bound of a nest names and reads, where it is built of scalars that pass a test: it marks nothing, and where its
 -- reads are safe the scalars are current.
-use Rattle.std.proofs.Common.{◌≡◌, ◌++◌, ◌&&◌, ℕ, ℤ, Bool, true, false, true≢false, List, [], ◌∷◌, inl, inr, refl, sym, subst, ap, ◌∙◌}
+use Rattle.std.proofs.Common.{◌≡◌, ◌++◌, ◌&&◌, ℕ, Bool, true, false, true≢false, List, [], ◌∷◌, inl, inr, refl, sym, subst, ap, ◌∙◌}
 use Rattle.std.specs.List.{AllByRecursion}
 use Rattle.xmp_base.specs.declared.place.Place.{Place}
 use Rattle.xmp_map.proofs.Counted.{and_left, and_right}
@@ -14,7 +14,7 @@ use Rattle.xmp_prog.specs.Terms as terms
 use Rattle.xmp_prog.specs.Counted.{is_bound_operator}
 use Rattle.xmp_paths.specs.NodeSets.{has}
 use Rattle.xmp_paths.specs.Plans.{Plan, skip, emit, sequence, in_order, Path}
-use Rattle.xmp_paths.specs.Walk.{after_event, after_events}
+use Rattle.xmp_paths.specs.Walk.{after_events}
 use Rattle.xmp_paths.specs.Safe.{left, Safe, NothingWrong}
 use Rattle.xmp_paths.proofs.PathLaws.{some_path, walk-append}
 use Rattle.xmp_paths.proofs.SafeLaws.{safe_fewer, safe_front, safe_back, safe_read}
@@ -25,7 +25,7 @@ use Rattle.xmp_loops.specs.Bounds.{built_step, is_built}
 use Rattle.xmp_loops.specs.declared.role.Role.{Role}
 use Rattle.xmp_loops.specs.declared.role.Role.TheVariants.{Shared, Index, Reduced, Own}
 use Rattle.xmp_flow.specs.Setting.{Setting, read_scalar}
-use Rattle.xmp_flow.specs.Reads.{Reading, reading_step, element_step, reading, element, reads_in, reads_of}
+use Rattle.xmp_flow.specs.Reads.{Reading, reading_step, element_step, reading, element, reads_of}
 use Rattle.xmp_meaning_laws.specs.Tuples.{is_fixed_term}
 use Rattle.xmp_meaning_laws.proofs.Conditions.{all_together}
 use Rattle.xmp_meaning_laws.proofs.WhereExpressions.{typed_access}

@@ -1,6 +1,6 @@
 -- Where the cells of a program's arrays stand, in whole rows and in the rows of a node.
 use Rattle.std.proofs.Common.{◌≡◌, ◌<◌, ◌≤◌, ◌+◌, ◌-◌, ◌*◌, ◌++◌, ◌==◌, ◌&&◌, ◌||◌, ℕ, zero, suc, ℤ, pos, ◌+ℤ◌, Bool, true, false, true≢false, List, [], ◌∷◌, length, map, Option, Some, None, refl, sym, subst, ap, ◌∙◌, arith, eqb-true}
-use Rattle.std.specs.Prelude.{slice_get, nat_lt, nat_le, take, drop, replicate, unwrap_or, is_none}
+use Rattle.std.specs.Prelude.{slice_get, nat_lt, nat_le, take, drop, replicate, is_none}
 use Rattle.std.specs.List.{AllByRecursion, list_all, list_any}
 use Rattle.std.proofs.lemmas.Bool.{leb-true, lt-ltb}
 use Rattle.std.proofs.lemmas.List.{length-map}
@@ -22,11 +22,11 @@ use Rattle.xmp_prog.specs.declared.parts.Home.TheVariants as home
 use Rattle.xmp_prog.specs.Tests.{is_image}
 use Rattle.xmp_prog.specs.Tests as tests
 use Rattle.xmp_prog.specs.Fits.{HomeFits, has_coarrays}
-use Rattle.xmp_meaning.specs.Cells.{row_in, cell_in, read_in}
+use Rattle.xmp_meaning.specs.Cells.{row_in, read_in}
 use Rattle.xmp_meaning.specs.Declarations.{extents, extents_of_array, home_of, home_of_array, is_coarray}
 use Rattle.xmp_meaning.specs.Layouts.{Whole, Packed, kept, axes_of, number_from, number_of}
 use Rattle.xmp_meaning.proofs.Slots.{whole_numbers, held_numbers}
-use Rattle.xmp_move.specs.Sides.{padded, owns_cell, holds_cell, position}
+use Rattle.xmp_move.specs.Sides.{padded, holds_cell, position}
 use Rattle.xmp_move.specs.Stores.{word_at}
 use Rattle.xmp_move.specs.Laid.{MapFits}
 use Rattle.xmp_move.specs.Kept.{IsOfCode, HasThree}

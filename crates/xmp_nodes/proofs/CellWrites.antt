@@ -1,17 +1,15 @@
 -- Both runs write a cell that the node owns: they still agree.
-use Rattle.std.proofs.Common.{◌≡◌, ◌≢◌, ◌<◌, ◌==◌, ℕ, ℤ, pos, Bool, true, false, true≢false, List, [], ◌∷◌, map, length, Option, Some, None, refl, sym, subst, ap, ◌∙◌, eqb-true}
+use Rattle.std.proofs.Common.{◌≡◌, ◌≢◌, ◌==◌, ℕ, ℤ, pos, Bool, true, false, true≢false, List, [], Some, refl, sym, subst, ap, ◌∙◌, eqb-true}
 use Rattle.std.specs.Prelude.{slice_set}
 use Rattle.std.proofs.lemmas.Bool.{eqb-false}
 use Rattle.xmp_num.specs.Arithmetic.{FitsType}
 use Rattle.xmp_map.specs.declared.array_map.ArrayMap.{ArrayMap}
 use Rattle.xmp_map.specs.RowMajor.{row_major}
 use Rattle.xmp_map.specs.Boxes.{IsInside}
-use Rattle.xmp_prog.specs.declared.parts.ProgParts.{ProgParts}
-use Rattle.xmp_prog.specs.declared.parts.Home.{Home}
 use Rattle.xmp_prog.specs.declared.parts.Home.TheVariants as home
 use Rattle.xmp_prog.specs.declared.statements.LoopDirective.{LoopDirective}
 use Rattle.xmp_loops.specs.Objects.{array_object}
-use Rattle.xmp_meaning.specs.Cells.{row_in, with_cell}
+use Rattle.xmp_meaning.specs.Cells.{row_in}
 use Rattle.xmp_meaning.specs.Runs.{State}
 use Rattle.xmp_meaning.specs.Declarations.{extents, home_of, array_type}
 use Rattle.xmp_meaning.specs.Exchanges.{Notes}
@@ -21,7 +19,7 @@ use Rattle.xmp_meaning.specs.Traffic.{copied}
 use Rattle.xmp_move.specs.Sides.{owns_cell, holds_cell, position}
 use Rattle.xmp_move.specs.Stores.{word_at}
 use Rattle.xmp_move.specs.Whole.{Shows}
-use Rattle.xmp_nodes.proofs.Agrees.{Stand, IsWhole, Agrees, TurnLeaves, Framed}
+use Rattle.xmp_nodes.proofs.Agrees.{Stand, Agrees, Framed}
 use Rattle.xmp_nodes.proofs.Standing.{IsSetting}
 use Rattle.xmp_paths.specs.NodeSets.{has}
 use Rattle.xmp_nodes.proofs.NodeExpressions.{held_here}

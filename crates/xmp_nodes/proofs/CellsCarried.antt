@@ -1,12 +1,12 @@
 -- An assignment to an element, and `scanf` into one, at a node follow the serial ones.
-use Rattle.std.proofs.Common.{◌≡◌, ◌≢◌, ◌++◌, ◌==◌, ◌&&◌, ◌||◌, not, ◌⊎◌, inl, inr, ℕ, zero, suc, ℤ, pos, Bool, true, false, true≢false, List, [], ◌∷◌, map, length, Option, Some, None, refl, sym, subst, ap, ◌∙◌, if◌then◌else◌, eqb-true, append_assoc, ⊎_elim}
+use Rattle.std.proofs.Common.{◌≡◌, ◌++◌, ◌||◌, not, ◌⊎◌, inl, inr, ℕ, ℤ, Bool, true, false, true≢false, List, [], ◌∷◌, map, length, Option, Some, None, refl, sym, subst, ap, ◌∙◌, if◌then◌else◌, eqb-true, append_assoc}
 use Rattle.std.specs.Prelude.{is_some, slice_get, is_none}
 use Rattle.std.specs.List.{AllByRecursion, list_all}
 use Rattle.std.specs.Option.{option_map}
 use Rattle.std.proofs.lemmas.List.{length-map}
 use Rattle.std.proofs.lemmas.List.Folds.{list_all-append}
 use Rattle.xmp_base.specs.declared.place.Place.{Place}
-use Rattle.xmp_num.specs.Arithmetic.{FitsType, wrap}
+use Rattle.xmp_num.specs.Arithmetic.{wrap}
 use Rattle.xmp_num.specs.Decimal.{scan_of}
 use Rattle.xmp_map.specs.declared.array_map.ArrayMap.{ArrayMap}
 use Rattle.xmp_map.specs.Boxes.{IsInside}
@@ -15,7 +15,6 @@ use Rattle.xmp_paths.specs.Plans.{Plan, skip, emit, in_order, Path}
 use Rattle.xmp_paths.specs.Safe.{left, Safe, NothingWrong}
 use Rattle.xmp_paths.specs.declared.event.Event.{Event}
 use Rattle.xmp_paths.specs.declared.event.Event.TheVariants.{Mark, Wrong}
-use Rattle.xmp_prog.specs.declared.parts.ProgParts.{ProgParts}
 use Rattle.xmp_prog.specs.declared.parts.Array.{Array}
 use Rattle.xmp_prog.specs.declared.parts.Home.{Home}
 use Rattle.xmp_prog.specs.declared.parts.Home.TheVariants as home
@@ -26,50 +25,49 @@ use Rattle.xmp_prog.specs.declared.statements.LoopDirective.{LoopDirective}
 use Rattle.xmp_prog.specs.declared.statements.Target.TheVariants as target
 use Rattle.xmp_prog.specs.declared.statements.Plain.{Plain}
 use Rattle.xmp_prog.specs.declared.statements.Plain.TheVariants as plain
-use Rattle.xmp_prog.specs.Terms.{Term, terms_of, terms_of_access}
+use Rattle.xmp_prog.specs.Terms.{terms_of, terms_of_access}
 use Rattle.xmp_prog.specs.Tests.{is_image}
 use Rattle.xmp_prog.specs.Statements.{terms_of_plain}
-use Rattle.xmp_loops.specs.Objects.{array_object, all_nodes}
-use Rattle.xmp_flow.specs.Setting.{Setting, others, is_first_alone, wrong_where}
+use Rattle.xmp_loops.specs.Objects.{array_object}
+use Rattle.xmp_flow.specs.Setting.{others, is_first_alone, wrong_where}
 use Rattle.xmp_flow.specs.Reads.{reads_of, subscript_reads}
 use Rattle.xmp_flow.specs.Elements as flow
 use Rattle.xmp_flow.specs.Elements.{spread_events, copy_written, write_at_home, element_write, element_read}
-use Rattle.xmp_flow.specs.PlainEvents.{old_element, assignment_events, plain_events}
+use Rattle.xmp_flow.specs.PlainEvents.{old_element, plain_events}
 use Rattle.xmp_meaning.specs.declared.location.Location.TheVariants as location
 use Rattle.xmp_meaning.specs.declared.ends.Flow.{Flow}
-use Rattle.xmp_meaning.specs.declared.ends.Flow.TheVariants.{Next, Returned}
-use Rattle.xmp_meaning.specs.Cells.{write_in}
+use Rattle.xmp_meaning.specs.declared.ends.Flow.TheVariants.{Next}
 use Rattle.xmp_meaning.specs.Runs.{State, Step, Gave, Ended, Run, ◌>>=◌, pure, and_then}
 use Rattle.xmp_meaning.specs.Declarations.{extents, home_of, home_of_array, array_type}
 use Rattle.xmp_meaning.specs.Layouts.{Whole, Packed, number_of}
 use Rattle.xmp_meaning.specs.Context.{Context}
 use Rattle.xmp_meaning.specs.Handlers.{erased}
-use Rattle.xmp_meaning.specs.Expressions.{expr_of, cell_of}
-use Rattle.xmp_meaning.specs.Assignments.{new_value, store, store_read, assign, scan}
+use Rattle.xmp_meaning.specs.Expressions.{cell_of}
+use Rattle.xmp_meaning.specs.Assignments.{new_value, store, store_read, scan}
 use Rattle.xmp_meaning.specs.Statements.{plain_of}
 use Rattle.xmp_meaning.specs.Exchanges.{Notes}
 use Rattle.xmp_meaning.specs.Traffic.{node_context}
 use Rattle.xmp_meaning_laws.specs.Laws.{calls_pass, TakesNoStep}
-use Rattle.xmp_meaning_laws.specs.Agreement.{Spot, seen, seen_access, SpotIn, MayBe, StepsMeet, own_image}
+use Rattle.xmp_meaning_laws.specs.Agreement.{Spot, seen, SpotIn, MayBe, StepsMeet, own_image}
 use Rattle.xmp_meaning_laws.proofs.CountedLoops.{both_true}
 use Rattle.xmp_meaning_laws.proofs.Twins.{meet_on}
 use Rattle.xmp_meaning_laws.proofs.Values.{wrap_fits}
 use Rattle.xmp_move.specs.Sides.{owns_cell, holds_cell}
-use Rattle.xmp_nodes.proofs.Agrees.{Stand, Agrees, Framed, GoesOn, Along, Carried}
-use Rattle.xmp_nodes.proofs.Standing.{TermStands, IsSetting, IsLoopSetting}
+use Rattle.xmp_nodes.proofs.Agrees.{Stand, Agrees, Along, Carried}
+use Rattle.xmp_nodes.proofs.Standing.{TermStands, IsSetting}
 use Rattle.xmp_nodes.proofs.Leaves.{serial_cx, GivesNext}
 use Rattle.xmp_nodes.proofs.Follow.{framed_same, agrees_fewer}
-use Rattle.xmp_nodes.proofs.MetEvents.{EachEvent, EachOf, NoMark, IsFine, each_skip, each_ordered, each_is_fine, ordered_each}
+use Rattle.xmp_nodes.proofs.MetEvents.{EachEvent, EachOf, NoMark, IsFine, each_skip}
 use Rattle.xmp_nodes.proofs.ReadsMark.{reads_unmarked, subscripts_unmarked, element_unmarked, spread_unmarked}
 use Rattle.xmp_nodes.proofs.Readers.{Same, Any, OfOneCell}
 use Rattle.xmp_nodes.proofs.CellNumbers.{not_image, not_coarray}
 use Rattle.xmp_nodes.proofs.ElementCells.{known_in, maybe_inside, AllOwned, HeldIs, spread_cells}
-use Rattle.xmp_nodes.proofs.NodeExpressions.{agreed, term_test, terms_test, spot_is, all_there, template_of, held_here, MayGet, Beside, begins}
+use Rattle.xmp_nodes.proofs.NodeExpressions.{agreed, term_test, terms_test, spot_is, all_there, template_of, held_here, MayGet, Beside}
 use Rattle.xmp_nodes.proofs.NodeReads.{of_element, access_good, long_of, some_of, own_of, calls, plain_steps}
 use Rattle.xmp_nodes.proofs.NearSteps.{near_then, behind, fine_front, right_rest, joined_way, steps_before}
-use Rattle.xmp_nodes.proofs.PlainValues.{reading, both, value_calls, new_cell, cell_meets}
+use Rattle.xmp_nodes.proofs.PlainValues.{reading, value_calls, new_cell, cell_meets}
 use Rattle.xmp_nodes.proofs.PlainWrites.{agrees_taken}
-use Rattle.xmp_nodes.proofs.PlainWriting.{wrong_unmarked, none_way, one_way, mark_adds, MayPut, put_along}
+use Rattle.xmp_nodes.proofs.PlainWriting.{none_way, one_way, mark_adds, MayPut, put_along}
 use Rattle.xmp_nodes.proofs.PlainsCarried.{together, apart, no_more, first_node}
 
 -- ---- what the write of an element marks

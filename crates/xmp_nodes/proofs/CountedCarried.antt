@@ -1,74 +1,51 @@
 -- A counted loop of a task or a loop directive at a node that executes it, and what a statement writes part by part.
-use Rattle.std.proofs.Common.{◌≡◌, ◌≢◌, ◌<◌, ◌+◌, ◌%◌, ◌==◌, ◌||◌, ◌&&◌, not, if◌then◌else◌, ◌++◌, ◌⊎◌, inl, inr, ℕ, zero, suc, ℤ, pos, ◌+ℤ◌, Bool, true, false, true≢false, List, [], ◌∷◌, map, length, Option, Some, None, refl, sym, subst, ap, ◌∙◌, append-nil, bit_xor}
-use Rattle.std.specs.Prelude.{slice_get, unwrap_or}
+use Rattle.std.proofs.Common.{◌≡◌, ◌≢◌, ◌<◌, ◌+◌, ◌%◌, ◌==◌, ◌||◌, ◌&&◌, not, if◌then◌else◌, ◌++◌, inl, inr, ℕ, zero, suc, ℤ, pos, ◌+ℤ◌, Bool, true, false, List, [], ◌∷◌, map, Some, refl, sym, subst, ap, ◌∙◌, bit_xor}
 use Rattle.std.specs.Int.{bit_at}
 use Rattle.std.proofs.lemmas.Bool.{eqb-true, eq-eqb}
 use Rattle.std.proofs.lemmas.Nat.Bits.{bit_at_xor}
 use Rattle.std.specs.List.{AllByRecursion, concat}
-use Rattle.xmp_base.specs.declared.place.Place.{Place}
-use Rattle.xmp_num.specs.declared.types.Ty.{Ty}
 use Rattle.xmp_num.specs.declared.types.Ty.TheVariants.{Int}
 use Rattle.xmp_num.specs.Arithmetic.{FitsType, wrap}
-use Rattle.xmp_prog.specs.declared.parts.ProgParts.{ProgParts}
 use Rattle.xmp_prog.specs.declared.expressions.Expr.{Expr}
 use Rattle.xmp_prog.specs.declared.statements.LoopDirective.{LoopDirective}
 use Rattle.xmp_prog.specs.declared.statements.LoopHead.{LoopHead}
-use Rattle.xmp_prog.specs.declared.statements.Plain.{Plain}
-use Rattle.xmp_prog.specs.declared.statements.Plain.TheVariants as plain
-use Rattle.xmp_prog.specs.declared.statements.Stmt.{Stmt, map-Stmt}
-use Rattle.xmp_prog.specs.declared.statements.Stmt.TheOpen.{Stmt-F, Task-F}
+use Rattle.xmp_prog.specs.declared.statements.Stmt.{Stmt}
 use Rattle.xmp_prog.specs.declared.statements.Stmt.TheVariants as stmt
-use Rattle.xmp_prog.specs.declared.statements.Stmt.TheFolds.{ind-Stmt}
-use Rattle.xmp_prog.specs.declared.statements.Stmt.TheViews.{roll-Stmt}
-use Rattle.xmp_prog.specs.declared.statements.Task.{Task}
 use Rattle.xmp_prog.specs.Terms.{terms_of, type_of}
-use Rattle.xmp_prog.specs.Tests.{is_return}
 use Rattle.xmp_prog.specs.Fits.{node_count}
 use Rattle.xmp_prog.proofs.Rolls as rolls
 use Rattle.xmp_paths.specs.declared.event.Event.{Event}
-use Rattle.xmp_paths.specs.declared.event.Event.TheVariants.{Mark, Wrong}
+use Rattle.xmp_paths.specs.declared.event.Event.TheVariants.{Mark}
 use Rattle.xmp_paths.specs.NodeSets.{has}
-use Rattle.xmp_paths.specs.Plans.{Plan, skip, emit, sequence, branch, loop, Path, in_order}
+use Rattle.xmp_paths.specs.Plans.{Plan, skip, sequence, branch, loop, Path}
 use Rattle.xmp_paths.specs.Safe.{left, Safe, NothingWrong}
 use Rattle.xmp_paths.proofs.PathLaws.{some_path}
 use Rattle.xmp_paths.proofs.SafeLaws.{safe_paths, safe_front, safe_back}
 use Rattle.xmp_loops.specs.Objects.{scalar_object, all_nodes}
-use Rattle.xmp_flow.specs.Setting.{Setting, others, is_reduced, wrong_where, assigned}
+use Rattle.xmp_flow.specs.Setting.{others, is_reduced, assigned}
 use Rattle.xmp_flow.specs.Reads.{reads_of}
-use Rattle.xmp_flow.specs.PlainEvents.{in_form, plain_events}
-use Rattle.xmp_flow.specs.Statements.{events_of, if_form}
-use Rattle.xmp_flow.proofs.FormLaws.{events_plain, events_block, events_if, events_while, events_counted, events_loop, events_tasks}
 use Rattle.xmp_meaning.specs.declared.ends.Flow.{Flow}
 use Rattle.xmp_meaning.specs.declared.ends.Flow.TheVariants.{Next}
-use Rattle.xmp_meaning.specs.Runs.{State, Step, Run, Gave, Ended, and_then, ◌>>=◌, pure, scalar, set_scalar}
-use Rattle.xmp_meaning.specs.Blocks.{after, then_run, block, choose, turns}
+use Rattle.xmp_meaning.specs.Runs.{State, Step, Run, Gave, Ended, and_then, ◌>>=◌, pure, set_scalar}
+use Rattle.xmp_meaning.specs.Blocks.{after, then_run, choose, turns}
 use Rattle.xmp_meaning.specs.Context.{Context}
 use Rattle.xmp_meaning.specs.Handlers.{Handlers, erased}
-use Rattle.xmp_meaning.specs.Expressions.{expr_of, holds, is_zero}
-use Rattle.xmp_meaning.specs.Loops.{is_inside, turn_count, entering, inside, step_up, counted}
-use Rattle.xmp_meaning.specs.Statements.{plain_of, stmt_of}
+use Rattle.xmp_meaning.specs.Expressions.{expr_of}
+use Rattle.xmp_meaning.specs.Loops.{is_inside, turn_count, inside, step_up, counted}
 use Rattle.xmp_meaning.specs.Declarations.{scalar_type}
 use Rattle.xmp_meaning.specs.Exchanges.{Notes, traced}
 use Rattle.xmp_meaning.specs.Traffic.{node_context}
 use Rattle.xmp_meaning.specs.Writes.{scalars_step, arrays_step, written_in_task, scalars_written, arrays_written}
 use Rattle.xmp_meaning.proofs.Sequences.{associative}
-use Rattle.xmp_meaning.proofs.Forms.{stmt_plain, stmt_block, stmt_if, stmt_counted}
-use Rattle.xmp_meaning_laws.specs.Laws.{scalar_in, is_plain}
+use Rattle.xmp_meaning_laws.specs.Laws.{scalar_in}
 use Rattle.xmp_meaning_laws.proofs.Conditions.{all_apart}
 use Rattle.xmp_meaning_laws.proofs.Values.{wrap_fits}
-use Rattle.xmp_nodes.specs.Tasks.{TaskOf}
-use Rattle.xmp_nodes.specs.Lockstep.{Both, both_step, task_both, lockstep}
 use Rattle.xmp_nodes.proofs.Agrees.{Stand, Agrees, Along, Carried, Anything, IsNext, is_changed}
-use Rattle.xmp_nodes.proofs.Standing.{IsGlobal, TermStands, PartFits, NoReturn, IsSetting, WritesFit}
+use Rattle.xmp_nodes.proofs.Standing.{TermStands, IsSetting, WritesFit}
 use Rattle.xmp_nodes.proofs.Leaves as leaves
 use Rattle.xmp_nodes.proofs.Leaves.{serial_cx, noting, GivesNext}
-use Rattle.xmp_nodes.proofs.Below.{every_plain, every_block, every_if, every_counted}
-use Rattle.xmp_nodes.proofs.Follow.{left_append, right_front, right_back, right_first, right_second, right_turn, agrees_fewer, way_joined, way_none, framed_same, goes_weaker, goes_behind, carried_pure, carried_weaker, carried_paths, carried_on, carried_last, carried_choose, carried_block}
-use Rattle.xmp_nodes.proofs.InStep.{way_first, way_last, way_skipped}
-use Rattle.xmp_nodes.proofs.MainSteps.{with_scalar}
-use Rattle.xmp_nodes.proofs.LoopsInStep.{MarksNothing, turn_plan, one_turn, unrolled}
-use Rattle.xmp_nodes.proofs.CountedInStep.{way_skip, way_loop}
-use Rattle.xmp_nodes.proofs.Lockstep.{index_int, index_unwritten}
+use Rattle.xmp_nodes.proofs.Follow.{left_append, agrees_fewer, way_none, framed_same, goes_weaker, goes_behind, carried_pure, carried_last}
+use Rattle.xmp_nodes.proofs.LoopsInStep.{MarksNothing, one_turn, unrolled}
 use Rattle.xmp_nodes.proofs.NodeBits.{all_have}
 use Rattle.xmp_nodes.proofs.CastLaws.{untouched}
 use Rattle.xmp_nodes.proofs.PlainWrites.{agrees_set, set_framed}
@@ -113,7 +90,7 @@ module _ (a : Stand) where
       arrays = λ d o. (all_apart (λ array. a.set.written array ≡ true) (arrays_written x) (concat (map arrays_written xs)) (r d o)).0;
     },
     writes_each xs (λ d o. (all_apart (λ slot. is_changed (a.set.roles slot) ≡ true) (scalars_written x) (concat (map scalars_written xs)) (s d o)).1)
-    (λ d o. (all_apart (λ array. a.set.written array ≡ true) (arrays_written x) (concat (map arrays_written xs)) (r d o)).1),
+        (λ d o. (all_apart (λ array. a.set.written array ≡ true) (arrays_written x) (concat (map arrays_written xs)) (r d o)).1),
   )
 
   pub writes_block : (all : List Stmt) → WritesFit a (stmt.Block all) → AllByRecursion (WritesFit a) all

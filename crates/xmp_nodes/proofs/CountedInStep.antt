@@ -1,16 +1,13 @@
 -- Counted loops of all nodes in step: the index is current at the head of each turn.
-use Rattle.std.proofs.Common.{◌≡◌, ◌≢◌, ◌<◌, ◌++◌, ◌==◌, ◌⊎◌, inl, inr, ℕ, zero, suc, ℤ, pos, ◌+ℤ◌, Bool, true, false, true≢false, List, [], ◌∷◌, length, Option, Some, None, refl, sym, subst, ap, ◌∙◌, append-nil, bit_xor, ⊎_elim, arith}
+use Rattle.std.proofs.Common.{◌≡◌, ◌<◌, ◌++◌, inl, inr, ℕ, zero, suc, Bool, true, false, true≢false, List, [], ◌∷◌, refl, sym, subst, ap, ◌∙◌, append-nil, bit_xor, ⊎_elim, arith}
 use Rattle.std.proofs.lemmas.Option.{slice_get_within}
 use Rattle.xmp_base.specs.declared.place.Place.{Place}
-use Rattle.xmp_num.specs.declared.types.Ty.TheVariants.{Int}
-use Rattle.xmp_num.specs.Arithmetic.{FitsType, wrap}
 use Rattle.xmp_prog.specs.declared.parts.ProgParts.{ProgParts}
-use Rattle.xmp_prog.specs.declared.statements.LoopHead.{LoopHead}
 use Rattle.xmp_prog.specs.Fits.{node_count}
 use Rattle.xmp_paths.specs.declared.event.Event.{Event}
 use Rattle.xmp_paths.specs.declared.event.Event.TheVariants.{Read, Mark}
 use Rattle.xmp_paths.specs.NodeSets.{has}
-use Rattle.xmp_paths.specs.Plans.{Plan, skip, emit, sequence, branch, loop, Path, Repeated, in_order}
+use Rattle.xmp_paths.specs.Plans.{Plan, skip, emit, sequence, branch, loop, Path, Repeated}
 use Rattle.xmp_paths.specs.Safe.{left, Safe}
 use Rattle.xmp_paths.proofs.PathLaws.{not_empty}
 use Rattle.xmp_paths.proofs.SafeLaws.{safe_fewer, safe_paths, safe_front, safe_back, safe_both, safe_read}
@@ -19,18 +16,15 @@ use Rattle.xmp_flow.specs.Setting.{assigned}
 use Rattle.xmp_flow.specs.Program.{outermost}
 use Rattle.xmp_meaning.specs.declared.ends.Flow.{Flow}
 use Rattle.xmp_meaning.specs.declared.ends.Flow.TheVariants.{Next}
-use Rattle.xmp_meaning.specs.Runs.{State, StepIn, RunIn, Step, Run, Gave, Ended, ◌>>=◌, pure, scalar, set_scalar}
+use Rattle.xmp_meaning.specs.Runs.{State, RunIn, Run, ◌>>=◌, pure}
 use Rattle.xmp_meaning.specs.Blocks.{then_run, choose, turns}
-use Rattle.xmp_meaning.specs.Loops.{is_inside, turn_count, step_up}
-use Rattle.xmp_meaning.specs.Declarations.{scalar_type}
 use Rattle.xmp_meaning.specs.Exchanges.{Notes}
-use Rattle.xmp_meaning_laws.proofs.Values.{wrap_fits}
-use Rattle.xmp_nodes.specs.Nodes.{Nodes, all_do}
-use Rattle.xmp_nodes.proofs.Agrees.{Carried, Anything, IsNext, at_main, ReadyAt, Ready, AllAlong, AllFollow}
-use Rattle.xmp_nodes.proofs.Follow.{way_joined, way_none, carried_pure, carried_weaker, carried_on, carried_last}
+use Rattle.xmp_nodes.specs.Nodes.{Nodes}
+use Rattle.xmp_nodes.proofs.Agrees.{Anything, IsNext, Ready, AllFollow}
+use Rattle.xmp_nodes.proofs.Follow.{way_none}
 use Rattle.xmp_nodes.proofs.NodeBits.{all_have}
-use Rattle.xmp_nodes.proofs.InStep.{way_first, way_last, way_left, way_right, ready_paths, all_pure, all_value, all_paths, all_on, all_then, all_choose, all_alone}
-use Rattle.xmp_nodes.proofs.MainSteps.{set_marked, read_here, mark_clears}
+use Rattle.xmp_nodes.proofs.InStep.{way_first, way_last, way_left, way_right, ready_paths, all_pure, all_on, all_then, all_choose}
+use Rattle.xmp_nodes.proofs.MainSteps.{mark_clears}
 use Rattle.xmp_nodes.proofs.LoopsInStep.{MarksNothing, ready_idle, turn_plan, one_turn, unrolled, idle_turns}
 
 -- ---- another plan, which is safe where this one is
@@ -167,10 +161,10 @@ module _ (p : ProgParts) (slot : ℕ) (at : Place) where
         let first : Safe node (sequence look (sequence loop_plan rest)) stale = right node look loop_plan rest stale s in
         let current : Current node below stale = now_current node below (sequence loop_plan rest) stale first in
         let unfolded : Safe node (sequence (one_turn p t (sequence b mark)) rest) stale =
-            safe_paths node (sequence loop_plan rest) (sequence (one_turn p t (sequence b mark)) rest) stale
-            (way_first (one_turn p t (sequence b mark)) loop_plan rest (unrolled p t (sequence b mark))) (behind_look node below (sequence loop_plan rest) stale first) in
+        safe_paths node (sequence loop_plan rest) (sequence (one_turn p t (sequence b mark)) rest) stale
+        (way_first (one_turn p t (sequence b mark)) loop_plan rest (unrolled p t (sequence b mark))) (behind_look node below (sequence loop_plan rest) stale first) in
         let apart : Safe node (sequence t (sequence (branch (sequence (sequence b mark) loop_plan) skip) rest)) stale =
-            right node t (branch (sequence (sequence b mark) loop_plan) skip) rest stale unfolded in
+        right node t (branch (sequence (sequence b mark) loop_plan) skip) rest stale unfolded in
         flat node (sequence look t) (branch (sequence (sequence b (sequence look mark)) (sequence look loop_plan)) skip) rest stale
         (flat node look t (sequence (branch (sequence (sequence b (sequence look mark)) (sequence look loop_plan)) skip) rest) stale
         (looked node below (sequence t (sequence (branch (sequence (sequence b (sequence look mark)) (sequence look loop_plan)) skip) rest)) stale current
@@ -187,11 +181,11 @@ module _ (p : ProgParts) (slot : ℕ) (at : Place) where
             (flat node b (sequence look mark) (sequence (sequence look loop_plan) rest) more
             (safe_both node b (sequence (sequence look mark) (sequence (sequence look loop_plan) rest)) more (safe_front node b (sequence mark (sequence loop_plan rest)) more body)
             (λ way w.
-                let after : Safe node (sequence mark (sequence loop_plan rest)) (left node way more) = safe_back node b (sequence mark (sequence loop_plan rest)) more body way w in
-                flat node look mark (sequence (sequence look loop_plan) rest) (left node way more)
-                (looked node below (sequence mark (sequence (sequence look loop_plan) rest)) (left node way more) (kept node below way w more c)
-                (behind_mark node below (sequence loop_plan rest) (sequence (sequence look loop_plan) rest) (left node way more) after
-                (λ then d k. flat node look loop_plan rest then (looked node below (sequence loop_plan rest) then d k)))))))
+            let after : Safe node (sequence mark (sequence loop_plan rest)) (left node way more) = safe_back node b (sequence mark (sequence loop_plan rest)) more body way w in
+            flat node look mark (sequence (sequence look loop_plan) rest) (left node way more)
+            (looked node below (sequence mark (sequence (sequence look loop_plan) rest)) (left node way more) (kept node below way w more c)
+            (behind_mark node below (sequence loop_plan rest) (sequence (sequence look loop_plan) rest) (left node way more) after
+            (λ then d k. flat node look loop_plan rest then (looked node below (sequence loop_plan rest) then d k)))))))
 
         in_turn : (more : ℕ → Bool) → more (scalar_object slot) ≡ false → Safe node (sequence (branch (sequence (sequence b mark) loop_plan) skip) rest) more
             → Safe node (sequence (branch (sequence (sequence b (sequence look mark)) (sequence look loop_plan)) skip) rest) more
@@ -228,8 +222,8 @@ module _ (p : ProgParts) (slot : ℕ) (at : Place) where
     safe_entry : SafeToo p counted_plan (sequence (sequence f (sequence mark t)) (sequence look loop_plan))
     safe_entry node below stale rest s =
         let first : Safe node (sequence f (sequence mark (sequence loop_plan rest))) stale =
-            safe_paths node (sequence f (sequence (sequence mark loop_plan) rest)) (sequence f (sequence mark (sequence loop_plan rest))) stale
-            (way_last f (sequence mark (sequence loop_plan rest)) (sequence (sequence mark loop_plan) rest) (way_right' mark loop_plan rest)) (right node f (sequence mark loop_plan) rest stale s) in
+        safe_paths node (sequence f (sequence (sequence mark loop_plan) rest)) (sequence f (sequence mark (sequence loop_plan rest))) stale
+        (way_last f (sequence mark (sequence loop_plan rest)) (sequence (sequence mark loop_plan) rest) (way_right' mark loop_plan rest)) (right node f (sequence mark loop_plan) rest stale s) in
         flat node (sequence f (sequence mark t)) (sequence look loop_plan) rest stale
         (flat node f (sequence mark t) (sequence (sequence look loop_plan) rest) stale
         (safe_both node f (sequence (sequence mark t) (sequence (sequence look loop_plan) rest)) stale (safe_front node f (sequence mark (sequence loop_plan rest)) stale first)

@@ -1,19 +1,16 @@
 -- The cells of an element that a node reads or writes where nothing is wrong: it owns them, or holds them with a current
 -- shadow.
-use Rattle.std.proofs.Common.{◌≡◌, ◌<◌, ◌≤◌, ◌+◌, ◌-◌, ◌++◌, ◌==◌, ◌&&◌, ◌||◌, ◌⊎◌, inl, inr, ℕ, zero, suc, ℤ, pos, neg_ℤ, ◌+ℤ◌, Bool, true, false, true≢false, List, [], ◌∷◌, length, map, Option, Some, None, refl, sym, subst, ap, ◌∙◌, if◌then◌else◌, arith, eqb-true}
-use Rattle.std.specs.Prelude.{slice_get, nat_lt, int_le, replicate, unwrap_or, is_none, is_some}
+use Rattle.std.proofs.Common.{◌≡◌, ◌≤◌, ◌+◌, ◌-◌, ◌==◌, ◌&&◌, ◌⊎◌, inl, inr, ℕ, zero, suc, ℤ, pos, neg_ℤ, ◌+ℤ◌, Bool, true, false, List, [], ◌∷◌, length, map, Option, Some, None, refl, sym, subst, ap, ◌∙◌, if◌then◌else◌, arith, eqb-true}
+use Rattle.std.specs.Prelude.{slice_get, int_le, replicate, unwrap_or, is_none}
 use Rattle.std.specs.List.{AllByRecursion, list_all, flat_map}
-use Rattle.std.specs.Option.{option_map}
 use Rattle.std.proofs.lemmas.List.{length-map, length-append, length-replicate}
 use Rattle.xmp_base.specs.declared.place.Place.{Place}
-use Rattle.xmp_num.specs.declared.types.Ty.{Ty}
 use Rattle.xmp_num.specs.declared.types.Ty.TheVariants.{Int}
 use Rattle.xmp_num.specs.Arithmetic.{FitsType}
 use Rattle.xmp_map.specs.declared.fault.MapError.TheVariants.{Align, Shadow}
 use Rattle.xmp_map.specs.declared.spread_dim.SpreadDim.{SpreadDim}
 use Rattle.xmp_map.specs.declared.aligned.AlignedDim.{AlignedDim}
 use Rattle.xmp_map.specs.declared.array_map.ArrayMap.{ArrayMap}
-use Rattle.xmp_map.specs.declared.template.Template.{Template}
 use Rattle.xmp_map.specs.RowMajor.{unravel}
 use Rattle.xmp_map.specs.Boxes.{IsInside}
 use Rattle.xmp_map.specs.Spread.{owns_point}
@@ -21,40 +18,32 @@ use Rattle.xmp_map.specs.Align.{is_target, is_shadow, names_fit, map_fault}
 use Rattle.xmp_map.specs.Held as held
 use Rattle.xmp_map.proofs.Counted.{and_left, and_right}
 use Rattle.xmp_paths.specs.NodeSets.{has}
-use Rattle.xmp_paths.specs.Plans.{Plan, skip, emit}
-use Rattle.xmp_paths.specs.declared.event.Event.{Event}
-use Rattle.xmp_paths.specs.declared.event.Event.TheVariants.{Read, Wrong, Mark}
-use Rattle.xmp_prog.specs.declared.parts.ProgParts.{ProgParts}
-use Rattle.xmp_prog.specs.declared.parts.Array.{Array}
-use Rattle.xmp_prog.specs.declared.parts.Home.{Home}
+use Rattle.xmp_paths.specs.Plans.{skip, emit}
+use Rattle.xmp_paths.specs.declared.event.Event.TheVariants.{Read, Wrong}
 use Rattle.xmp_prog.specs.declared.parts.Home.TheVariants as home
 use Rattle.xmp_prog.specs.declared.expressions.Expr.{Expr}
 use Rattle.xmp_prog.specs.declared.statements.LoopDirective.{LoopDirective}
 use Rattle.xmp_prog.specs.declared.statements.Point.{Point}
 use Rattle.xmp_prog.specs.declared.statements.Point.TheVariants as point
-use Rattle.xmp_prog.specs.Tests.{is_image}
-use Rattle.xmp_prog.specs.Fits.{HomeFits, SpreadFits}
-use Rattle.xmp_prog.specs.Directives.{has_points, dim_count, points_indices}
+use Rattle.xmp_prog.specs.Directives.{dim_count}
 use Rattle.xmp_prog.specs.Statements.{slots_of_point}
 use Rattle.xmp_loops.specs.Objects.{array_object, all_nodes}
 use Rattle.xmp_loops.specs.Offsets.{Offset, offsets_of, is_own, is_within}
 use Rattle.xmp_loops.specs.declared.role.Role.{Role}
 use Rattle.xmp_loops.specs.declared.role.Role.TheVariants.{Shared, Index, Reduced, Own}
-use Rattle.xmp_flow.specs.Setting.{Setting}
 use Rattle.xmp_flow.specs.Elements.{shadow_read, offset_events, spread_events}
 use Rattle.xmp_meaning.specs.Runs.{State}
-use Rattle.xmp_meaning.specs.Declarations.{extents, extents_of_array, home_of, home_of_array, scalar_type}
+use Rattle.xmp_meaning.specs.Declarations.{extents, home_of, scalar_type}
 use Rattle.xmp_meaning.specs.Parts.{position_at, owns_positions, owns_iteration}
 use Rattle.xmp_meaning.specs.Exchanges.{Notes}
 use Rattle.xmp_meaning_laws.specs.Laws.{ValuesLie, scalar_in}
 use Rattle.xmp_meaning_laws.specs.Agreement.{seen, MayBe}
-use Rattle.xmp_meaning_laws.specs.Near.{is_near, is_at, PointsReach}
 use Rattle.xmp_meaning_laws.proofs.Reach.{points_reach}
 use Rattle.xmp_move.specs.Sides.{padded, owns_cell, holds_cell}
 use Rattle.xmp_move.specs.Laid.{MapFits}
 use Rattle.xmp_move.specs.Kept.{IsOfCode, HasThree}
 use Rattle.xmp_nodes.proofs.Agrees.{Stand}
-use Rattle.xmp_nodes.proofs.Standing.{IsGlobal, IsSetting, IsLoopSetting}
+use Rattle.xmp_nodes.proofs.Standing.{IsSetting, IsLoopSetting}
 use Rattle.xmp_nodes.proofs.MetEvents.{EachEvent, IsFine}
 use Rattle.xmp_nodes.proofs.Subscripts.{all_beside}
 use Rattle.xmp_nodes.proofs.CellNumbers.{item_of, code, fits_map, small_extents, padded_inside}

@@ -1,39 +1,35 @@
 -- Expressions at a node follow the serial ones along their reads.
-use Rattle.std.proofs.Common.{◌≡◌, ◌<◌, ◌++◌, ◌&&◌, ℕ, ℤ, Bool, true, false, List, [], ◌∷◌, map, Option, Some, None, refl, sym, subst, ap, ◌∙◌, arith}
-use Rattle.std.specs.List.{AllByRecursion, list_all}
+use Rattle.std.proofs.Common.{◌≡◌, ◌<◌, ◌++◌, ℕ, ℤ, Bool, true, List, Some, refl, sym, subst, ap, ◌∙◌, arith}
+use Rattle.std.specs.List.{AllByRecursion}
 use Rattle.xmp_num.specs.declared.types.Ty.{Ty}
 use Rattle.xmp_num.specs.Arithmetic.{FitsType}
 use Rattle.xmp_paths.specs.NodeSets.{has}
 use Rattle.xmp_paths.specs.Plans.{Plan, Path}
-use Rattle.xmp_paths.specs.Safe.{left, Safe, NothingWrong}
+use Rattle.xmp_paths.specs.Safe.{left}
 use Rattle.xmp_paths.specs.declared.event.Event.{Event}
 use Rattle.xmp_paths.proofs.PathLaws.{some_path}
-use Rattle.xmp_prog.specs.declared.parts.ProgParts.{ProgParts}
 use Rattle.xmp_prog.specs.declared.expressions.Expr.{Expr}
-use Rattle.xmp_prog.specs.declared.statements.LoopDirective.{LoopDirective}
 use Rattle.xmp_prog.specs.Terms.{terms_of, type_of}
 use Rattle.xmp_prog.specs.Fits.{node_count}
 use Rattle.xmp_flow.specs.Reads.{reads_of}
-use Rattle.xmp_meaning.specs.declared.ends.End.{End}
-use Rattle.xmp_meaning.specs.Runs.{State, Step, StepIn, Gave, Ended, Run}
+use Rattle.xmp_meaning.specs.Runs.{State, Step, Gave, Ended, Run}
 use Rattle.xmp_meaning.specs.Handlers.{erased}
 use Rattle.xmp_meaning.specs.Expressions.{expr_of}
-use Rattle.xmp_meaning.specs.Exchanges.{Notes, traced}
+use Rattle.xmp_meaning.specs.Exchanges.{Notes}
 use Rattle.xmp_meaning.specs.Traffic.{node_context}
 use Rattle.xmp_meaning_laws.specs.Laws.{TakesNoStep, GivesA}
 use Rattle.xmp_meaning_laws.specs.Agreement.{seen, StepsMeet, IsKnown}
 use Rattle.xmp_meaning_laws.proofs.Types.{expressions_lie}
-use Rattle.xmp_nodes.proofs.Agrees.{Stand, Agrees, Framed, TurnLeaves, GoesOn, EndsSo, Along, Carried}
-use Rattle.xmp_nodes.proofs.Standing.{IsGlobal, TermStands, IsSetting}
+use Rattle.xmp_nodes.proofs.Agrees.{Stand, Agrees, Framed, TurnLeaves, Along}
+use Rattle.xmp_nodes.proofs.Standing.{TermStands, IsSetting}
 use Rattle.xmp_nodes.proofs.Leaves.{serial_cx, ExpressionsCarry}
-use Rattle.xmp_nodes.proofs.Follow.{agrees_fewer, turn_same}
+use Rattle.xmp_nodes.proofs.Follow.{agrees_fewer}
 use Rattle.xmp_nodes.proofs.MetEvents.{EachEvent, IsFine, each_is_fine}
 use Rattle.xmp_nodes.proofs.ReadsMark.{reads_unmarked, reads_keep}
-use Rattle.xmp_nodes.proofs.Readers.{Same}
 use Rattle.xmp_nodes.proofs.SameRuns.{noted_expr}
 use Rattle.xmp_nodes.proofs.ElementCells.{known_in}
-use Rattle.xmp_nodes.proofs.NodeExpressions.{terms_fit, agreed, MayGet, Beside, readers}
-use Rattle.xmp_nodes.proofs.NodeReads.{Good, seen_good, expr_meets, expr_steps, agrees_stepped}
+use Rattle.xmp_nodes.proofs.NodeExpressions.{terms_fit, agreed, Beside}
+use Rattle.xmp_nodes.proofs.NodeReads.{seen_good, expr_meets, expr_steps, agrees_stepped}
 
 pub first_below : (k n : ℕ) → k < n → 0 < n
 first_below k n h = omega (arith, h)

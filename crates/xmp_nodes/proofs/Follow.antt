@@ -1,23 +1,18 @@
 -- A node's run follows the serial run: along a sequence, a branch and a loop.
-use Rattle.std.proofs.Common.{◌≡◌, ◌++◌, ◌⊎◌, inl, inr, ℕ, zero, suc, ℤ, Bool, true, false, List, [], ◌∷◌, map, Option, Some, None, refl, sym, subst, ap, ◌∙◌, append_assoc, append-nil}
+use Rattle.std.proofs.Common.{◌≡◌, ◌++◌, inl, inr, ℕ, suc, Bool, true, false, List, [], ◌∷◌, map, refl, sym, subst, ap, ◌∙◌, append-nil}
 use Rattle.std.specs.List.{AllByRecursion}
-use Rattle.xmp_prog.specs.declared.parts.ProgParts.{ProgParts}
-use Rattle.xmp_prog.specs.declared.statements.LoopDirective.{LoopDirective}
 use Rattle.xmp_paths.specs.declared.event.Event.{Event}
-use Rattle.xmp_paths.specs.Plans.{Plan, skip, emit, sequence, branch, loop, Path, in_order}
+use Rattle.xmp_paths.specs.Plans.{Plan, skip, sequence, branch, loop, Path, in_order}
 use Rattle.xmp_paths.specs.Safe.{left, Safe, NothingWrong}
-use Rattle.xmp_paths.proofs.PathLaws.{some_path, walk-append, walk_keeps}
-use Rattle.xmp_paths.proofs.SafeLaws.{safe_fewer, safe_paths, safe_front, safe_back, safe_both}
+use Rattle.xmp_paths.proofs.PathLaws.{walk-append}
+use Rattle.xmp_paths.proofs.SafeLaws.{safe_paths, safe_front, safe_back}
 use Rattle.xmp_loops.specs.Objects.{scalar_object, array_object}
-use Rattle.xmp_loops.specs.declared.role.Role.{Role}
-use Rattle.xmp_loops.specs.declared.role.Role.TheVariants.{Shared, Index, Reduced, Own}
-use Rattle.xmp_meaning.specs.declared.ends.End.{End}
 use Rattle.xmp_meaning.specs.declared.ends.Flow.{Flow}
-use Rattle.xmp_meaning.specs.declared.ends.Flow.TheVariants.{Next, Returned}
-use Rattle.xmp_meaning.specs.Runs.{State, StepIn, RunIn, Step, Run, Gave, Ended, and_then, ◌>>=◌, pure}
-use Rattle.xmp_meaning.specs.Blocks.{each, after, then_run, block, choose, turns}
+use Rattle.xmp_meaning.specs.declared.ends.Flow.TheVariants.{Next}
+use Rattle.xmp_meaning.specs.Runs.{State, Step, Run, Gave, Ended, and_then, ◌>>=◌, pure}
+use Rattle.xmp_meaning.specs.Blocks.{after, then_run, block, choose}
 use Rattle.xmp_meaning.specs.Exchanges.{Notes}
-use Rattle.xmp_nodes.proofs.Agrees.{Stand, IsWhole, Agrees, TurnLeaves, Framed, GoesOn, EndsSo, Along, Carried, Anything, IsNext, StandsStill, Still, Skipped}
+use Rattle.xmp_nodes.proofs.Agrees.{Stand, Agrees, TurnLeaves, Framed, Along, Carried, IsNext, Still, Skipped}
 
 -- ---- nothing wrong, part by part
 

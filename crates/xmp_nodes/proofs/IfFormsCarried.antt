@@ -1,59 +1,46 @@
 -- A node follows the serial run of `if (q) v = x;` that is the form of a maximum or a minimum.
-use Rattle.std.proofs.Common.{◌≡◌, ◌<◌, ◌⊎◌, inl, inr, ◌==◌, ◌&&◌, ◌||◌, not, if◌then◌else◌, ℕ, zero, suc, ℤ, pos, Bool, true, false, true≢false, List, [], ◌∷◌, ◌++◌, length, map, Option, Some, None, Ok, refl, sym, subst, ap, ◌∙◌}
-use Rattle.std.specs.Prelude.{slice_get, slice_set, unwrap_or}
-use Rattle.std.specs.List.{AllByRecursion, list_all}
-use Rattle.std.proofs.lemmas.Int.{int_wrap_fits}
+use Rattle.std.proofs.Common.{◌≡◌, ◌<◌, ◌⊎◌, inl, inr, ◌||◌, ℕ, ℤ, Bool, true, false, true≢false, List, [], ◌∷◌, length, None, refl, sym, subst, ap, ◌∙◌}
+use Rattle.std.specs.List.{AllByRecursion}
 use Rattle.xmp_base.specs.declared.place.Place.{Place}
 use Rattle.xmp_num.specs.declared.types.RedOp.{RedOp}
 use Rattle.xmp_num.specs.declared.types.RedOp.TheVariants as red
 use Rattle.xmp_num.specs.declared.types.BinOp.{BinOp}
 use Rattle.xmp_num.specs.declared.types.BinOp.TheVariants as op
 use Rattle.xmp_num.specs.declared.types.Ty.{Ty}
-use Rattle.xmp_num.specs.Arithmetic.{FitsType, width_of, wrap, binary_of, truth}
+use Rattle.xmp_num.specs.Arithmetic.{FitsType, wrap}
 use Rattle.xmp_num.specs.Reduction.{combine_of}
-use Rattle.xmp_map.specs.declared.grid.NodeSet.{NodeSet}
 use Rattle.xmp_map.proofs.Counted.{and_left, and_right}
 use Rattle.xmp_paths.specs.NodeSets.{has}
 use Rattle.xmp_paths.specs.Plans.{Plan, in_order}
 use Rattle.xmp_paths.specs.Safe.{Safe, NothingWrong}
 use Rattle.xmp_paths.specs.declared.event.Event.{Event}
 use Rattle.xmp_prog.specs.declared.parts.ProgParts.{ProgParts}
-use Rattle.xmp_prog.specs.declared.expressions.Expr.{Expr, out-Expr}
+use Rattle.xmp_prog.specs.declared.expressions.Expr.{Expr}
 use Rattle.xmp_prog.specs.declared.expressions.Expr.TheVariants as expr
-use Rattle.xmp_prog.specs.declared.expressions.Expr.TheOpen.{Expr-F, Access-F}
-use Rattle.xmp_prog.specs.declared.expressions.Expr.TheViews.{roll-Expr, roll-out-Expr}
-use Rattle.xmp_prog.specs.declared.expressions.Access.{Access}
-use Rattle.xmp_prog.specs.declared.statements.Compound.{Compound}
-use Rattle.xmp_prog.specs.declared.statements.Target.{Target}
+use Rattle.xmp_prog.specs.declared.expressions.Expr.TheOpen.{Expr-F}
 use Rattle.xmp_prog.specs.declared.statements.Target.TheVariants as target
 use Rattle.xmp_prog.specs.declared.statements.Plain.{Plain}
 use Rattle.xmp_prog.specs.declared.statements.Plain.TheVariants as plain
-use Rattle.xmp_prog.specs.declared.statements.Stmt.{Stmt, out-Stmt}
+use Rattle.xmp_prog.specs.declared.statements.Stmt.{Stmt}
 use Rattle.xmp_prog.specs.declared.statements.Stmt.TheVariants as stmt
-use Rattle.xmp_prog.specs.declared.statements.Stmt.TheOpen.{Stmt-F}
-use Rattle.xmp_prog.specs.declared.statements.Stmt.TheViews.{roll-Stmt, roll-out-Stmt}
-use Rattle.xmp_prog.specs.declared.statements.Task.{Task}
 use Rattle.xmp_prog.specs.Numbers.{same_type}
 use Rattle.xmp_prog.specs.Terms.{Term, Of, Typed, typed_step, terms_of, type_of}
 use Rattle.xmp_prog.specs.Terms as terms
-use Rattle.xmp_prog.specs.Tests.{is_shift, right_fits, operands_fit}
+use Rattle.xmp_prog.specs.Tests.{is_shift, right_fits}
 use Rattle.xmp_prog.proofs.Rolls as rolls
-use Rattle.xmp_loops.specs.Same.{same_operator, same}
-use Rattle.xmp_loops.specs.Forms.{in_other_type, in_type, names, goes_before, goes_behind, if_apart, variable, compared, guarded_form, is_nothing, assigns}
-use Rattle.xmp_loops.specs.declared.role.Role.{Role}
-use Rattle.xmp_loops.specs.declared.role.Role.TheVariants.{Shared, Index, Reduced, Own}
-use Rattle.xmp_flow.specs.Setting.{Setting}
+use Rattle.xmp_loops.specs.Same.{same}
+use Rattle.xmp_loops.specs.Forms.{in_type, goes_before, goes_behind, variable}
+use Rattle.xmp_loops.specs.declared.role.Role.TheVariants.{Reduced}
 use Rattle.xmp_flow.specs.Reads.{reads_of, reads_of_all}
-use Rattle.xmp_flow.specs.Statements.{if_form, form_of_if}
 use Rattle.xmp_meaning.specs.declared.ends.End.{End}
 use Rattle.xmp_meaning.specs.declared.ends.Flow.{Flow}
 use Rattle.xmp_meaning.specs.declared.ends.Flow.TheVariants.{Next}
-use Rattle.xmp_meaning.specs.Runs.{State, Step, Gave, Ended, Run, and_then, ◌>>=◌, pure, or_trap}
+use Rattle.xmp_meaning.specs.Runs.{State, Gave, Ended, Run, ◌>>=◌}
 use Rattle.xmp_meaning.specs.Blocks.{block, choose}
 use Rattle.xmp_meaning.specs.Context.{Context}
 use Rattle.xmp_meaning.specs.Handlers.{Handlers, TaskRun, erased}
 use Rattle.xmp_meaning.specs.Declarations.{scalar_type}
-use Rattle.xmp_meaning.specs.Expressions.{Element, expr_step, access_step, expr_of, is_zero, holds}
+use Rattle.xmp_meaning.specs.Expressions.{Element, expr_step, access_step, expr_of, holds}
 use Rattle.xmp_meaning.specs.Statements.{plain_of, stmt_step, task_step, stmt_of}
 use Rattle.xmp_meaning.specs.Exchanges.{Notes, traced}
 use Rattle.xmp_meaning.specs.Traffic.{node_context}
@@ -68,9 +55,9 @@ use Rattle.xmp_nodes.proofs.SameRuns.{noted_expr, noted_plain, alone_is_erased}
 use Rattle.xmp_nodes.proofs.PartSplits.{plain_fits}
 use Rattle.xmp_nodes.proofs.PlainsCarried.{all_unmarked, apart}
 use Rattle.xmp_nodes.proofs.WideBits.{same_operators}
-use Rattle.xmp_nodes.proofs.SameGives.{Alike, gave_first, gave_second, same_gives}
+use Rattle.xmp_nodes.proofs.SameGives.{gave_second, same_gives}
 use Rattle.xmp_nodes.proofs.PlainWrites.{with_scalar}
-use Rattle.xmp_nodes.proofs.ReductionValues.{Picks, picks_before, picks_behind, set_same, Value, Stop, value_or_stop, sum_along, in_loop}
+use Rattle.xmp_nodes.proofs.ReductionValues.{picks_before, picks_behind, Value, Stop, value_or_stop, sum_along, in_loop}
 use Rattle.xmp_nodes.proofs.ReductionIfs.{IsCompared, IsIfForm, is_if_form, in_type_gives, variable_gives, set_run, test_run, if_run, if_gives, first_ends, second_ends}
 
 -- ---- the runs

@@ -1,26 +1,23 @@
 -- All nodes in step follow the run that notes: along a sequence, a branch and a loop, and where each does something by
 -- itself.
-use Rattle.std.proofs.Common.{◌≡◌, ◌<◌, ◌++◌, ◌⊎◌, inl, inr, ℕ, zero, suc, Bool, true, false, List, [], ◌∷◌, map, length, Option, Some, None, refl, sym, subst, ap, ◌∙◌, append_assoc, append-nil, arith}
+use Rattle.std.proofs.Common.{◌≡◌, ◌<◌, ◌++◌, inl, inr, ℕ, Bool, true, false, List, [], ◌∷◌, map, length, Some, refl, sym, subst, ap, ◌∙◌, append_assoc, arith}
 use Rattle.std.specs.Prelude.{slice_get}
 use Rattle.std.specs.List.{AllByRecursion}
 use Rattle.std.proofs.lemmas.Option.{slice_get_within}
 use Rattle.xmp_prog.specs.declared.parts.ProgParts.{ProgParts}
 use Rattle.xmp_prog.specs.Fits.{node_count}
 use Rattle.xmp_paths.specs.declared.event.Event.{Event}
-use Rattle.xmp_paths.specs.Plans.{Plan, skip, emit, sequence, branch, loop, Path, in_order}
+use Rattle.xmp_paths.specs.Plans.{Plan, skip, sequence, branch, Path, in_order}
 use Rattle.xmp_paths.specs.Safe.{left, Safe}
 use Rattle.xmp_paths.proofs.SafeLaws.{safe_paths, safe_front, safe_back}
-use Rattle.xmp_meaning.specs.declared.ends.End.{End}
 use Rattle.xmp_meaning.specs.declared.ends.Flow.{Flow}
-use Rattle.xmp_meaning.specs.declared.ends.Flow.TheVariants.{Next, Returned}
+use Rattle.xmp_meaning.specs.declared.ends.Flow.TheVariants.{Next}
 use Rattle.xmp_meaning.specs.Runs.{State, StepIn, RunIn, Step, Run, Gave, Ended, and_then, ◌>>=◌, pure}
-use Rattle.xmp_meaning.specs.Blocks.{after, then_run, block, choose, turns}
+use Rattle.xmp_meaning.specs.Blocks.{after, then_run, block, choose}
 use Rattle.xmp_meaning.specs.Exchanges.{Notes}
-use Rattle.xmp_meaning_laws.specs.Agreement.{StepsMeet}
 use Rattle.xmp_nodes.specs.Nodes.{Nodes, all_do}
 use Rattle.xmp_nodes.specs.Worlds.{out_of}
-use Rattle.xmp_nodes.proofs.Agrees.{Agrees, GoesOn, EndsSo, Along, Carried, Anything, IsNext, base_at, at_main, ReadyAt, Counted, Ready, AllGo, AllEnd, AllAlong, AllFollow}
-use Rattle.xmp_nodes.proofs.Follow.{way_joined, way_unrolled, way_none}
+use Rattle.xmp_nodes.proofs.Agrees.{Along, Carried, IsNext, base_at, at_main, ReadyAt, Counted, Ready, AllAlong, AllFollow}
 use Rattle.xmp_nodes.proofs.Each.{Alone, AllAre, Meets, AllMeet, all_do_meets, there}
 
 -- ---- ways of sequences

@@ -1,5 +1,5 @@
 -- The lemmas that the theorem stands on, as types: each is proved in a file of its own.
-use Rattle.std.specs.Prelude.{◌≡◌, ◌≢◌, ◌<◌, ℕ, Bool, true, false, List, [], ◌∷◌, length, map, Option, Some, None}
+use Rattle.std.specs.Prelude.{◌≡◌, ◌≢◌, ◌<◌, ℕ, Bool, true, false, List, ◌∷◌, length, map, Option, Some, None}
 use Rattle.std.specs.List.{AllByRecursion}
 use Rattle.xmp_base.specs.declared.place.Place.{Place}
 use Rattle.xmp_map.specs.declared.grid.NodeSet.{NodeSet}
@@ -39,7 +39,7 @@ use Rattle.xmp_flow.specs.Statements.{events_of, if_form}
 use Rattle.xmp_flow.specs.Program.{outermost}
 use Rattle.xmp_meaning.specs.declared.ends.Flow.{Flow}
 use Rattle.xmp_meaning.specs.declared.ends.Flow.TheVariants.{Next}
-use Rattle.xmp_meaning.specs.Runs.{Run, RunIn, ◌>>=◌, pure}
+use Rattle.xmp_meaning.specs.Runs.{Run, ◌>>=◌, pure}
 use Rattle.xmp_meaning.specs.Blocks.{choose}
 use Rattle.xmp_meaning.specs.Context.{Context}
 use Rattle.xmp_meaning.specs.Handlers.{TaskRun, erased}
@@ -57,7 +57,7 @@ use Rattle.xmp_nodes.specs.Moving.{gmove_all}
 use Rattle.xmp_nodes.specs.Parts.{loop_all}
 use Rattle.xmp_nodes.specs.Tasks.{TaskOf, tasks_all}
 use Rattle.xmp_nodes.specs.Lockstep.{lockstep}
-use Rattle.xmp_nodes.proofs.Agrees.{Stand, Carried, Skipped, AllFollow, IsNext, Anything}
+use Rattle.xmp_nodes.proofs.Agrees.{Stand, Carried, Skipped, AllFollow, IsNext}
 use Rattle.xmp_nodes.proofs.Standing.{IsGlobal, TermStands, StatementStands, PartFits, NoReturn, IsSetting, WritesFit}
 
 -- the serial run that notes, and a node's run

@@ -1,13 +1,11 @@
 -- All nodes in step follow the run that notes, statement by statement.
-use Rattle.std.proofs.Common.{◌≡◌, ◌≢◌, ◌<◌, ◌++◌, ◌⊎◌, inl, inr, ℕ, zero, suc, ℤ, pos, ◌+ℤ◌, Bool, true, false, true≢false, not, ◌&&◌, ◌||◌, ◌==◌, List, [], ◌∷◌, map, length, Option, Some, None, refl, sym, subst, ap, ◌∙◌, append-nil, arith, if◌then◌else◌}
-use Rattle.std.specs.Prelude.{slice_get, unwrap_or, nat_le}
+use Rattle.std.proofs.Common.{◌≡◌, ◌≢◌, ◌<◌, ℕ, ℤ, pos, ◌+ℤ◌, Bool, true, false, true≢false, not, ◌&&◌, ◌||◌, ◌==◌, List, [], ◌∷◌, map, Option, Some, None, refl, sym, subst, ap, ◌∙◌, if◌then◌else◌}
+use Rattle.std.specs.Prelude.{slice_get, nat_le}
 use Rattle.std.specs.List.{AllByRecursion, list_all}
 use Rattle.std.proofs.lemmas.Option.{none-some}
 use Rattle.xmp_base.specs.declared.place.Place.{Place}
-use Rattle.xmp_num.specs.declared.types.Ty.{Ty}
 use Rattle.xmp_num.specs.declared.types.Ty.TheVariants.{Int}
 use Rattle.xmp_num.specs.Arithmetic.{FitsType, wrap}
-use Rattle.xmp_map.specs.declared.grid.NodeSet.{NodeSet}
 use Rattle.xmp_prog.specs.declared.parts.ProgParts.{ProgParts}
 use Rattle.xmp_prog.specs.declared.expressions.Expr.{Expr}
 use Rattle.xmp_prog.specs.declared.statements.LoopDirective.{LoopDirective}
@@ -15,33 +13,32 @@ use Rattle.xmp_prog.specs.declared.statements.LoopHead.{LoopHead}
 use Rattle.xmp_prog.specs.declared.statements.Plain.{Plain}
 use Rattle.xmp_prog.specs.declared.statements.Plain.TheVariants as plain
 use Rattle.xmp_prog.specs.declared.statements.Stmt.{Stmt, map-Stmt}
-use Rattle.xmp_prog.specs.declared.statements.Stmt.TheOpen.{Stmt-F, Task-F}
+use Rattle.xmp_prog.specs.declared.statements.Stmt.TheOpen.{Stmt-F}
 use Rattle.xmp_prog.specs.declared.statements.Stmt.TheVariants as stmt
 use Rattle.xmp_prog.specs.declared.statements.Stmt.TheFolds.{ind-Stmt, fold-Task, fold-roll-Task}
-use Rattle.xmp_prog.specs.declared.statements.Stmt.TheViews.{roll-Stmt, roll-Task, out-Stmt}
+use Rattle.xmp_prog.specs.declared.statements.Stmt.TheViews.{roll-Stmt, out-Stmt}
 use Rattle.xmp_prog.specs.declared.statements.Task.{Task}
 use Rattle.xmp_prog.specs.Numbers.{is_in, apart, same_type}
 use Rattle.xmp_prog.specs.Counted.{most_counted, is_bound_term, is_small_constant, is_int_scalar, is_counted}
 use Rattle.xmp_prog.specs.Terms.{terms_of, type_of, slots_of_terms}
-use Rattle.xmp_prog.specs.Tests.{is_return, is_no_sync}
-use Rattle.xmp_prog.specs.Statements.{statements_of, writes_of}
+use Rattle.xmp_prog.specs.Tests.{is_return}
+use Rattle.xmp_prog.specs.Statements.{writes_of}
 use Rattle.xmp_prog.specs.Fits.{node_count}
 use Rattle.xmp_prog.proofs.Rolls as rolls
 use Rattle.xmp_paths.specs.declared.event.Event.{Event}
-use Rattle.xmp_paths.specs.Plans.{Plan, skip, emit, sequence, branch, loop, Path, in_order}
+use Rattle.xmp_paths.specs.Plans.{Plan, skip, sequence, branch, loop, Path, in_order}
 use Rattle.xmp_paths.specs.Safe.{left, NothingWrong}
 use Rattle.xmp_loops.specs.Objects.{scalar_object}
 use Rattle.xmp_loops.specs.Forms.{is_nothing, assigns}
 use Rattle.xmp_flow.specs.Reads.{reads_of}
 use Rattle.xmp_flow.specs.Setting.{Setting, assigned}
 use Rattle.xmp_flow.specs.PlainEvents.{in_form, plain_events}
-use Rattle.xmp_flow.specs.LoopEvents.{loop_events}
-use Rattle.xmp_flow.specs.Statements.{events_of, if_form, form_of_if, while_events, counted_events}
+use Rattle.xmp_flow.specs.Statements.{events_of, if_form, form_of_if}
 use Rattle.xmp_flow.specs.Program.{outermost}
 use Rattle.xmp_flow.proofs.FormLaws.{events_plain, events_block, events_if, events_while, events_counted, events_loop, events_tasks}
 use Rattle.xmp_meaning.specs.declared.ends.Flow.{Flow}
 use Rattle.xmp_meaning.specs.declared.ends.Flow.TheVariants.{Next}
-use Rattle.xmp_meaning.specs.Runs.{State, StepIn, RunIn, Step, Run, Gave, Ended, ◌>>=◌, pure, scalar, set_scalar}
+use Rattle.xmp_meaning.specs.Runs.{RunIn, Run, ◌>>=◌, pure, scalar, set_scalar}
 use Rattle.xmp_meaning.specs.Blocks.{then_run, block, choose, turns}
 use Rattle.xmp_meaning.specs.Handlers.{TaskRun, erased}
 use Rattle.xmp_meaning.specs.Expressions.{expr_of, holds, is_zero}
@@ -52,7 +49,7 @@ use Rattle.xmp_meaning.specs.Declarations.{scalar_type}
 use Rattle.xmp_meaning.specs.Exchanges.{Notes, traced}
 use Rattle.xmp_meaning.specs.Traffic.{node_context}
 use Rattle.xmp_meaning.specs.Writes.{scalars_written}
-use Rattle.xmp_meaning.proofs.Forms.{stmt_plain, stmt_block, stmt_if, stmt_while, stmt_counted, stmt_loop, stmt_tasks}
+use Rattle.xmp_meaning.proofs.Forms.{stmt_plain, stmt_block, stmt_if, stmt_while, stmt_counted, stmt_loop}
 use Rattle.xmp_map.proofs.Counted.{and_left, and_right}
 use Rattle.xmp_meaning.proofs.WrittenOnce.{writes_are_one}
 use Rattle.xmp_meaning_laws.proofs.Types.{nest_ints}
@@ -63,12 +60,12 @@ use Rattle.xmp_nodes.specs.Nodes.{Nodes, all_do}
 use Rattle.xmp_nodes.specs.Parts.{loop_all}
 use Rattle.xmp_nodes.specs.Tasks.{TaskOf, tasks_all}
 use Rattle.xmp_nodes.specs.Lockstep.{Both, both_step, task_both, plain_all, while_all, lockstep}
-use Rattle.xmp_nodes.proofs.Agrees.{Stand, Carried, Anything, IsNext, at_main, AllFollow}
-use Rattle.xmp_nodes.proofs.Standing.{IsGlobal, TermStands, StatementStands, PartFits, NoReturn, IsSetting, WritesFit}
+use Rattle.xmp_nodes.proofs.Agrees.{Carried, Anything, IsNext, at_main, AllFollow}
+use Rattle.xmp_nodes.proofs.Standing.{IsGlobal, TermStands, PartFits, NoReturn, IsSetting, WritesFit}
 use Rattle.xmp_nodes.proofs.Leaves as leaves
 use Rattle.xmp_nodes.proofs.Leaves.{serial_cx, noting, noted_task, node_task, task_plan, GivesNext}
 use Rattle.xmp_nodes.proofs.Below.{every_plain, every_block, every_if, every_while, every_counted, every_loop, every_tasks}
-use Rattle.xmp_nodes.proofs.Follow.{right_front, right_back, right_first, right_second, right_turn, carried_pure, carried_weaker, carried_on, carried_last}
+use Rattle.xmp_nodes.proofs.Follow.{right_front, right_back, right_first, right_second, right_turn, carried_pure, carried_on, carried_last}
 use Rattle.xmp_nodes.proofs.InStep.{way_first, way_last, way_skipped, all_value, all_paths, all_on, all_choose, all_block, all_alone}
 use Rattle.xmp_nodes.proofs.MainSteps.{set_marked, read_here}
 use Rattle.xmp_nodes.proofs.LoopsInStep.{MarksNothing, turn_plan, all_while}
@@ -338,10 +335,10 @@ module _ (parts : Parts) (p : ProgParts) (global : IsGlobal p) (some : 0 < node_
       let last = right_front t skip (right_back (loop turn) (sequence t skip) looped) in
       let body_fine = right_front b (sequence m skip) (right_back t (sequence b (sequence m skip)) (right_turn turn (right_front (loop turn) (sequence t skip) looped))) in
       let kept : (node : ℕ) → node < node_count p → (way : List Event) → Path b way → (stale : ℕ → Bool) → stale (scalar_object head.index.number) ≡ false → left node way stale (scalar_object head.index.number) ≡ false
-          = λ node below way w stale e. parts.unwritten_stay here node head.index.number x (index_unwritten p head x own.counted) way w stale e in
+      = λ node below way w stale e. parts.unwritten_stay here node head.index.number x (index_unwritten p head x own.counted) way w stale e in
       let int : scalar_type p head.index.number ≡ Int = index_int p head x own.counted in
       let run : RunIn Nodes Flow = all_do 0 (λ node. entering erased (node_context p node input) head)
-          >>= (λ n. turns n (all_do false (λ node. inside erased (node_context p node input) head)) (then_run (lockstep p input x).all (all_do Next (λ node. step_up head)))) in
+      >>= (λ n. turns n (all_do false (λ node. inside erased (node_context p node input) head)) (then_run (lockstep p input x).all (all_do Next (λ node. step_up head)))) in
       subst (λ h. AllFollow p IsNext (events_of (stmt.Counted head x) here) (noting p input (stmt.Counted head x)) h)
       (ap (λ (u : Both). u.all) (sym (rolls.at_counted Both TaskOf (both_step p input) task_both head x)))
       (subst (λ h. AllFollow p IsNext (events_of (stmt.Counted head x) here) h run) (sym (stmt_counted (traced p) (serial_cx p input) head x))

@@ -1,7 +1,6 @@
 -- How a loop directive begins at the nodes, and which tuples they have.
-use Rattle.std.proofs.Common.{◌≡◌, ◌≢◌, ◌⊎◌, ◌<◌, ◌+◌, ◌++◌, ◌==◌, ◌&&◌, ◌||◌, not, if◌then◌else◌, ℕ, zero, suc, ℤ, pos, Bool, true, false, true≢false, List, [], ◌∷◌, length, map, Option, Some, None, inl, inr, refl, sym, subst, ap, ◌∙◌, arith, eq-eqb, eqb-true, ne_eqb}
+use Rattle.std.proofs.Common.{◌≡◌, ◌≢◌, ◌⊎◌, ◌<◌, ◌==◌, ◌||◌, if◌then◌else◌, ℕ, zero, suc, ℤ, pos, Bool, true, false, true≢false, List, [], ◌∷◌, length, map, Option, Some, None, inl, inr, refl, sym, subst, ap, ◌∙◌, eq-eqb, eqb-true}
 use Rattle.std.specs.Prelude.{slice_get, slice_set, unwrap_or, is_some}
-use Rattle.std.specs.List.{AllByRecursion}
 use Rattle.std.proofs.lemmas.List.{length-set}
 use Rattle.xmp_num.specs.declared.types.RedOp.{RedOp}
 use Rattle.xmp_num.specs.Arithmetic.{FitsType}
@@ -10,7 +9,7 @@ use Rattle.xmp_num.proofs.ReductionLaws as reductions
 use Rattle.xmp_prog.specs.declared.parts.ProgParts.{ProgParts}
 use Rattle.xmp_prog.specs.declared.statements.Reduction.{Reduction}
 use Rattle.xmp_prog.specs.Numbers.{is_in}
-use Rattle.xmp_meaning.specs.Runs.{State, Step, Gave, Ended, Run, and_then, pure, set_scalar, state_of}
+use Rattle.xmp_meaning.specs.Runs.{State, Gave, and_then, pure, set_scalar}
 use Rattle.xmp_meaning.specs.Declarations.{scalar_type}
 use Rattle.xmp_meaning.specs.Parts.{begin}
 use Rattle.xmp_meaning.proofs.Stays.{set_other}

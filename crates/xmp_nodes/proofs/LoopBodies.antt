@@ -1,10 +1,10 @@
 -- What a body of a loop directive doesn't do where nothing is wrong in its plan: it prints nothing, and writes no array
 -- without align.
-use Rattle.std.proofs.Common.{◌≡◌, ◌++◌, ◌&&◌, ◌||◌, not, ℕ, Bool, true, false, true≢false, List, [], ◌∷◌, map, Option, Some, None, inl, inr, refl, sym, subst, ap, ◌∙◌}
+use Rattle.std.proofs.Common.{◌≡◌, ◌++◌, ◌||◌, ℕ, Bool, true, false, true≢false, List, [], ◌∷◌, map, Option, Some, None, inl, inr, refl, sym, subst, ap, ◌∙◌}
 use Rattle.std.specs.Prelude.{slice_get, is_some, if◌then◌else◌}
 use Rattle.std.specs.List.{AllByRecursion, flat_map, concat}
 use Rattle.xmp_base.specs.declared.place.Place.{Place}
-use Rattle.xmp_paths.specs.Plans.{Plan, emit, sequence, branch, loop, in_order, Stands}
+use Rattle.xmp_paths.specs.Plans.{Plan, branch, in_order, Stands}
 use Rattle.xmp_paths.specs.Safe.{NothingWrong}
 use Rattle.xmp_paths.specs.declared.event.Event.{Event}
 use Rattle.xmp_paths.specs.declared.event.Event.TheVariants.{Wrong}
@@ -22,13 +22,13 @@ use Rattle.xmp_prog.specs.declared.statements.Target.TheVariants as target
 use Rattle.xmp_prog.specs.declared.statements.Plain.{Plain}
 use Rattle.xmp_prog.specs.declared.statements.Plain.TheVariants as plain
 use Rattle.xmp_prog.specs.declared.statements.Stmt.{Stmt, map-Stmt, out-Stmt}
-use Rattle.xmp_prog.specs.declared.statements.Task.{Task, map-Task}
-use Rattle.xmp_prog.specs.declared.statements.Stmt.TheOpen.{Stmt-F, Task-F}
+use Rattle.xmp_prog.specs.declared.statements.Task.{Task}
+use Rattle.xmp_prog.specs.declared.statements.Stmt.TheOpen.{Stmt-F}
 use Rattle.xmp_prog.specs.declared.statements.Stmt.TheFolds.{ind-Stmt, fold-Task, fold-roll-Stmt}
-use Rattle.xmp_prog.specs.declared.statements.Stmt.TheViews.{roll-Stmt, roll-Task, roll-out-Stmt}
+use Rattle.xmp_prog.specs.declared.statements.Stmt.TheViews.{roll-Stmt, roll-out-Stmt}
 use Rattle.xmp_prog.specs.Statements.{Statement, Walked, WalkedTask, statement_of, statements_below, walk_step, walk_task, walked, statements_of, terms_in}
 use Rattle.xmp_prog.specs.Terms.{Typed, typed_step, access_step, terms_of, terms_of_access}
-use Rattle.xmp_prog.specs.Tests.{subscripts_fit, element_fits}
+use Rattle.xmp_prog.specs.Tests.{subscripts_fit}
 use Rattle.xmp_meaning.specs.Declarations.{home_of_array, home_of}
 use Rattle.xmp_meaning.specs.Writes.{target_arrays, plain_arrays, arrays_step, written_in_task, arrays_written}
 use Rattle.xmp_meaning_laws.specs.Laws.{is_no_print}
@@ -39,8 +39,7 @@ use Rattle.xmp_flow.specs.Elements as elements
 use Rattle.xmp_flow.specs.Elements.{element_write, write_at_home}
 use Rattle.xmp_flow.specs.Reads.{reads_of, reads_of_all, subscript_reads}
 use Rattle.xmp_flow.specs.PlainEvents.{in_form, old_element, assignment_events, plain_events}
-use Rattle.xmp_flow.specs.LoopEvents.{loop_events}
-use Rattle.xmp_flow.specs.Statements.{Told, ToldTask, stmt_step, task_step, told, told_task, events_in, events_of, if_form, form_of_if, choice_events}
+use Rattle.xmp_flow.specs.Statements.{Told, ToldTask, stmt_step, task_step, told, told_task, events_in, events_of, if_form, form_of_if}
 use Rattle.xmp_flow.proofs.ToldLaws.{statement-told}
 use Rattle.xmp_nodes.proofs.Standing.{TermStands}
 
@@ -114,7 +113,7 @@ module _ (set : Setting) (d : LoopDirective) (over : set.over ≡ Some d) (insid
   set_facts (target.Scalar slot at) c value t n = tt
   set_facts (target.Cell a) c value t n = (
     element_there a (all_apart (TermStands set.program) (terms_of_access set.program a) (terms_of set.program value) t).0
-    (last_of (subscript_reads a set) n),
+        (last_of (subscript_reads a set) n),
     tt,
   )
     where

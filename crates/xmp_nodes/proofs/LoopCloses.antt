@@ -1,13 +1,11 @@
 -- How a loop directive ends at a node: the reduction variables get the combined values, and the node agrees along the plan.
-use Rattle.std.proofs.Common.{◌≡◌, ◌≢◌, ◌⊎◌, ◌<◌, ◌+◌, ◌++◌, ◌==◌, ◌&&◌, ◌||◌, not, if◌then◌else◌, ℕ, zero, suc, ℤ, pos, Bool, true, false, true≢false, List, [], ◌∷◌, length, map, Option, Some, None, inl, inr, refl, sym, subst, ap, ◌∙◌, arith, eq-eqb, eqb-true, ne_eqb}
+use Rattle.std.proofs.Common.{◌≡◌, ◌≢◌, ◌<◌, ◌++◌, ◌==◌, ◌||◌, ℕ, ℤ, pos, Bool, true, false, true≢false, List, [], ◌∷◌, length, map, Option, Some, None, refl, sym, subst, ap, ◌∙◌, eq-eqb, eqb-true}
 use Rattle.std.specs.Prelude.{slice_get, slice_set, unwrap_or, is_some}
 use Rattle.std.specs.List.{AllByRecursion}
 use Rattle.std.specs.Option.{option_map}
 use Rattle.std.proofs.lemmas.List.{length-set}
 use Rattle.xmp_map.specs.declared.array_map.ArrayMap.{ArrayMap}
-use Rattle.xmp_num.specs.declared.types.RedOp.{RedOp}
 use Rattle.xmp_num.specs.Arithmetic.{FitsType}
-use Rattle.xmp_paths.specs.NodeSets.{has}
 use Rattle.xmp_paths.specs.Safe.{left, NothingWrong}
 use Rattle.xmp_paths.specs.declared.event.Event.{Event}
 use Rattle.xmp_prog.specs.declared.parts.ProgParts.{ProgParts}
@@ -19,7 +17,6 @@ use Rattle.xmp_prog.specs.declared.statements.Stmt.{Stmt}
 use Rattle.xmp_prog.specs.Numbers.{is_in}
 use Rattle.xmp_prog.specs.Fits.{node_count}
 use Rattle.xmp_prog.specs.Statements.{indices_of}
-use Rattle.xmp_meaning.specs.declared.ends.Flow.{Flow}
 use Rattle.xmp_meaning.specs.declared.ends.Flow.TheVariants.{Next}
 use Rattle.xmp_meaning.specs.Runs.{State, Gave}
 use Rattle.xmp_meaning.specs.Cells.{row_in}
@@ -34,12 +31,10 @@ use Rattle.xmp_meaning_laws.specs.Laws.{scalar_in}
 use Rattle.xmp_meaning_laws.specs.Tuples.{set_where}
 use Rattle.xmp_meaning_laws.proofs.CountedLoops.{set_there}
 use Rattle.xmp_meaning_laws.proofs.Settings.{where_other}
-use Rattle.xmp_loops.specs.Objects.{scalar_object, array_object, all_nodes}
+use Rattle.xmp_loops.specs.Objects.{scalar_object, array_object}
 use Rattle.xmp_loops.specs.Roles.{role_in, own_scalars, writes_array}
 use Rattle.xmp_loops.specs.declared.role.Role.{Role}
 use Rattle.xmp_loops.specs.declared.role.Role.TheVariants.{Shared, Index, Reduced, Own}
-use Rattle.xmp_flow.specs.Setting.{is_reduced}
-use Rattle.xmp_flow.specs.Elements as elements
 use Rattle.xmp_flow.specs.LoopEvents.{loop_events}
 use Rattle.xmp_flow.specs.Statements.{events_of}
 use Rattle.xmp_flow.specs.Program.{outermost}

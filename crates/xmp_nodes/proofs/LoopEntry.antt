@@ -1,15 +1,13 @@
 -- The nodes as a loop directive begins: each is as between turns, and has the serial tuples.
-use Rattle.std.proofs.Common.{◌≡◌, ◌≢◌, ◌⊎◌, ◌<◌, ◌+◌, ◌-◌, ◌++◌, ◌==◌, ◌&&◌, ◌||◌, not, if◌then◌else◌, ℕ, zero, suc, ℤ, pos, Bool, true, false, true≢false, List, [], ◌∷◌, length, map, Option, Some, None, inl, inr, refl, sym, subst, ap, ◌∙◌, arith, eq-eqb, eqb-true, ne_eqb}
-use Rattle.std.specs.Prelude.{slice_get, unwrap_or}
+use Rattle.std.proofs.Common.{◌≡◌, ◌<◌, ◌-◌, ◌++◌, ◌==◌, ◌||◌, not, ℕ, suc, ℤ, Bool, true, false, true≢false, List, [], ◌∷◌, length, map, inl, inr, refl, sym, subst, ap, ◌∙◌, arith, eqb-true, ne_eqb}
 use Rattle.std.specs.List.{AllByRecursion, flat_map}
 use Rattle.xmp_num.specs.declared.types.RedOp.{RedOp}
 use Rattle.xmp_num.specs.Arithmetic.{FitsType}
 use Rattle.xmp_num.specs.Reduction.{combine_of, unit_of}
 use Rattle.xmp_num.proofs.ReductionLaws as reductions
 use Rattle.xmp_paths.specs.NodeSets.{has}
-use Rattle.xmp_paths.specs.Plans.{Plan, in_order}
+use Rattle.xmp_paths.specs.Plans.{in_order}
 use Rattle.xmp_paths.specs.Safe.{Safe, NothingWrong}
-use Rattle.xmp_paths.specs.declared.event.Event.{Event}
 use Rattle.xmp_prog.specs.declared.parts.ProgParts.{ProgParts}
 use Rattle.xmp_prog.specs.declared.parts.Home.TheVariants as home
 use Rattle.xmp_prog.specs.declared.statements.LoopDirective.{LoopDirective}
@@ -20,7 +18,6 @@ use Rattle.xmp_prog.specs.Terms.{slots_of_terms}
 use Rattle.xmp_prog.specs.Fits.{node_count}
 use Rattle.xmp_prog.specs.Statements.{indices_of, terms_of_head, writes_of}
 use Rattle.xmp_meaning.specs.Runs.{State}
-use Rattle.xmp_map.specs.declared.array_map.ArrayMap.{ArrayMap}
 use Rattle.xmp_map.specs.RowMajor.{row_major}
 use Rattle.xmp_meaning.specs.Cells.{row_in}
 use Rattle.xmp_meaning.specs.Declarations.{scalar_type, extents}
@@ -39,7 +36,7 @@ use Rattle.xmp_flow.specs.Setting.{Setting, wrong_where}
 use Rattle.xmp_flow.specs.LoopEvents.{at_bounds, nest_events, reduction_events, loop_events}
 use Rattle.xmp_flow.specs.Statements.{events_of}
 use Rattle.xmp_flow.specs.Program.{outermost}
-use Rattle.xmp_nodes.proofs.Agrees.{IsWhole, Agrees, at_main}
+use Rattle.xmp_nodes.proofs.Agrees.{Agrees, at_main}
 use Rattle.xmp_nodes.proofs.Standing.{IsGlobal}
 use Rattle.xmp_nodes.proofs.Leaves.{LoopFits}
 use Rattle.xmp_nodes.proofs.NodeBits.{all_have}

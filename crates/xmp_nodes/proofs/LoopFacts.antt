@@ -1,18 +1,15 @@
 -- What is known of a loop directive of a program whose parts fit, where nothing is wrong in its plan.
-use Rattle.std.proofs.Common.{◌≡◌, ◌≢◌, ◌<◌, ◌+◌, ◌++◌, ◌==◌, ◌&&◌, ◌||◌, not, if◌then◌else◌, ℕ, zero, suc, Bool, true, false, true≢false, List, [], ◌∷◌, length, map, Option, Some, None, inl, inr, refl, sym, subst, ap, ◌∙◌, arith, eq-eqb, eqb-true, ne_eqb, append_assoc, ℤ}
-use Rattle.std.specs.Prelude.{slice_get, is_some}
+use Rattle.std.proofs.Common.{◌≡◌, ◌≢◌, ◌<◌, ◌+◌, ◌++◌, ◌==◌, ◌||◌, if◌then◌else◌, ℕ, Bool, true, false, true≢false, List, [], ◌∷◌, map, Option, Some, None, inl, inr, refl, sym, subst, ap, ◌∙◌, arith, eq-eqb, eqb-true, ne_eqb, append_assoc, ℤ}
 use Rattle.std.specs.List.{AllByRecursion, list_all, flat_map, filter, find}
 use Rattle.std.proofs.lemmas.List.Folds.{list_all-append}
 use Rattle.xmp_map.specs.declared.array_map.ArrayMap.{ArrayMap}
 use Rattle.xmp_map.specs.Boxes.{IsInside}
 use Rattle.xmp_map.specs.Held as held
-use Rattle.xmp_map.proofs.Counted.{and_left, and_right}
 use Rattle.xmp_num.specs.declared.types.RedOp.{RedOp}
 use Rattle.xmp_num.specs.declared.types.Ty.TheVariants.{Int}
 use Rattle.xmp_paths.specs.NodeSets.{has}
-use Rattle.xmp_paths.specs.Plans.{Plan, in_order}
+use Rattle.xmp_paths.specs.Plans.{in_order}
 use Rattle.xmp_paths.specs.Safe.{NothingWrong}
-use Rattle.xmp_paths.specs.declared.event.Event.{Event}
 use Rattle.xmp_prog.specs.declared.parts.ProgParts.{ProgParts}
 use Rattle.xmp_prog.specs.declared.parts.Home.TheVariants as home
 use Rattle.xmp_prog.specs.declared.statements.LoopHead.{LoopHead}
@@ -28,7 +25,7 @@ use Rattle.xmp_prog.specs.Statements.{indices_of, terms_of_head, writes_of}
 use Rattle.xmp_meaning.specs.Declarations.{scalar_type, home_of, extents}
 use Rattle.xmp_meaning.specs.Writes.{scalars_written, arrays_written}
 use Rattle.xmp_meaning.proofs.WrittenOnce.{writes_are_one}
-use Rattle.xmp_meaning_laws.specs.Tuples.{begins_fixed, NestFits, slots_of_nest}
+use Rattle.xmp_meaning_laws.specs.Tuples.{NestFits}
 use Rattle.xmp_meaning_laws.proofs.Conditions.{all_apart}
 use Rattle.xmp_meaning_laws.proofs.Named.{all_of_test}
 use Rattle.xmp_meaning_laws.proofs.CountedLoops.{both_true}
@@ -48,11 +45,11 @@ use Rattle.xmp_flow.specs.LoopEvents.{within, at_bounds, nest_events, reduction_
 use Rattle.xmp_flow.specs.Statements.{events_of}
 use Rattle.xmp_flow.specs.Program.{outermost}
 use Rattle.xmp_nodes.proofs.Agrees.{Stand, is_changed}
-use Rattle.xmp_nodes.proofs.Standing.{IsGlobal, TermStands, NoReturn, IsLoopSetting, IsSetting, WritesFit}
+use Rattle.xmp_nodes.proofs.Standing.{IsGlobal, TermStands, IsLoopSetting, IsSetting, WritesFit}
 use Rattle.xmp_nodes.proofs.Leaves.{LoopFits}
 use Rattle.xmp_nodes.proofs.PackedRows.{spread_array}
 use Rattle.xmp_nodes.proofs.LoopBodies.{nothing_in, test_fails, body_facts}
-use Rattle.xmp_nodes.proofs.LoopPlans.{not_among, nest_reads, nest_begins}
+use Rattle.xmp_nodes.proofs.LoopPlans.{nest_reads, nest_begins}
 
 -- ---- lists of numbers
 
@@ -183,10 +180,10 @@ module _ (d : LoopDirective) (body : Stmt) where
   all_by_role set before [] e n = tt
   all_by_role set before (r ∷ rs) e n = (
     ap (λ o. role_by o (is_in (indices_of d.nest) r.variable.number) (is_in (scalars_written body) r.variable.number))
-    (ap (find (λ q. q.variable.number == r.variable.number)) e
-    ∙ found_behind before rs r (test_fails (is_in (map (λ r. r.variable.number) before) r.variable.number) 5 r.variable.at (λ rule at t. n rule at (inr (inl t))))),
+        (ap (find (λ q. q.variable.number == r.variable.number)) e
+        ∙ found_behind before rs r (test_fails (is_in (map (λ r. r.variable.number) before) r.variable.number) 5 r.variable.at (λ rule at t. n rule at (inr (inl t))))),
     all_by_role set (before ++ r ∷ []) rs (e ∙ sym (append_assoc before (r ∷ []) rs))
-    (subst (λ names. NothingWrong (in_order (reduction_events set names rs))) (sym (names_joined before (r ∷ []))) (λ rule at t. n rule at (inr (inr t)))),
+        (subst (λ names. NothingWrong (in_order (reduction_events set names rs))) (sym (names_joined before (r ∷ []))) (λ rule at t. n rule at (inr (inr t)))),
   )
 
   pub by_role : (set : Setting) → NothingWrong (in_order (reduction_events set [] d.reductions))
@@ -253,7 +250,7 @@ module _ (p : ProgParts) (global : IsGlobal p) (some : 0 < node_count p) (all : 
   index_free [] outer n = tt
   index_free (head ∷ heads) outer n = (
     sym (unreduced (role_in d body head.index.number))
-    ∙ test_fails (is_reduced (before_iterations (role_in d body head.index.number))) 5 head.index.at (λ rule at t. n rule at (inl (inr (inr (inr (inr (inl t))))))),
+        ∙ test_fails (is_reduced (before_iterations (role_in d body head.index.number))) 5 head.index.at (λ rule at t. n rule at (inl (inr (inr (inr (inr (inl t))))))),
     index_free heads (outer ++ head.index.number ∷ []) (λ rule at t. n rule at (inr t)),
   )
 

@@ -1,5 +1,5 @@
 -- All nodes follow a loop directive: the parts' ends joined are the serial end.
-use Rattle.std.proofs.Common.{◌≡◌, ◌≢◌, ◌<◌, ◌≤◌, ◌+◌, ◌++◌, ◌==◌, ◌&&◌, not, if◌then◌else◌, ℕ, zero, suc, ℤ, pos, Bool, true, false, List, [], ◌∷◌, length, map, Option, Some, None, refl, sym, subst, ap, ◌∙◌, arith}
+use Rattle.std.proofs.Common.{◌≡◌, ◌≢◌, ◌<◌, ◌+◌, ℕ, zero, suc, ℤ, true, List, [], ◌∷◌, length, map, Option, Some, refl, sym, subst, ap, ◌∙◌, arith}
 use Rattle.std.specs.Prelude.{slice_get, unwrap_or}
 use Rattle.std.specs.List.{AllByRecursion, filter, range_with_len}
 use Rattle.std.proofs.lemmas.Option.{slice_get_within, none-some, same_Some}
@@ -35,15 +35,15 @@ use Rattle.xmp_loops.specs.declared.role.Role.TheVariants.{Reduced}
 use Rattle.xmp_flow.specs.LoopEvents.{loop_events}
 use Rattle.xmp_flow.specs.Statements.{events_of}
 use Rattle.xmp_flow.specs.Program.{outermost}
-use Rattle.xmp_nodes.specs.Nodes.{Nodes, bounded, each_does, with_steps, all_do, raised_by, saying}
-use Rattle.xmp_nodes.specs.Parts.{own_tuples, own_part, all_parts, ends_of, own_turns, loop_all}
+use Rattle.xmp_nodes.specs.Nodes.{Nodes, bounded, with_steps, raised_by, saying}
+use Rattle.xmp_nodes.specs.Parts.{own_part, all_parts, ends_of, own_turns, loop_all}
 use Rattle.xmp_nodes.specs.Lockstep.{lockstep}
 use Rattle.xmp_nodes.specs.Worlds.{out_of}
 use Rattle.xmp_nodes.proofs.Agrees.{IsWhole, IsNext, ReadyAt, Counted, Ready, AllAlong}
 use Rattle.xmp_nodes.proofs.Standing.{IsGlobal, PartFits, NoReturn}
 use Rattle.xmp_nodes.proofs.Leaves.{serial_cx, noting, LoopFits, LoopsFit, AloneIsErased, StatementsCarry, LoopsFollow}
 use Rattle.xmp_nodes.proofs.Each.{Alone, AllAre, Meets, AllMeet, all_do_meets, there, state_of_node, states_length, raised_length, turns_at}
-use Rattle.xmp_nodes.proofs.Saying.{SaidAsNoted, noted_behind, say_and_do}
+use Rattle.xmp_nodes.proofs.Saying.{SaidAsNoted, say_and_do}
 use Rattle.xmp_nodes.proofs.PackedRows.{some_nodes}
 use Rattle.xmp_nodes.proofs.Turns.{AllWhole, OneFell, Sides}
 use Rattle.xmp_nodes.proofs.JoinedEnds.{EndsLater, joined_first, all_are_joined, first_of_all, total_at, EndsWhole, whole_of_all}

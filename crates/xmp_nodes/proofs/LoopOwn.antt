@@ -1,6 +1,6 @@
 -- Which tuples of a loop directive a node owns.
-use Rattle.std.proofs.Common.{◌≡◌, ◌≢◌, ◌<◌, ◌+◌, ◌==◌, ◌&&◌, ◌||◌, not, if◌then◌else◌, ℕ, zero, suc, ℤ, pos, ◌+ℤ◌, Bool, true, false, true≢false, List, [], ◌∷◌, length, map, Option, Some, None, refl, sym, subst, ap, ◌∙◌, arith, eqb-true}
-use Rattle.std.specs.Prelude.{slice_get, slice_set, unwrap_or, is_some, nat_lt, cond}
+use Rattle.std.proofs.Common.{◌≡◌, ◌<◌, ◌+◌, ◌==◌, ◌||◌, if◌then◌else◌, ℕ, zero, suc, ℤ, pos, ◌+ℤ◌, Bool, true, false, true≢false, List, [], ◌∷◌, length, map, Option, Some, None, refl, sym, subst, ap, ◌∙◌, arith, eqb-true}
+use Rattle.std.specs.Prelude.{slice_get, slice_set, unwrap_or, is_some, cond}
 use Rattle.std.specs.List.{AllByRecursion, list_all, flat_map, filter}
 use Rattle.std.proofs.lemmas.Bool.{ltb-true}
 use Rattle.std.proofs.lemmas.Option.{slice_get_within, none-some, same_Some}
@@ -14,7 +14,7 @@ use Rattle.xmp_prog.specs.declared.statements.LoopDirective.{LoopDirective}
 use Rattle.xmp_prog.specs.declared.statements.Point.{Point}
 use Rattle.xmp_prog.specs.declared.statements.Point.TheVariants as point
 use Rattle.xmp_prog.specs.Numbers.{is_in}
-use Rattle.xmp_prog.specs.Directives.{dim_count, names_template, has_points, points_indices, indices_of_nest}
+use Rattle.xmp_prog.specs.Directives.{dim_count, names_template, has_points, indices_of_nest}
 use Rattle.xmp_prog.specs.Fits.{node_count, PartsFit}
 use Rattle.xmp_prog.specs.Statements.{indices_of, slots_of_point}
 use Rattle.xmp_meaning.specs.Runs.{State}
@@ -22,7 +22,7 @@ use Rattle.xmp_meaning.specs.Parts.{position_at, owns_positions, owns_iteration}
 use Rattle.xmp_meaning.specs.Exchanges.{raised}
 use Rattle.xmp_meaning_laws.specs.Laws.{OneOwner}
 use Rattle.xmp_meaning_laws.specs.Tuples.{set_where, at_tuple, value_in, position_in, owns_tuple}
-use Rattle.xmp_meaning_laws.proofs.Nests.{Exists, some_by_length}
+use Rattle.xmp_meaning_laws.proofs.Nests.{Exists}
 use Rattle.xmp_meaning_laws.proofs.CountedLoops.{set_there}
 use Rattle.xmp_meaning_laws.proofs.Settings.{Apart, where_other, fresh_flipped}
 use Rattle.xmp_meaning_laws.proofs.Owners as owners

@@ -1,7 +1,7 @@
 -- The parts of a loop directive: their ends in the order of the nodes, what is said of them, and that they print nothing.
-use Rattle.std.proofs.Common.{◌≡◌, ◌≢◌, ◌<◌, ◌+◌, ◌/◌, ◌++◌, ◌==◌, ◌&&◌, not, if◌then◌else◌, ℕ, zero, suc, ℤ, pos, Bool, true, false, true≢false, List, [], ◌∷◌, length, map, Option, Some, None, refl, sym, subst, ap, ◌∙◌, arith, ne_eqb}
-use Rattle.std.specs.Prelude.{slice_get, unwrap_or}
-use Rattle.std.specs.List.{AllByRecursion, list_all, filter, range_with_len}
+use Rattle.std.proofs.Common.{◌≡◌, ◌<◌, ◌+◌, ◌/◌, ◌++◌, if◌then◌else◌, ℕ, zero, suc, ℤ, Bool, true, List, [], ◌∷◌, length, map, Option, Some, None, refl, sym, subst, ap, ◌∙◌, arith, ne_eqb}
+use Rattle.std.specs.Prelude.{slice_get}
+use Rattle.std.specs.List.{AllByRecursion, list_all, range_with_len}
 use Rattle.std.proofs.lemmas.Option.{same_Some}
 use Rattle.xmp_prog.specs.declared.parts.ProgParts.{ProgParts}
 use Rattle.xmp_prog.specs.declared.statements.LoopDirective.{LoopDirective}
@@ -13,13 +13,12 @@ use Rattle.xmp_meaning.specs.declared.ends.End.{End}
 use Rattle.xmp_meaning.specs.declared.ends.End.TheVariants.{Trapped, OutOfSteps, PhaseEnd}
 use Rattle.xmp_meaning.specs.declared.ends.Flow.{Flow}
 use Rattle.xmp_meaning.specs.declared.ends.Flow.TheVariants.{Next, Returned}
-use Rattle.xmp_meaning.specs.Runs.{State, Step, Gave, Ended, Run, state_of, end_of}
-use Rattle.xmp_meaning.specs.Blocks.{then_run}
+use Rattle.xmp_meaning.specs.Runs.{State, Step, Gave, Ended, Run, state_of}
 use Rattle.xmp_meaning.specs.Context.{Context}
 use Rattle.xmp_meaning.specs.Handlers.{erased}
 use Rattle.xmp_meaning.specs.Statements.{stmt_of}
-use Rattle.xmp_meaning.specs.Exchanges.{Notes, Exchange, LoopEnd, PartEnd, part_end, values_of, traced}
-use Rattle.xmp_meaning.specs.Messages.{Message, part_words, said, message, words_sent}
+use Rattle.xmp_meaning.specs.Exchanges.{Notes, LoopEnd, PartEnd, part_end, values_of, traced}
+use Rattle.xmp_meaning.specs.Messages.{part_words, said, message, words_sent}
 use Rattle.xmp_meaning.specs.TrapWords.{end_words}
 use Rattle.xmp_meaning.specs.Laws.{bare, bare_step}
 use Rattle.xmp_meaning.proofs.Notes.{notes_apart}

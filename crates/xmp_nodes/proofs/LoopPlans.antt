@@ -1,39 +1,27 @@
 -- The plan of a loop directive: what its bounds read, what an iteration begins with, and a way through it.
-use Rattle.std.proofs.Common.{◌≡◌, ◌≢◌, ◌+◌, ◌*◌, ◌++◌, ◌==◌, ◌&&◌, ◌||◌, ◌⊎◌, not, if◌then◌else◌, ℕ, suc, Bool, true, false, true≢false, List, [], ◌∷◌, map, Option, Some, None, inl, inr, refl, sym, subst, ap, ◌∙◌, arith, eq-eqb, eqb-true, ne_eqb}
+use Rattle.std.proofs.Common.{◌≡◌, ◌++◌, ◌==◌, ◌&&◌, ◌||◌, ◌⊎◌, not, ℕ, Bool, true, false, true≢false, List, [], ◌∷◌, inl, inr, refl, sym, ap, ◌∙◌, eqb-true}
 use Rattle.std.specs.Prelude.{slice_get, nat_le}
 use Rattle.std.specs.List.{AllByRecursion, list_all, flat_map}
 use Rattle.xmp_base.specs.declared.place.Place.{Place}
 use Rattle.xmp_map.proofs.Counted.{and_left, and_right}
 use Rattle.xmp_num.specs.declared.types.Ty.TheVariants.{Int}
 use Rattle.xmp_paths.specs.NodeSets.{has}
-use Rattle.xmp_paths.specs.Plans.{Plan, skip, emit, sequence, loop, in_order, Path}
-use Rattle.xmp_paths.specs.Walk.{after_event, after_events}
-use Rattle.xmp_paths.specs.Safe.{left, Safe, NothingWrong}
-use Rattle.xmp_paths.proofs.NodeSetLaws.{no_node}
-use Rattle.xmp_paths.proofs.PathLaws.{some_path, walk-append}
-use Rattle.xmp_paths.proofs.SafeLaws.{safe_front, safe_back, safe_loop, safe_read}
+use Rattle.xmp_paths.specs.Plans.{Plan, emit, sequence, in_order}
+use Rattle.xmp_paths.specs.Safe.{Safe, NothingWrong}
+use Rattle.xmp_paths.proofs.SafeLaws.{safe_front, safe_read}
 use Rattle.xmp_paths.specs.declared.event.Event.{Event}
-use Rattle.xmp_paths.specs.declared.event.Event.TheVariants.{Read, Wrong, Mark}
-use Rattle.xmp_prog.specs.declared.parts.ProgParts.{ProgParts}
-use Rattle.xmp_prog.specs.declared.parts.Home.{Home}
-use Rattle.xmp_prog.specs.declared.parts.Home.TheVariants as home
-use Rattle.xmp_prog.specs.declared.expressions.Expr.{Expr}
+use Rattle.xmp_paths.specs.declared.event.Event.TheVariants.{Read}
 use Rattle.xmp_prog.specs.declared.statements.LoopHead.{LoopHead}
-use Rattle.xmp_prog.specs.declared.statements.LoopDirective.{LoopDirective}
 use Rattle.xmp_prog.specs.declared.statements.Reduction.{Reduction}
-use Rattle.xmp_prog.specs.declared.statements.Stmt.{Stmt}
 use Rattle.xmp_prog.specs.Numbers.{is_in, apart, same_type}
 use Rattle.xmp_prog.specs.Terms.{type_of, terms_of, slots_of_terms}
 use Rattle.xmp_prog.specs.Counted.{most_counted, is_int_scalar, is_bound_term, is_small_constant, is_counted, is_nest}
 use Rattle.xmp_prog.specs.Statements.{indices_of, terms_of_head}
-use Rattle.xmp_meaning.specs.Writes.{scalars_written, arrays_written}
-use Rattle.xmp_loops.specs.Objects.{scalar_object, array_object, all_nodes}
+use Rattle.xmp_loops.specs.Objects.{scalar_object, all_nodes}
 use Rattle.xmp_loops.specs.Bounds.{may_stand, is_bound}
-use Rattle.xmp_loops.specs.Roles.{before_iterations, own_scalars, role_in, scalars_of}
-use Rattle.xmp_flow.specs.Setting.{Setting, wrong_where, is_reduced, stale_on_all, current_on_all}
+use Rattle.xmp_flow.specs.Setting.{Setting, wrong_where, is_reduced}
 use Rattle.xmp_flow.specs.Reads.{reads_of}
-use Rattle.xmp_flow.specs.Elements as elements
-use Rattle.xmp_flow.specs.LoopEvents.{within, at_bounds, head_events, nest_events, reduction_events, iteration, shadow_stale_at, shadow_stale, ends, loop_events}
+use Rattle.xmp_flow.specs.LoopEvents.{head_events, nest_events, reduction_events}
 use Rattle.xmp_meaning_laws.specs.Tuples.{is_fixed_term, is_fixed, begins_fixed}
 use Rattle.xmp_meaning_laws.proofs.Conditions.{all_together}
 use Rattle.xmp_meaning_laws.proofs.CountedLoops.{Six, six, both_true, either, is_not}
@@ -179,7 +167,7 @@ module _ (s : Setting) (node : ℕ) (here : has s.nodes node ≡ true) (written 
       each_slot [] t = tt
       each_slot (slot ∷ slots) t = (one_slot slot t.0, each_slot slots t.1)
 
--- ---- reduction variables
+  -- ---- reduction variables
 
   pub reductions_unmark : (before : List ℕ) (rs : List Reduction) → Unmarking node (in_order (reduction_events s before rs))
   reductions_unmark before rs = all_unmark node (reduction_events s before rs) (each_one before rs)
@@ -197,8 +185,8 @@ module _ (s : Setting) (node : ℕ) (here : has s.nodes node ≡ true) (written 
       let wrong : Plan Event = wrong_where (is_in before r.variable.number) 5 r.variable.at in
       let rest : Plan Event = in_order (reduction_events s (before ++ r.variable.number ∷ []) rs) in (
         not_true (stale (scalar_object r.variable.number))
-        (safe_read node (scalar_object r.variable.number) (all_nodes s.program) 1 r.variable.at stale (safe_front node read (sequence wrong rest) stale f) all),
+            (safe_read node (scalar_object r.variable.number) (all_nodes s.program) 1 r.variable.at stale (safe_front node read (sequence wrong rest) stale f) all),
         reductions_current all (before ++ r.variable.number ∷ []) rs stale
-        (safe_behind node wrong rest stale (wrong_where_unmarks node _ 5 r.variable.at)
-        (safe_behind node read (sequence wrong rest) stale (read_unmarks node _ _ 1 r.variable.at) f)),
+            (safe_behind node wrong rest stale (wrong_where_unmarks node _ 5 r.variable.at)
+            (safe_behind node read (sequence wrong rest) stale (read_unmarks node _ _ 1 r.variable.at) f)),
       )

@@ -1,30 +1,23 @@
 -- A loop directive in the serial run and at all nodes: the parts side by side.
-use Rattle.std.proofs.Common.{◌≡◌, ◌≢◌, ◌<◌, ◌≤◌, ◌+◌, ◌++◌, ◌==◌, ◌&&◌, not, if◌then◌else◌, ℕ, zero, suc, ℤ, pos, Bool, true, false, List, [], ◌∷◌, length, map, Option, Some, None, refl, sym, subst, ap, ◌∙◌, arith}
-use Rattle.std.specs.Prelude.{slice_get, unwrap_or}
-use Rattle.std.specs.List.{AllByRecursion, list_all, filter, flat_map}
-use Rattle.xmp_num.specs.declared.types.Ty.TheVariants.{Int}
-use Rattle.xmp_num.specs.Arithmetic.{FitsType}
-use Rattle.xmp_paths.specs.NodeSets.{has}
+use Rattle.std.proofs.Common.{◌≡◌, ◌<◌, ◌++◌, ℕ, suc, ℤ, Bool, true, false, List, [], ◌∷◌, length, map, Some, refl, sym, subst, ap, ◌∙◌}
+use Rattle.std.specs.Prelude.{slice_get}
+use Rattle.std.specs.List.{AllByRecursion, filter, flat_map}
 use Rattle.xmp_paths.specs.Plans.{Plan, sequence}
-use Rattle.xmp_paths.specs.Safe.{left, Safe, NothingWrong}
-use Rattle.xmp_paths.proofs.SafeLaws.{safe_front, safe_back}
+use Rattle.xmp_paths.specs.Safe.{Safe, NothingWrong}
+use Rattle.xmp_paths.proofs.SafeLaws.{safe_front}
 use Rattle.xmp_paths.specs.declared.event.Event.{Event}
 use Rattle.xmp_prog.specs.declared.parts.ProgParts.{ProgParts}
 use Rattle.xmp_prog.specs.declared.statements.LoopDirective.{LoopDirective}
 use Rattle.xmp_prog.specs.declared.statements.LoopHead.{LoopHead}
 use Rattle.xmp_prog.specs.declared.statements.Reduction.{Reduction}
 use Rattle.xmp_prog.specs.declared.statements.Stmt.{Stmt}
-use Rattle.xmp_prog.specs.declared.statements.Stmt.TheVariants as stmt
-use Rattle.xmp_prog.specs.Numbers.{is_in, pairwise}
+use Rattle.xmp_prog.specs.Numbers.{is_in}
 use Rattle.xmp_prog.specs.Fits.{node_count}
 use Rattle.xmp_prog.specs.Statements.{indices_of, slots_of_point, writes_of}
 use Rattle.xmp_meaning.specs.declared.ends.Flow.{Flow}
 use Rattle.xmp_meaning.specs.Runs.{State, Step, Run, and_then}
-use Rattle.xmp_meaning.specs.Blocks.{after}
-use Rattle.xmp_meaning.specs.Context.{Context}
 use Rattle.xmp_meaning.specs.Loops.{nest}
-use Rattle.xmp_meaning.specs.LoopEnds.{comes_before}
-use Rattle.xmp_meaning.specs.Exchanges.{Exchange, LoopEnd, PartEnd, Notes, part_ends, traced}
+use Rattle.xmp_meaning.specs.Exchanges.{LoopEnd, PartEnd, Notes, part_ends, traced}
 use Rattle.xmp_meaning.specs.Traffic.{node_beginning}
 use Rattle.xmp_meaning_laws.specs.Laws.{scalar_in}
 use Rattle.xmp_meaning_laws.specs.Tuples.{tuples, ends, for_each, folded, owns_tuple, NestFits, TuplesRise}
@@ -40,17 +33,16 @@ use Rattle.xmp_flow.specs.Program.{outermost}
 use Rattle.xmp_nodes.specs.Nodes.{Nodes, store_at}
 use Rattle.xmp_nodes.specs.Parts.{own_tuples, own_part}
 use Rattle.xmp_nodes.specs.Lockstep.{lockstep}
-use Rattle.xmp_nodes.proofs.Agrees.{IsWhole, Agrees, at_main, ReadyAt, Ready}
-use Rattle.xmp_nodes.proofs.Standing.{IsGlobal, PartFits, NoReturn}
+use Rattle.xmp_nodes.proofs.Agrees.{IsWhole, ReadyAt, Ready}
+use Rattle.xmp_nodes.proofs.Standing.{IsGlobal, NoReturn}
 use Rattle.xmp_nodes.proofs.Leaves.{serial_cx, noting, LoopFits, AloneIsErased, StatementsCarry}
 use Rattle.xmp_nodes.proofs.Each.{Alone, store_there}
 use Rattle.xmp_nodes.proofs.Turns.{Owner, Sides, sides}
 use Rattle.xmp_nodes.proofs.LoopOwn as own
 use Rattle.xmp_nodes.proofs.LoopWays as ways
 use Rattle.xmp_nodes.proofs.LoopFacts.{nest_fits}
-use Rattle.xmp_nodes.proofs.LoopTurns.{Between, Beside}
 use Rattle.xmp_nodes.proofs.TurnSteps as steps
-use Rattle.xmp_nodes.proofs.LoopBegins.{begun, begin_is, BegunFrom, begun_from}
+use Rattle.xmp_nodes.proofs.LoopBegins.{begun, begin_is, begun_from}
 use Rattle.xmp_nodes.proofs.LoopEntry as entry
 use Rattle.xmp_nodes.proofs.LoopEntry.{noted_in}
 

@@ -1,11 +1,9 @@
 -- A way through the plan of a loop directive, with no turn; and what an iteration begins with.
-use Rattle.std.proofs.Common.{◌≡◌, ◌≢◌, ◌+◌, ◌*◌, ◌++◌, ◌==◌, ◌&&◌, ◌||◌, ◌⊎◌, not, if◌then◌else◌, ℕ, zero, suc, Bool, true, false, true≢false, List, [], ◌∷◌, map, Option, Some, None, inl, inr, refl, sym, subst, ap, ◌∙◌, arith, eq-eqb, eqb-true, ne_eqb, append_assoc}
-use Rattle.std.specs.List.{AllByRecursion}
+use Rattle.std.proofs.Common.{◌≡◌, ◌+◌, ◌*◌, ◌++◌, ◌==◌, ◌&&◌, ◌||◌, ◌⊎◌, not, if◌then◌else◌, ℕ, zero, Bool, true, false, true≢false, List, [], ◌∷◌, map, Option, Some, None, inl, inr, refl, sym, subst, ap, ◌∙◌, arith, eq-eqb, eqb-true, ne_eqb, append_assoc}
 use Rattle.xmp_paths.specs.NodeSets.{has}
 use Rattle.xmp_paths.specs.Plans.{Plan, skip, emit, sequence, loop, in_order, Path}
 use Rattle.xmp_paths.specs.Walk.{after_event, after_events}
-use Rattle.xmp_paths.specs.Safe.{left, Safe, NothingWrong}
-use Rattle.xmp_paths.proofs.NodeSetLaws.{no_node}
+use Rattle.xmp_paths.specs.Safe.{left, Safe}
 use Rattle.xmp_paths.proofs.PathLaws.{some_path, walk-append}
 use Rattle.xmp_paths.proofs.SafeLaws.{safe_front, safe_back, safe_loop}
 use Rattle.xmp_paths.specs.declared.event.Event.{Event}

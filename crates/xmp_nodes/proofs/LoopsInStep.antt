@@ -1,25 +1,25 @@
 -- Loops of all nodes in step: uncounted ones, and turns of any kind.
-use Rattle.std.proofs.Common.{◌≡◌, ◌≢◌, ◌<◌, ◌++◌, ◌==◌, ◌⊎◌, inl, inr, ℕ, zero, suc, Bool, true, false, List, [], ◌∷◌, length, Option, Some, None, refl, sym, subst, ap, ◌∙◌, append-nil, arith, ⊎_elim}
+use Rattle.std.proofs.Common.{◌≡◌, ◌<◌, ◌++◌, ℕ, zero, suc, Bool, List, [], ◌∷◌, length, refl, sym, subst, ap, ◌∙◌, append-nil, arith, ⊎_elim}
 use Rattle.std.specs.Prelude.{slice_get}
 use Rattle.xmp_prog.specs.declared.parts.ProgParts.{ProgParts}
 use Rattle.xmp_prog.specs.Fits.{node_count}
 use Rattle.xmp_paths.specs.declared.event.Event.{Event}
-use Rattle.xmp_paths.specs.Plans.{Plan, skip, emit, sequence, branch, loop, Path}
-use Rattle.xmp_paths.specs.Safe.{left, Safe}
+use Rattle.xmp_paths.specs.Plans.{Plan, skip, sequence, branch, loop, Path}
+use Rattle.xmp_paths.specs.Safe.{left}
 use Rattle.xmp_paths.proofs.PathLaws.{some_path}
-use Rattle.xmp_paths.proofs.SafeLaws.{safe_fewer, safe_paths, safe_front, safe_back, safe_both}
+use Rattle.xmp_paths.proofs.SafeLaws.{safe_fewer, safe_back}
 use Rattle.xmp_meaning.specs.declared.ends.Flow.{Flow}
 use Rattle.xmp_meaning.specs.declared.ends.Flow.TheVariants.{Next}
-use Rattle.xmp_meaning.specs.Runs.{State, StepIn, RunIn, Step, Run, Gave, Ended, ◌>>=◌, pure, take_step}
+use Rattle.xmp_meaning.specs.Runs.{State, RunIn, Run, ◌>>=◌, pure, take_step}
 use Rattle.xmp_meaning.specs.Blocks.{then_run, choose, turns}
 use Rattle.xmp_meaning.specs.Loops.{turn, while_loop}
 use Rattle.xmp_meaning.specs.Exchanges.{Notes}
 use Rattle.xmp_nodes.specs.Nodes.{Nodes, all_do}
 use Rattle.xmp_nodes.specs.Lockstep.{steps_left, while_all}
-use Rattle.xmp_nodes.proofs.Agrees.{Agrees, Anything, IsNext, at_main, ReadyAt, Ready, AllAlong, AllFollow}
-use Rattle.xmp_nodes.proofs.Follow.{agrees_fewer, way_joined, way_unrolled, way_none}
+use Rattle.xmp_nodes.proofs.Agrees.{Anything, IsNext, Ready, AllAlong, AllFollow}
+use Rattle.xmp_nodes.proofs.Follow.{way_unrolled, way_none}
 use Rattle.xmp_nodes.proofs.Each.{Alone}
-use Rattle.xmp_nodes.proofs.InStep.{way_first, way_last, way_left, way_right, ready_paths, all_pure, all_value, all_paths, all_on, all_then, all_choose, all_alone}
+use Rattle.xmp_nodes.proofs.InStep.{way_first, way_left, ready_paths, all_pure, all_paths, all_on, all_then, all_choose, all_alone}
 use Rattle.xmp_nodes.proofs.MainSteps.{takes_step}
 
 -- ---- plans that mark nothing

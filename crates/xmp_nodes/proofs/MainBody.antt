@@ -1,57 +1,38 @@
 -- The body of main, which has no `return` but as its last statement, in step; and the initialisers before it.
-use Rattle.std.proofs.Common.{◌≡◌, ◌≢◌, ◌<◌, ◌≤◌, ◌+◌, ◌++◌, ◌⊎◌, inl, inr, ℕ, zero, suc, ℤ, pos, Bool, true, false, true≢false, cond, List, [], ◌∷◌, map, length, Option, Some, None, refl, sym, subst, ap, ◌∙◌, append-nil, arith, zero-add}
-use Rattle.std.specs.List.{AllByRecursion, count_by, sum_by, last_or, flat_map}
+use Rattle.std.proofs.Common.{◌≡◌, ◌<◌, ◌≤◌, ◌+◌, ℕ, Bool, true, false, cond, List, [], ◌∷◌, map, Some, None, refl, sym, subst, ap, ◌∙◌, append-nil, arith}
+use Rattle.std.specs.List.{AllByRecursion, count_by, last_or, flat_map}
 use Rattle.std.proofs.lemmas.List.Sums.{sum_by-append, sum_by-cons}
 use Rattle.std.proofs.lemmas.Bool.{leb-true}
-use Rattle.xmp_num.specs.declared.types.Ty.{Ty}
-use Rattle.xmp_num.specs.Arithmetic.{FitsType, wrap}
 use Rattle.xmp_prog.specs.declared.parts.ProgParts.{ProgParts}
-use Rattle.xmp_prog.specs.declared.parts.Start.{Start}
-use Rattle.xmp_prog.specs.declared.expressions.Access.{Access}
-use Rattle.xmp_prog.specs.declared.expressions.Expr.{Expr, map-Expr}
-use Rattle.xmp_prog.specs.declared.expressions.Expr.TheOpen.{Expr-F, Access-F}
-use Rattle.xmp_prog.specs.declared.expressions.Expr.TheVariants as expr
-use Rattle.xmp_prog.specs.declared.expressions.Expr.TheFolds.{ind-Expr, fold-Access}
-use Rattle.xmp_prog.specs.declared.expressions.Expr.TheViews.{roll-Expr}
 use Rattle.xmp_prog.specs.declared.statements.Plain.{Plain}
 use Rattle.xmp_prog.specs.declared.statements.Plain.TheVariants as plain
 use Rattle.xmp_prog.specs.declared.statements.Stmt.{Stmt, map-Stmt, out-Stmt}
-use Rattle.xmp_prog.specs.declared.statements.Stmt.TheOpen.{Stmt-F, Task-F}
+use Rattle.xmp_prog.specs.declared.statements.Stmt.TheOpen.{Stmt-F}
 use Rattle.xmp_prog.specs.declared.statements.Stmt.TheVariants as stmt
 use Rattle.xmp_prog.specs.declared.statements.Stmt.TheFolds.{fold-Task, fold-roll-Stmt}
 use Rattle.xmp_prog.specs.declared.statements.Stmt.TheViews.{roll-Stmt, roll-out-Stmt}
 use Rattle.xmp_prog.specs.declared.statements.Task.{Task}
-use Rattle.xmp_prog.specs.Tests.{is_return, returns_in, returns_of, last_returns, returns_last, constant_step, is_constant}
+use Rattle.xmp_prog.specs.Tests.{is_return, returns_of, last_returns, returns_last}
 use Rattle.xmp_prog.specs.Statements.{Statement, Walked, WalkedTask, statement_of, statements_below, walk_step, walk_task, walked, statements_of}
 use Rattle.xmp_prog.specs.Fits.{node_count}
 use Rattle.xmp_prog.proofs.Rolls as rolls
 use Rattle.xmp_paths.specs.declared.event.Event.{Event}
-use Rattle.xmp_paths.specs.Plans.{Plan, skip, sequence, in_order}
+use Rattle.xmp_paths.specs.Plans.{Plan, skip, in_order}
 use Rattle.xmp_paths.specs.Safe.{NothingWrong}
 use Rattle.xmp_flow.specs.Statements.{events_of}
 use Rattle.xmp_flow.specs.Program.{outermost}
 use Rattle.xmp_flow.proofs.FormLaws.{events_block}
 use Rattle.xmp_meaning.specs.declared.ends.Flow.{Flow}
 use Rattle.xmp_meaning.specs.declared.ends.Flow.TheVariants.{Next, Returned}
-use Rattle.xmp_meaning.specs.Runs.{State, RunIn, Run, ◌>>=◌, pure, set_scalar}
-use Rattle.xmp_meaning.specs.Blocks.{after, then_run, block}
-use Rattle.xmp_meaning.specs.Context.{Context}
-use Rattle.xmp_meaning.specs.Handlers.{Handlers, erased}
-use Rattle.xmp_meaning.specs.Expressions.{expr_of}
-use Rattle.xmp_meaning.specs.Declarations.{scalar_type}
-use Rattle.xmp_meaning.specs.Programs.{starts}
-use Rattle.xmp_meaning.specs.Exchanges.{Notes, traced}
-use Rattle.xmp_meaning.specs.Traffic.{node_context}
-use Rattle.xmp_meaning.proofs.Forms.{expr_const, expr_convert}
-use Rattle.xmp_meaning_laws.proofs.Values.{wrap_fits}
-use Rattle.xmp_nodes.specs.Nodes.{Nodes, all_do}
+use Rattle.xmp_meaning.specs.Runs.{RunIn, pure}
+use Rattle.xmp_meaning.specs.Blocks.{after, block}
+use Rattle.xmp_nodes.specs.Nodes.{Nodes}
 use Rattle.xmp_nodes.specs.Lockstep.{lockstep}
-use Rattle.xmp_nodes.proofs.Agrees.{Carried, Anything, IsNext, at_main, AllFollow}
-use Rattle.xmp_nodes.proofs.Standing.{IsGlobal, PartFits, NoReturn}
-use Rattle.xmp_nodes.proofs.Leaves.{serial_cx, noting, GivesNext}
-use Rattle.xmp_nodes.proofs.Follow.{right_front, right_back, carried_pure, carried_last}
-use Rattle.xmp_nodes.proofs.InStep.{all_pure, all_value, all_on, all_then, all_alone}
-use Rattle.xmp_nodes.proofs.MainSteps.{set_unmarked}
+use Rattle.xmp_nodes.proofs.Agrees.{Anything, IsNext, AllFollow}
+use Rattle.xmp_nodes.proofs.Standing.{IsGlobal, PartFits}
+use Rattle.xmp_nodes.proofs.Leaves.{noting, GivesNext}
+use Rattle.xmp_nodes.proofs.Follow.{right_front, right_back}
+use Rattle.xmp_nodes.proofs.InStep.{all_pure, all_value, all_on, all_then}
 use Rattle.xmp_nodes.proofs.Lockstep.{Parts, FollowsAs, followed, plain_all_follow, of_block}
 
 -- ---- how many `return` there are
@@ -101,8 +82,8 @@ own_return x =
     let rest : ℕ = count_by is_return (statements_below form) in
     let own : ℕ = cond (is_return (out-Stmt x)) 1 0 in
     let a : count_by is_return (statements_of x) ≡ own + rest =
-        ap (λ (w : Walked). count_by is_return w.statements) (walked_out x)
-        ∙ (sum_by-cons one_of (statement_of form) (statements_below form) ∙ ap (λ r. cond r 1 0 + rest) (same_return (out-Stmt x))) in
+    ap (λ (w : Walked). count_by is_return w.statements) (walked_out x)
+    ∙ (sum_by-cons one_of (statement_of form) (statements_below form) ∙ ap (λ r. cond r 1 0 + rest) (same_return (out-Stmt x))) in
     let b : returns_of (Some x) ≡ own + 0 = sum_by-cons (λ (o : Stmt-F Stmt Task). cond (is_return o) 1 0) (out-Stmt x) [] in
     omega (arith, a, b)
 
@@ -193,9 +174,9 @@ module _ (parts : Parts) (p : ProgParts) (global : IsGlobal p) (some : 0 < node_
           let here : PartFits p (stmt.Block all) = subst (PartFits p) same fits in
           let fine : NothingWrong (events_of (stmt.Block all) (outermost p)) = subst (λ y. NothingWrong (events_of y (outermost p))) same right in
           let counted : count_by is_return (statements_of p.body) ≡ 0 + count_by is_return (below all) =
-              ap (λ y. count_by is_return (statements_of y)) same
-              ∙ (ap (λ (w : Walked). count_by is_return w.statements) (rolls.at_block Walked WalkedTask walk_step walk_task all)
-              ∙ sum_by-cons one_of (Stmt-F.Block (map (λ (w : Walked). w.writes) (map walked all))) (below all)) in
+          ap (λ y. count_by is_return (statements_of y)) same
+          ∙ (ap (λ (w : Walked). count_by is_return w.statements) (rolls.at_block Walked WalkedTask walk_step walk_task all)
+          ∙ sum_by-cons one_of (Stmt-F.Block (map (λ (w : Walked). w.writes) (map walked all))) (below all)) in
           let last : last_returns (out-Stmt p.body) ≡ returns_of (last_or None all) = ap last_returns f in
           let l = le in
           subst Goes (sym same)

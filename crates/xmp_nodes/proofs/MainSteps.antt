@@ -1,34 +1,29 @@
 -- Steps at the body of main: a scalar is set, a scalar is read, and a step is taken.
-use Rattle.std.proofs.Common.{◌≡◌, ◌≢◌, ◌<◌, ◌+◌, ◌*◌, ◌++◌, ◌==◌, ℕ, zero, suc, ℤ, pos, Bool, true, false, true≢false, bit_xor, List, [], ◌∷◌, map, length, Option, Some, None, refl, sym, subst, ap, ◌∙◌, arith}
+use Rattle.std.proofs.Common.{◌≡◌, ◌≢◌, ◌<◌, ◌+◌, ◌*◌, ◌==◌, ℕ, zero, suc, ℤ, pos, Bool, true, false, true≢false, bit_xor, List, [], ◌∷◌, length, refl, sym, subst, ap, ◌∙◌, arith}
 use Rattle.std.specs.Prelude.{slice_get, slice_set, unwrap_or}
 use Rattle.std.specs.Int.Bits.{xor_self}
-use Rattle.std.proofs.lemmas.Bool.{eqb-true, eqb-false, eq-eqb}
+use Rattle.std.proofs.lemmas.Bool.{eqb-true, eqb-false}
 use Rattle.std.proofs.lemmas.Option.{none-some}
 use Rattle.xmp_base.specs.declared.place.Place.{Place}
-use Rattle.xmp_num.specs.declared.types.Ty.{Ty}
 use Rattle.xmp_num.specs.Arithmetic.{FitsType}
 use Rattle.xmp_prog.specs.declared.parts.ProgParts.{ProgParts}
 use Rattle.xmp_prog.specs.Fits.{node_count}
-use Rattle.xmp_paths.specs.declared.event.Event.{Event}
 use Rattle.xmp_paths.specs.declared.event.Event.TheVariants.{Read, Mark}
-use Rattle.xmp_paths.specs.NodeSets.{has}
 use Rattle.xmp_paths.specs.Walk.{after_event}
-use Rattle.xmp_paths.specs.Plans.{Plan, skip, emit, sequence, Path}
-use Rattle.xmp_paths.specs.Safe.{left, Safe}
+use Rattle.xmp_paths.specs.Plans.{skip, emit}
+use Rattle.xmp_paths.specs.Safe.{left}
 use Rattle.xmp_paths.proofs.SafeLaws.{safe_read}
 use Rattle.xmp_loops.specs.Objects.{scalar_object, array_object, all_nodes}
 use Rattle.xmp_loops.specs.declared.role.Role.TheVariants.{Shared, Reduced}
 use Rattle.xmp_flow.specs.Setting.{assigned}
 use Rattle.xmp_flow.specs.Program.{outermost}
-use Rattle.xmp_meaning.specs.declared.ends.End.{End}
-use Rattle.xmp_meaning.specs.declared.ends.End.TheVariants.{OutOfSteps}
-use Rattle.xmp_meaning.specs.Runs.{State, Step, Run, Gave, Ended, pure, scalar, set_scalar, step_of, take_step}
+use Rattle.xmp_meaning.specs.Runs.{State, scalar, set_scalar, step_of, take_step}
 use Rattle.xmp_meaning.specs.Declarations.{scalar_type}
 use Rattle.xmp_meaning.specs.Exchanges.{Notes}
 use Rattle.xmp_meaning.proofs.Stays.{set_other}
 use Rattle.xmp_meaning_laws.specs.Laws.{scalar_in}
 use Rattle.xmp_meaning_laws.proofs.Values.{set_has}
-use Rattle.xmp_nodes.proofs.Agrees.{IsWhole, Agrees, Framed, GoesOn, Along, Carried, Anything, at_main}
+use Rattle.xmp_nodes.proofs.Agrees.{Agrees, Framed, Along, Carried, Anything, at_main}
 use Rattle.xmp_nodes.proofs.Follow.{framed_same}
 use Rattle.xmp_nodes.proofs.NodeBits.{all_have}
 use Rattle.xmp_nodes.proofs.CastLaws.{cleared, untouched}

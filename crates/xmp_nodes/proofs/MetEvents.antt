@@ -1,12 +1,10 @@
 -- What stands in a plan is met on some way through it: in a safe plan without marks each read of the node is current.
-use Rattle.std.proofs.Common.{◌≡◌, ℕ, zero, suc, Bool, true, false, List, [], ◌∷◌, ◌++◌, ◌⊎◌, inl, inr, refl, sym, ap, ◌∙◌, subst, append_assoc, append-nil, ⊎_elim}
+use Rattle.std.proofs.Common.{◌≡◌, ℕ, zero, suc, Bool, true, false, List, [], ◌∷◌, ◌++◌, inl, inr, refl, sym, ap, ◌∙◌, subst, append_assoc, append-nil, ⊎_elim}
 use Rattle.std.specs.List.{AllByRecursion}
-use Rattle.std.proofs.lemmas.Bool.{false≢true, cases_Bool}
-use Rattle.xmp_base.specs.declared.place.Place.{Place}
 use Rattle.xmp_paths.specs.NodeSets.{has}
 use Rattle.xmp_paths.specs.Plans.{Plan, skip, emit, sequence, branch, loop, in_order, Path, Repeated, Stands}
 use Rattle.xmp_paths.specs.Walk.{after_event, after_events}
-use Rattle.xmp_paths.specs.Safe.{left, Safe, NothingWrong}
+use Rattle.xmp_paths.specs.Safe.{Safe, NothingWrong}
 use Rattle.xmp_paths.proofs.PathLaws.{some_path, walk-append}
 use Rattle.xmp_paths.specs.declared.event.Event.{Event}
 use Rattle.xmp_paths.specs.declared.event.Event.TheVariants.{Read, Wrong, Mark}

@@ -324,4 +324,3 @@ pub side_after : (p : ProgParts) → IsGlobal p → (input : List ℕ) (target s
     → length to ≡ length (extents_of_side p target) → (first : Alone) (stale : ℕ → Bool) → Agrees (at_main p 0) stale s first → After p input target source to from s
 side_after p global input (side.Scalar name) source to from s fits l first stale g = scalar_after p input name source to from s l first stale g
 side_after p global input (side.Array name parts) source to from s fits l first stale g = array_after p global input name parts source to from s fits first stale g
-

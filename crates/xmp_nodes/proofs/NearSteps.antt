@@ -1,24 +1,21 @@
 -- A plain statement at a node: first values, which leave the states but for their steps, and then a write.
-use Rattle.std.proofs.Common.{◌≡◌, ◌++◌, ◌⊎◌, inl, inr, ℕ, ℤ, Bool, true, false, List, [], ◌∷◌, map, Option, Some, None, refl, sym, subst, ap, ◌∙◌, append_assoc, ⊎_elim}
-use Rattle.std.specs.List.{AllByRecursion}
-use Rattle.xmp_base.specs.declared.place.Place.{Place}
+use Rattle.std.proofs.Common.{◌≡◌, ◌++◌, inl, inr, ℕ, Bool, true, List, [], ◌∷◌, refl, sym, subst, ap, ◌∙◌, append_assoc, ⊎_elim}
 use Rattle.xmp_paths.specs.NodeSets.{has}
-use Rattle.xmp_paths.specs.Plans.{Plan, skip, emit, sequence, in_order, Path, Stands}
+use Rattle.xmp_paths.specs.Plans.{Plan, sequence, in_order, Path, Stands}
 use Rattle.xmp_paths.specs.Safe.{left, Safe, NothingWrong}
 use Rattle.xmp_paths.specs.Walk.{after_events}
 use Rattle.xmp_paths.specs.declared.event.Event.{Event}
 use Rattle.xmp_paths.specs.declared.event.Event.TheVariants.{Wrong}
-use Rattle.xmp_paths.proofs.PathLaws.{some_path, walk-append}
+use Rattle.xmp_paths.proofs.PathLaws.{some_path}
 use Rattle.xmp_paths.proofs.SafeLaws.{safe_paths, safe_front}
-use Rattle.xmp_meaning.specs.declared.ends.End.{End}
 use Rattle.xmp_meaning.specs.Runs.{State, Step, Gave, Ended, Run, and_then}
 use Rattle.xmp_meaning.specs.Exchanges.{Notes}
 use Rattle.xmp_meaning_laws.specs.Laws.{TakesNoStep}
 use Rattle.xmp_meaning_laws.specs.Agreement.{StepsMeet}
-use Rattle.xmp_nodes.proofs.Agrees.{Stand, Agrees, Framed, GoesOn, EndsSo, Along}
+use Rattle.xmp_nodes.proofs.Agrees.{Stand, Agrees, Framed, Along}
 use Rattle.xmp_nodes.proofs.Standing.{IsSetting}
 use Rattle.xmp_nodes.proofs.Follow.{agrees_fewer, framed_on, left_append}
-use Rattle.xmp_nodes.proofs.MetEvents.{EachEvent, EachOf, NoMark, IsFine, each_ordered, ordered_each, each_is_fine, unmarked}
+use Rattle.xmp_nodes.proofs.MetEvents.{EachOf, NoMark, IsFine, each_ordered, ordered_each, each_is_fine, unmarked}
 use Rattle.xmp_nodes.proofs.ExpressionsCarried.{Near, near_agrees, near_framed, near_out}
 
 -- ---- plans in order, cut in two

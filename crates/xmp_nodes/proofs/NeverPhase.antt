@@ -1,22 +1,21 @@
 -- A run over which directives mean nothing never comes to the end of a phase.
-use Rattle.std.proofs.Common.{◌≡◌, ◌==◌, if◌then◌else◌, ℕ, zero, suc, ℤ, pos, Bool, true, false, List, [], ◌∷◌, length, Option, Some, None, refl}
+use Rattle.std.proofs.Common.{◌==◌, if◌then◌else◌, ℕ, zero, suc, ℤ, Bool, true, false, List, [], ◌∷◌, length, Option, Some, None}
 use Rattle.std.specs.Prelude.{slice_get}
 use Rattle.xmp_num.specs.Arithmetic.{wrap}
 use Rattle.xmp_prog.specs.declared.parts.Function.{Function}
 use Rattle.xmp_prog.specs.declared.parts.ProgParts.{ProgParts}
 use Rattle.xmp_meaning.specs.declared.ends.End.TheVariants.{Trapped, OutOfSteps, PhaseEnd}
-use Rattle.xmp_meaning.specs.declared.ends.Flow.{Flow}
-use Rattle.xmp_meaning.specs.Runs.{State, Step, Gave, Ended, Run, and_then, ◌>>=◌, pure, set_scalar, step_of, take_step}
+use Rattle.xmp_meaning.specs.Runs.{State, Step, Gave, Ended, Run, and_then, ◌>>=◌, pure, step_of, take_step}
 use Rattle.xmp_meaning.specs.Layouts.{Whole}
 use Rattle.xmp_meaning.specs.Context.{Context}
 use Rattle.xmp_meaning.specs.Handlers.{erased}
-use Rattle.xmp_meaning.specs.Expressions.{after_call, call}
+use Rattle.xmp_meaning.specs.Expressions.{after_call}
 use Rattle.xmp_meaning.specs.Loops.{turn}
 use Rattle.xmp_meaning.specs.Statements.{stmt_of}
-use Rattle.xmp_meaning.specs.Calls.{frame, bind, returned, invoke, invoke_some, context, context_with, call_of, main_context}
-use Rattle.xmp_meaning.specs.Programs.{beginning, program, serial_end}
+use Rattle.xmp_meaning.specs.Calls.{frame, bind, returned, invoke_some, context, context_with, call_of, main_context}
+use Rattle.xmp_meaning.specs.Programs.{beginning, serial_end}
 use Rattle.xmp_meaning.specs.Writes.{scalars_written, arrays_written}
-use Rattle.xmp_meaning.proofs.Keeps.{Joins, Keeps, KeepsHandlers, turns_kept, erased_kept}
+use Rattle.xmp_meaning.proofs.Keeps.{Joins, Keeps, turns_kept, erased_kept}
 use Rattle.xmp_meaning.proofs.RelatedStatements.{keeps-stmt, keeps-program}
 use Rattle.xmp_meaning.proofs.Stays.{Any, all_any}
 

@@ -1,87 +1,51 @@
 -- An expression at a node follows the serial one.
-use Rattle.std.proofs.Common.{◌≡◌, ◌<◌, ◌++◌, ◌*◌, ◌&&◌, ◌||◌, ◌⊎◌, inl, inr, not, ℕ, zero, suc, ℤ, pos, Bool, true, false, true≢false, List, [], ◌∷◌, length, map, Option, Some, None, refl, sym, subst, ap, ◌∙◌, ⊎_elim}
-use Rattle.std.specs.Prelude.{slice_get, is_none, unwrap_or}
+use Rattle.std.proofs.Common.{◌≡◌, ◌<◌, ◌++◌, ◌&&◌, ◌⊎◌, inl, inr, not, ℕ, ℤ, Bool, true, false, true≢false, List, [], ◌∷◌, length, map, Option, Some, None, refl, sym, subst, ap, ◌∙◌}
+use Rattle.std.specs.Prelude.{slice_get, is_none}
 use Rattle.std.specs.List.{AllByRecursion, list_all, flat_map}
 use Rattle.std.specs.Option.{option_map}
-use Rattle.std.proofs.lemmas.List.{length-map}
 use Rattle.xmp_base.specs.declared.place.Place.{Place}
-use Rattle.xmp_num.specs.declared.types.Ty.{Ty}
-use Rattle.xmp_num.specs.Arithmetic.{FitsType}
 use Rattle.xmp_map.specs.declared.array_map.ArrayMap.{ArrayMap}
 use Rattle.xmp_map.specs.RowMajor.{product, row_major}
 use Rattle.xmp_map.specs.Boxes.{IsInside}
 use Rattle.xmp_map.specs.Held as held
-use Rattle.xmp_map.proofs.Counted.{and_left, and_right}
 use Rattle.xmp_paths.specs.NodeSets.{has}
-use Rattle.xmp_paths.specs.Plans.{Plan, skip, emit, Path}
-use Rattle.xmp_paths.specs.Safe.{left, Safe, NothingWrong}
-use Rattle.xmp_paths.specs.declared.event.Event.{Event}
-use Rattle.xmp_paths.specs.declared.event.Event.TheVariants.{Read, Wrong, Mark}
-use Rattle.xmp_paths.proofs.PathLaws.{some_path}
 use Rattle.xmp_prog.specs.declared.parts.ProgParts.{ProgParts}
 use Rattle.xmp_prog.specs.declared.parts.Array.{Array}
 use Rattle.xmp_prog.specs.declared.parts.Home.{Home}
 use Rattle.xmp_prog.specs.declared.parts.Home.TheVariants as home
 use Rattle.xmp_prog.specs.declared.expressions.Expr.{Expr}
 use Rattle.xmp_prog.specs.declared.expressions.Access.{Access}
-use Rattle.xmp_prog.specs.declared.expressions.Expr.TheOpen.{Expr-F, Access-F}
 use Rattle.xmp_prog.specs.declared.expressions.Expr.TheFolds.{fold-roll-Access}
-use Rattle.xmp_prog.specs.declared.statements.LoopDirective.{LoopDirective}
-use Rattle.xmp_prog.specs.declared.statements.Plain.TheVariants as plain
-use Rattle.xmp_prog.specs.declared.statements.Stmt.TheVariants as stmt
-use Rattle.xmp_prog.specs.declared.statements.Stmt.TheOpen.{Stmt-F}
-use Rattle.xmp_prog.specs.Terms.{Term, Of, Element, Typed, typed, typed_step, access_step, access_types, image_terms, terms_of, terms_of_access, type_of}
+use Rattle.xmp_prog.specs.Terms.{Term, Element, Typed, typed, typed_step, access_step, image_terms, terms_of_access}
 use Rattle.xmp_prog.specs.Tests.{element_fits, image_fits, subscripts_fit}
 use Rattle.xmp_prog.specs.Tests as tests
 use Rattle.xmp_prog.specs.Fits.{node_count, HomeFits, SpreadFits}
-use Rattle.xmp_prog.specs.Statements.{Walked, WalkedTask, walk_step, walk_task, statements_of, terms_in}
-use Rattle.xmp_prog.proofs.Rolls.{at_plain}
 use Rattle.xmp_loops.specs.Objects.{scalar_object, array_object, all_nodes}
 use Rattle.xmp_loops.specs.declared.role.Role.{Role}
 use Rattle.xmp_loops.specs.declared.role.Role.TheVariants.{Shared, Index, Reduced, Own}
-use Rattle.xmp_flow.specs.Setting.{Setting, is_reduced, wrong_where, read_scalar, reads_scalar}
-use Rattle.xmp_flow.specs.Elements as flow
-use Rattle.xmp_flow.specs.Elements.{spread_events, read_at_home, element_read}
-use Rattle.xmp_flow.specs.Reads.{reads_of}
-use Rattle.xmp_meaning.specs.declared.ends.End.{End}
-use Rattle.xmp_meaning.specs.declared.ends.Flow.{Flow}
-use Rattle.xmp_meaning.specs.declared.ends.Flow.TheVariants.{Next, Returned}
+use Rattle.xmp_flow.specs.Setting.{is_reduced}
 use Rattle.xmp_meaning.specs.Cells.{row_in, read_in}
-use Rattle.xmp_meaning.specs.Runs.{State, Step, StepIn, Gave, Ended, Run, ◌>>=◌, pure, and_then, state_of}
-use Rattle.xmp_meaning.specs.Declarations.{extents, home_of, home_of_array, extents_of_array, is_coarray}
+use Rattle.xmp_meaning.specs.Runs.{State}
+use Rattle.xmp_meaning.specs.Declarations.{extents, home_of, home_of_array}
 use Rattle.xmp_meaning.specs.Layouts.{Whole, Packed, number_of}
-use Rattle.xmp_meaning.specs.Context.{Context}
-use Rattle.xmp_meaning.specs.Handlers.{Handlers, TaskRun, erased}
-use Rattle.xmp_meaning.specs.Expressions.{expr_of, cell_of}
-use Rattle.xmp_meaning.specs.Statements.{stmt_of, stmt_step, task_step}
+use Rattle.xmp_meaning.specs.Handlers.{erased}
 use Rattle.xmp_meaning.specs.Calls.{call_of}
-use Rattle.xmp_meaning.specs.Exchanges.{Notes, traced}
-use Rattle.xmp_meaning.specs.Traffic.{node_context}
-use Rattle.xmp_meaning_laws.specs.Laws.{ValuesLie, scalar_in, calls_pass, is_without, has_no_while, TakesNoStep, GivesA, TermsFit}
-use Rattle.xmp_meaning_laws.specs.Agreement.{Spot, Seen, SeenElement, seen, seen_access, seen_step, seen_element, SpotIn, StepsMeet, MayBe, own_image, IsKnown}
+use Rattle.xmp_meaning.specs.Exchanges.{Notes}
+use Rattle.xmp_meaning_laws.specs.Laws.{scalar_in, TermsFit}
+use Rattle.xmp_meaning_laws.specs.Agreement.{Seen, SeenElement, seen, seen_access, seen_step, seen_element}
 use Rattle.xmp_meaning_laws.proofs.CountedLoops.{both_true}
-use Rattle.xmp_meaning_laws.proofs.Stays.{steps_stay}
-use Rattle.xmp_meaning_laws.proofs.Types.{expressions_lie}
 use Rattle.xmp_meaning_laws.proofs.Twins.{Couple}
-use Rattle.xmp_meaning_laws.proofs.Twins as twins
 use Rattle.xmp_move.specs.Sides.{owns_cell, holds_cell, position}
 use Rattle.xmp_move.specs.Stores.{word_at}
 use Rattle.xmp_move.specs.Laid.{MapFits}
-use Rattle.xmp_move.specs.Kept.{IsOfCode, HasThree}
+use Rattle.xmp_move.specs.Kept.{IsOfCode}
 use Rattle.xmp_move.proofs.SidesKept.{owners_hold}
-use Rattle.xmp_nodes.proofs.Agrees.{Stand, IsWhole, Agrees, Framed, TurnLeaves, GoesOn, EndsSo, Along, Carried}
-use Rattle.xmp_nodes.proofs.Standing.{IsGlobal, TermStands, IsSetting, IsLoopSetting}
-use Rattle.xmp_nodes.proofs.Leaves.{serial_cx, ExpressionsCarry}
-use Rattle.xmp_nodes.proofs.Follow.{agrees_fewer}
+use Rattle.xmp_nodes.proofs.Agrees.{Stand, Agrees}
+use Rattle.xmp_nodes.proofs.Standing.{TermStands, IsSetting}
 use Rattle.xmp_nodes.proofs.NodeBits.{all_have}
-use Rattle.xmp_nodes.proofs.MetEvents.{EachEvent, EachOf, IsFine, each_is_fine}
-use Rattle.xmp_nodes.proofs.ReadsMark.{reads_unmarked, reads_keep}
-use Rattle.xmp_nodes.proofs.ReadEvents.{typed_access, expr_seen, access_seen}
-use Rattle.xmp_nodes.proofs.Readers.{AreReaders, Same, expr_twin, cell_twin, OfOneCell}
-use Rattle.xmp_nodes.proofs.SameRuns.{noted_expr}
-use Rattle.xmp_nodes.proofs.CalledFunctions.{loops_or_not}
-use Rattle.xmp_nodes.proofs.CellNumbers.{item_of, cell_word, code, fits_map, not_image, not_coarray, whole_at, packed_at}
-use Rattle.xmp_nodes.proofs.ElementCells.{known_in, known_is, maybe_inside, AllOwned, AllHeld, HeldIs, spread_cells}
+use Rattle.xmp_nodes.proofs.Readers.{AreReaders}
+use Rattle.xmp_nodes.proofs.CellNumbers.{item_of, cell_word, code, fits_map, whole_at, packed_at}
+use Rattle.xmp_nodes.proofs.ElementCells.{known_in, known_is}
 
 -- ---- terms
 

@@ -1,34 +1,27 @@
 -- The parts of a program that fit, statement by statement.
-use Rattle.std.proofs.Common.{◌≡◌, ◌<◌, ◌++◌, ◌&&◌, ◌||◌, ℕ, suc, Bool, true, false, List, [], ◌∷◌, length, map, refl, sym, subst, ap, ◌∙◌}
+use Rattle.std.proofs.Common.{◌≡◌, ◌<◌, ◌++◌, ◌&&◌, ◌||◌, ℕ, suc, Bool, true, List, [], ◌∷◌, length, map, refl, sym, subst, ap, ◌∙◌}
 use Rattle.std.specs.Prelude.{nat_lt}
 use Rattle.std.specs.List.{AllByRecursion, list_all, flat_map}
 use Rattle.std.proofs.lemmas.Bool.{leb-true}
 use Rattle.std.proofs.lemmas.List.Folds.{list_all-append}
-use Rattle.xmp_base.specs.declared.place.Place.{Place}
-use Rattle.xmp_map.specs.declared.grid.NodeSet.{NodeSet}
 use Rattle.xmp_map.proofs.Counted.{and_left, and_right}
 use Rattle.xmp_prog.specs.declared.parts.ProgParts.{ProgParts}
 use Rattle.xmp_prog.specs.declared.parts.Kind.{Kind}
 use Rattle.xmp_prog.specs.declared.parts.Kind.TheVariants.{Global}
-use Rattle.xmp_prog.specs.declared.expressions.Expr.{Expr}
-use Rattle.xmp_prog.specs.declared.statements.LoopDirective.{LoopDirective}
-use Rattle.xmp_prog.specs.declared.statements.LoopHead.{LoopHead}
-use Rattle.xmp_prog.specs.declared.statements.Plain.{Plain}
 use Rattle.xmp_prog.specs.declared.statements.Stmt.{Stmt}
 use Rattle.xmp_prog.specs.declared.statements.Stmt.TheOpen.{Stmt-F}
 use Rattle.xmp_prog.specs.declared.statements.Stmt.TheVariants as stmt
 use Rattle.xmp_prog.specs.declared.statements.Stmt.TheFolds.{fold-Task, fold-roll-Task}
 use Rattle.xmp_prog.specs.declared.statements.Task.{Task}
-use Rattle.xmp_prog.specs.Counted.{is_counted}
 use Rattle.xmp_prog.specs.Terms.{Term, terms_of}
 use Rattle.xmp_prog.specs.Tests.{constant_fits, operands_fit, choice_fits, element_fits, image_fits, asks_no_node, assignment_fits, counted_fits, is_no_sync}
 use Rattle.xmp_prog.specs.Directives.{names_template, has_points, has_indices, is_small_point, indices_once, indices_of_nest, at_loops, nest_counted, at_gmoves, side_fits, sections_agree, cast_fits, tasks_inside, tasks_apart}
-use Rattle.xmp_prog.specs.Fits.{PartsFit, has_coarrays, terms_of_program, statements_of_program, slots_of_function, slots_of_main, slots_of_starts}
+use Rattle.xmp_prog.specs.Fits.{has_coarrays, terms_of_program, statements_of_program, slots_of_function, slots_of_main, slots_of_starts}
 use Rattle.xmp_prog.specs.Statements.{Statement, Walked, WalkedTask, walk_step, walk_task, walked, arrays_beside, statements_of, terms_in, slots_in, terms_of_stmt, slots_of_stmt, writes_of}
 use Rattle.xmp_prog.proofs.Rolls.{at_plain, at_block, at_if, at_while, at_counted, at_loop, at_tasks}
 use Rattle.xmp_meaning_laws.proofs.Conditions.{all_apart}
-use Rattle.xmp_nodes.proofs.Standing.{IsGlobal, TermStands, StatementStands, PartFits}
-use Rattle.xmp_nodes.proofs.Leaves.{BodyFits, BlocksFit, IfFits, IfsFit, WhileFits, WhilesFit, CountedFits, CountedsFit, StepFits, PlainFits, LoopFits, LoopsFit, TasksFit, AllTasksFit}
+use Rattle.xmp_nodes.proofs.Standing.{TermStands, StatementStands, PartFits}
+use Rattle.xmp_nodes.proofs.Leaves.{BodyFits, BlocksFit, IfsFit, WhilesFit, CountedsFit, StepFits, PlainFits, LoopsFit, AllTasksFit}
 
 -- ---- tests of a list
 

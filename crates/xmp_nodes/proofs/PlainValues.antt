@@ -1,21 +1,17 @@
 -- The values of plain statements at a node: arguments, and the new value of an assignment.
-use Rattle.std.proofs.Common.{◌≡◌, ◌++◌, ◌&&◌, ℕ, ℤ, pos, Bool, true, false, List, [], ◌∷◌, map, Option, Some, None, refl, sym, subst, ap, ◌∙◌}
-use Rattle.std.specs.List.{AllByRecursion, list_all, flat_map}
+use Rattle.std.proofs.Common.{◌≡◌, ◌++◌, ℕ, ℤ, Bool, true, List, [], ◌∷◌, map, Option, Some, None, refl, sym, ap, ◌∙◌}
+use Rattle.std.specs.List.{AllByRecursion, list_all}
 use Rattle.std.proofs.lemmas.List.Folds.{list_all-append}
-use Rattle.xmp_num.specs.Arithmetic.{binary_of, wrap}
+use Rattle.xmp_num.specs.Arithmetic.{binary_of}
 use Rattle.xmp_paths.specs.NodeSets.{has}
-use Rattle.xmp_paths.specs.Plans.{Plan}
-use Rattle.xmp_paths.specs.declared.event.Event.{Event}
 use Rattle.xmp_prog.specs.declared.expressions.Expr.{Expr}
 use Rattle.xmp_prog.specs.declared.expressions.Access.{Access}
-use Rattle.xmp_prog.specs.declared.expressions.Expr.TheFolds.{ind-Access, fold-roll-Access}
 use Rattle.xmp_prog.specs.declared.statements.Compound.{Compound}
-use Rattle.xmp_prog.specs.Terms.{Term, terms_of, terms_of_list, terms_of_access}
+use Rattle.xmp_prog.specs.Terms.{terms_of, terms_of_list, terms_of_access}
 use Rattle.xmp_flow.specs.Reads.{reads_of, reads_of_all, subscript_reads}
 use Rattle.xmp_meaning.specs.declared.location.Location.TheVariants as location
 use Rattle.xmp_meaning.specs.Cells.{read_in}
-use Rattle.xmp_meaning.specs.Runs.{State, Step, Gave, Ended, Run, ◌>>=◌, pure, scalar, or_trap}
-use Rattle.xmp_meaning.specs.Layouts.{Whole, Packed, number_of}
+use Rattle.xmp_meaning.specs.Runs.{State, ◌>>=◌, scalar, or_trap}
 use Rattle.xmp_meaning.specs.Context.{Context}
 use Rattle.xmp_meaning.specs.Handlers.{erased}
 use Rattle.xmp_meaning.specs.Blocks.{each}
@@ -35,7 +31,7 @@ use Rattle.xmp_nodes.proofs.MetEvents.{EachEvent, EachOf, IsFine}
 use Rattle.xmp_nodes.proofs.Readers.{AreReaders, Same, Twin, Any, same_on, gives, or_trap_twin, scalar_twin, expr_twin, cell_twin, OfOneCell}
 use Rattle.xmp_nodes.proofs.ElementCells.{known_in}
 use Rattle.xmp_nodes.proofs.NodeExpressions.{couple, agreed, MayGet, Beside, readers, begins}
-use Rattle.xmp_nodes.proofs.NodeReads.{Good, seen_good, access_good, calls}
+use Rattle.xmp_nodes.proofs.NodeReads.{seen_good, access_good, calls}
 
 module _ (a : Stand) (is : IsSetting a) (there : has a.set.nodes a.node ≡ true) (input : List ℕ) (stale : ℕ → Bool) (s : State Notes) (n : State (Unit {0})) (g : Agrees a stale s n) where
   abbrev pub reading : AreReaders Notes (Unit {0}) (couple a is there input) erased erased (known_in a s) (MayGet a is there input stale) (Beside a is there input stale s n g)

@@ -1,5 +1,5 @@
 -- Both runs write a scalar, a cell or text: they still agree.
-use Rattle.std.proofs.Common.{◌≡◌, ◌≢◌, ◌<◌, ◌≤◌, ◌+◌, ◌+ℤ◌, ◌*◌, ◌++◌, ◌==◌, ℕ, zero, suc, ℤ, pos, Bool, true, false, true≢false, List, [], ◌∷◌, map, length, Option, Some, None, refl, sym, subst, ap, ◌∙◌, arith, eqb-true, append_assoc}
+use Rattle.std.proofs.Common.{◌≡◌, ◌≢◌, ◌<◌, ◌≤◌, ◌+ℤ◌, ◌++◌, ◌==◌, ℕ, zero, suc, ℤ, pos, Bool, true, false, true≢false, List, [], ◌∷◌, map, length, Option, Some, refl, sym, subst, ap, ◌∙◌, arith, eqb-true, append_assoc}
 use Rattle.std.proofs.lemmas.Bool.{eqb-false}
 use Rattle.std.specs.Prelude.{slice_get, slice_set, unwrap_or}
 use Rattle.std.specs.List.{AllByRecursion, flat_map}
@@ -11,35 +11,29 @@ use Rattle.xmp_map.specs.RowMajor.{product, row_major}
 use Rattle.xmp_map.specs.Boxes.{IsInside}
 use Rattle.xmp_map.specs.Held as held
 use Rattle.xmp_map.proofs.Order.{row_major-unique, row_major-lt, inside_below}
-use Rattle.xmp_paths.specs.declared.event.Event.{Event}
-use Rattle.xmp_prog.specs.declared.parts.ProgParts.{ProgParts}
-use Rattle.xmp_prog.specs.declared.parts.Home.{Home}
 use Rattle.xmp_prog.specs.declared.parts.Home.TheVariants as home
 use Rattle.xmp_prog.specs.declared.statements.LoopDirective.{LoopDirective}
 use Rattle.xmp_prog.specs.declared.statements.Point.{Point}
 use Rattle.xmp_prog.specs.declared.statements.Point.TheVariants as point
 use Rattle.xmp_prog.specs.Statements.{slots_of_point}
 use Rattle.xmp_loops.specs.Objects.{scalar_object, array_object}
-use Rattle.xmp_loops.specs.declared.role.Role.{Role}
-use Rattle.xmp_loops.specs.declared.role.Role.TheVariants.{Shared, Index, Reduced, Own}
+use Rattle.xmp_loops.specs.declared.role.Role.TheVariants.{Index}
 use Rattle.xmp_flow.specs.Setting.{is_reduced}
-use Rattle.xmp_meaning.specs.Cells.{row_in, with_cell, write_in}
+use Rattle.xmp_meaning.specs.Cells.{row_in, with_cell}
 use Rattle.xmp_meaning.specs.Runs.{State}
-use Rattle.xmp_meaning.specs.Declarations.{extents, home_of, scalar_type, array_type}
+use Rattle.xmp_meaning.specs.Declarations.{extents, home_of, scalar_type}
 use Rattle.xmp_meaning.specs.Layouts.{Packed, words_of}
 use Rattle.xmp_meaning.specs.Parts.{position_at, owns_positions}
 use Rattle.xmp_meaning.specs.Exchanges.{Notes}
 use Rattle.xmp_meaning.proofs.Stays.{set_other}
 use Rattle.xmp_meaning_laws.specs.Laws.{scalar_in}
-use Rattle.xmp_meaning_laws.proofs.Values.{set_has, write_has}
-use Rattle.xmp_meaning_laws.proofs.Shapes.{rows_shape}
-use Rattle.xmp_move.specs.Sides.{owns_cell, holds_cell, position}
+use Rattle.xmp_meaning_laws.proofs.Values.{set_has}
+use Rattle.xmp_move.specs.Sides.{holds_cell, position}
 use Rattle.xmp_move.specs.Stores.{word_at}
 use Rattle.xmp_move.specs.Whole.{HasSlots}
-use Rattle.xmp_nodes.proofs.Agrees.{Stand, IsWhole, Agrees, TurnLeaves, Framed, is_changed}
-use Rattle.xmp_nodes.proofs.Standing.{IsGlobal, IsSetting, IsLoopSetting}
+use Rattle.xmp_nodes.proofs.Agrees.{Stand, Agrees, Framed, is_changed}
+use Rattle.xmp_nodes.proofs.Standing.{IsSetting}
 use Rattle.xmp_nodes.proofs.ReflectLaws.{rows_kept}
-use Rattle.xmp_nodes.proofs.CellNumbers.{code, fits_map}
 use Rattle.xmp_nodes.proofs.PackedRows.{IsSpreadArray, spread_array, IsRowOf, spread_row, row_read, whole_row}
 
 -- ---- one value in two lists

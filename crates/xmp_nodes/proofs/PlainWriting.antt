@@ -1,36 +1,33 @@
 -- The writes of plain statements at a node, along their marks.
-use Rattle.std.proofs.Common.{◌≡◌, ◌≢◌, ◌++◌, ◌==◌, ◌&&◌, ◌||◌, not, ◌⊎◌, inl, inr, ℕ, ℤ, pos, Bool, true, false, true≢false, List, [], ◌∷◌, map, length, Option, Some, None, refl, sym, subst, ap, ◌∙◌, if◌then◌else◌, eqb-true, eq-eqb}
-use Rattle.std.specs.List.{AllByRecursion}
+use Rattle.std.proofs.Common.{◌≡◌, ◌≢◌, ◌==◌, ◌&&◌, ◌||◌, not, ℕ, ℤ, pos, Bool, true, false, true≢false, List, [], ◌∷◌, Option, Some, None, refl, sym, subst, ap, ◌∙◌, if◌then◌else◌, eqb-true}
 use Rattle.std.proofs.lemmas.Nat.Bits.{bit_at-zero}
 use Rattle.xmp_base.specs.declared.place.Place.{Place}
-use Rattle.xmp_num.specs.Arithmetic.{FitsType, wrap}
+use Rattle.xmp_num.specs.Arithmetic.{FitsType}
 use Rattle.xmp_map.specs.declared.array_map.ArrayMap.{ArrayMap}
 use Rattle.xmp_map.specs.RowMajor.{row_major}
 use Rattle.xmp_map.specs.Boxes.{IsInside}
 use Rattle.xmp_paths.specs.NodeSets.{has}
-use Rattle.xmp_paths.specs.Plans.{Plan, skip, emit, in_order, Path}
+use Rattle.xmp_paths.specs.Plans.{Plan, emit, in_order, Path}
 use Rattle.xmp_paths.specs.Walk.{after_event}
 use Rattle.xmp_paths.specs.Safe.{left}
 use Rattle.xmp_paths.specs.declared.event.Event.{Event}
-use Rattle.xmp_paths.specs.declared.event.Event.TheVariants.{Read, Wrong, Mark}
-use Rattle.xmp_prog.specs.declared.parts.Home.{Home}
+use Rattle.xmp_paths.specs.declared.event.Event.TheVariants.{Wrong, Mark}
 use Rattle.xmp_prog.specs.declared.parts.Home.TheVariants as home
 use Rattle.xmp_prog.specs.declared.statements.LoopDirective.{LoopDirective}
-use Rattle.xmp_loops.specs.Objects.{scalar_object, array_object}
-use Rattle.xmp_loops.specs.declared.role.Role.{Role}
-use Rattle.xmp_loops.specs.declared.role.Role.TheVariants.{Shared, Index, Reduced, Own}
-use Rattle.xmp_flow.specs.Setting.{Setting, is_reduced, wrong_where}
+use Rattle.xmp_loops.specs.Objects.{scalar_object}
+use Rattle.xmp_loops.specs.declared.role.Role.TheVariants.{Shared, Index}
+use Rattle.xmp_flow.specs.Setting.{is_reduced, wrong_where}
 use Rattle.xmp_meaning.specs.declared.ends.Flow.{Flow}
 use Rattle.xmp_meaning.specs.declared.ends.Flow.TheVariants.{Next}
-use Rattle.xmp_meaning.specs.Cells.{row_in, with_cell, write_in}
-use Rattle.xmp_meaning.specs.Runs.{State, Step, Gave, Ended}
+use Rattle.xmp_meaning.specs.Cells.{write_in}
+use Rattle.xmp_meaning.specs.Runs.{State, Gave}
 use Rattle.xmp_meaning.specs.Declarations.{extents, home_of, scalar_type, array_type}
 use Rattle.xmp_meaning.specs.Layouts.{Whole, Packed, number_of}
 use Rattle.xmp_meaning.specs.Exchanges.{Notes}
 use Rattle.xmp_move.specs.Sides.{owns_cell, holds_cell, position}
-use Rattle.xmp_nodes.proofs.Agrees.{Stand, Agrees, Framed, GoesOn, Along, is_changed}
-use Rattle.xmp_nodes.proofs.Standing.{IsGlobal, IsSetting, IsLoopSetting}
-use Rattle.xmp_nodes.proofs.Follow.{agrees_fewer, framed_on}
+use Rattle.xmp_nodes.proofs.Agrees.{Stand, Agrees, Along, is_changed}
+use Rattle.xmp_nodes.proofs.Standing.{IsSetting}
+use Rattle.xmp_nodes.proofs.Follow.{agrees_fewer}
 use Rattle.xmp_nodes.proofs.MetEvents.{EachEvent, NoMark, IsFine, each_emit, each_skip}
 use Rattle.xmp_nodes.proofs.CastLaws.{untouched}
 use Rattle.xmp_nodes.proofs.CellNumbers.{whole_at, packed_at}

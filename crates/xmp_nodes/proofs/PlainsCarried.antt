@@ -1,69 +1,58 @@
 -- A plain statement at a node follows the serial one.
-use Rattle.std.proofs.Common.{◌≡◌, ◌≢◌, ◌++◌, ◌&&◌, ◌||◌, not, ◌⊎◌, inl, inr, ◌==◌, ℕ, zero, suc, ℤ, pos, Bool, true, false, true≢false, List, [], ◌∷◌, map, length, Option, Some, None, refl, sym, subst, ap, ◌∙◌, if◌then◌else◌, eqb-true, append_assoc, arith}
-use Rattle.std.specs.Prelude.{is_some, slice_get}
+use Rattle.std.proofs.Common.{◌≡◌, ◌++◌, ◌&&◌, ◌||◌, not, inl, ◌==◌, ℕ, zero, suc, ℤ, pos, Bool, true, false, true≢false, List, [], ◌∷◌, map, Option, Some, None, refl, sym, subst, ap, ◌∙◌, eqb-true, arith}
+use Rattle.std.specs.Prelude.{is_some}
 use Rattle.std.specs.List.{AllByRecursion, list_all}
-use Rattle.std.specs.Option.{option_map}
-use Rattle.std.proofs.lemmas.List.Folds.{list_all-append}
 use Rattle.std.proofs.lemmas.Nat.Bits.{bit_at-pow_other}
 use Rattle.xmp_base.specs.declared.place.Place.{Place}
-use Rattle.xmp_num.specs.Arithmetic.{FitsType, wrap}
+use Rattle.xmp_num.specs.Arithmetic.{wrap}
 use Rattle.xmp_num.specs.Decimal.{scan_of}
-use Rattle.xmp_num.specs.declared.types.RedOp.{RedOp}
-use Rattle.xmp_map.specs.declared.array_map.ArrayMap.{ArrayMap}
 use Rattle.xmp_paths.specs.NodeSets.{has}
 use Rattle.xmp_paths.specs.Plans.{Plan, skip, emit, in_order, Path}
-use Rattle.xmp_paths.specs.Safe.{left, Safe, NothingWrong}
+use Rattle.xmp_paths.specs.Safe.{left, NothingWrong}
 use Rattle.xmp_paths.specs.declared.event.Event.{Event}
 use Rattle.xmp_paths.specs.declared.event.Event.TheVariants.{Mark}
-use Rattle.xmp_prog.specs.declared.parts.ProgParts.{ProgParts}
 use Rattle.xmp_prog.specs.declared.expressions.Expr.{Expr}
-use Rattle.xmp_prog.specs.declared.expressions.Access.{Access}
 use Rattle.xmp_prog.specs.declared.statements.Compound.{Compound}
 use Rattle.xmp_prog.specs.declared.statements.LoopDirective.{LoopDirective}
-use Rattle.xmp_prog.specs.declared.statements.Target.{Target}
 use Rattle.xmp_prog.specs.declared.statements.Target.TheVariants as target
 use Rattle.xmp_prog.specs.declared.statements.Plain.{Plain}
 use Rattle.xmp_prog.specs.declared.statements.Plain.TheVariants as plain
-use Rattle.xmp_prog.specs.Terms.{Term, terms_of, terms_of_list, terms_of_access, terms_of_option}
+use Rattle.xmp_prog.specs.Terms.{terms_of, terms_of_list, terms_of_option}
 use Rattle.xmp_prog.specs.Statements.{terms_of_plain}
 use Rattle.xmp_loops.specs.Objects.{scalar_object}
-use Rattle.xmp_loops.specs.Forms.{assignment_form}
-use Rattle.xmp_loops.specs.declared.role.Role.{Role}
-use Rattle.xmp_loops.specs.declared.role.Role.TheVariants.{Shared, Index, Reduced, Own}
-use Rattle.xmp_flow.specs.Setting.{Setting, others, is_alone, is_first_alone, is_reduced, wrong_where, reads_scalar, assigned}
-use Rattle.xmp_flow.specs.Reads.{reads_of, reads_of_all, reads_of_option}
-use Rattle.xmp_flow.specs.PlainEvents.{scalar_assigned, old_scalar, set_events, in_form, form_of_set, assignment_events, plain_events}
+use Rattle.xmp_flow.specs.Setting.{Setting, others, is_alone, is_first_alone, is_reduced, wrong_where, assigned}
+use Rattle.xmp_flow.specs.Reads.{reads_of, reads_of_all}
+use Rattle.xmp_flow.specs.PlainEvents.{old_scalar, set_events, plain_events}
 use Rattle.xmp_meaning.specs.declared.location.Location.TheVariants as location
 use Rattle.xmp_meaning.specs.declared.ends.Flow.{Flow}
 use Rattle.xmp_meaning.specs.declared.ends.Flow.TheVariants.{Next, Returned}
-use Rattle.xmp_meaning.specs.Runs.{State, Step, Gave, Ended, Run, ◌>>=◌, pure, and_then, set_scalar, write}
+use Rattle.xmp_meaning.specs.Runs.{State, Step, Gave, Ended, ◌>>=◌, pure, and_then, write}
 use Rattle.xmp_meaning.specs.Declarations.{scalar_type}
-use Rattle.xmp_meaning.specs.Context.{Context}
 use Rattle.xmp_meaning.specs.Handlers.{erased}
 use Rattle.xmp_meaning.specs.Blocks.{each}
 use Rattle.xmp_meaning.specs.Expressions.{expr_of, call}
 use Rattle.xmp_meaning.specs.Formats.{printed}
-use Rattle.xmp_meaning.specs.Assignments.{new_value, store, store_read, assign, initialise}
+use Rattle.xmp_meaning.specs.Assignments.{new_value, store, store_read}
 use Rattle.xmp_meaning.specs.Statements.{plain_of}
 use Rattle.xmp_meaning.specs.Exchanges.{Notes}
 use Rattle.xmp_meaning.specs.Traffic.{node_context}
-use Rattle.xmp_meaning_laws.specs.Laws.{calls_pass, TakesNoStep}
-use Rattle.xmp_meaning_laws.specs.Agreement.{seen, IsKnown, StepsMeet}
+use Rattle.xmp_meaning_laws.specs.Laws.{calls_pass}
+use Rattle.xmp_meaning_laws.specs.Agreement.{seen, IsKnown}
 use Rattle.xmp_meaning_laws.proofs.CountedLoops.{both_true}
 use Rattle.xmp_meaning_laws.proofs.Values.{wrap_fits, zero_fits}
-use Rattle.xmp_nodes.proofs.Agrees.{Stand, Agrees, Framed, GoesOn, EndsSo, Along, Carried, is_changed}
-use Rattle.xmp_nodes.proofs.Standing.{TermStands, IsSetting, IsLoopSetting}
+use Rattle.xmp_nodes.proofs.Agrees.{Stand, Agrees, Along, Carried, is_changed}
+use Rattle.xmp_nodes.proofs.Standing.{TermStands, IsSetting}
 use Rattle.xmp_nodes.proofs.Leaves.{serial_cx, GivesNext}
 use Rattle.xmp_nodes.proofs.Follow.{framed_same, agrees_fewer}
 use Rattle.xmp_nodes.proofs.MetEvents.{EachEvent, EachOf, NoMark, IsFine, each_skip, each_ordered, each_is_fine, unmarked, ordered_each}
 use Rattle.xmp_nodes.proofs.ReadsMark.{role_unmarked, reads_unmarked}
-use Rattle.xmp_nodes.proofs.Readers.{Same, Any, Twin, same_on, gives, call_twin}
+use Rattle.xmp_nodes.proofs.Readers.{Same, Any, same_on, gives, call_twin}
 use Rattle.xmp_nodes.proofs.ElementCells.{known_in}
-use Rattle.xmp_nodes.proofs.NodeExpressions.{agreed, Beside, begins}
+use Rattle.xmp_nodes.proofs.NodeExpressions.{begins}
 use Rattle.xmp_nodes.proofs.NodeReads.{of_scalar, of_call, calls, plain_steps, expr_steps}
-use Rattle.xmp_nodes.proofs.ExpressionsCarried.{Near, near_along}
+use Rattle.xmp_nodes.proofs.ExpressionsCarried.{near_along}
 use Rattle.xmp_nodes.proofs.NearSteps.{near_then, behind, fine_front, right_rest, steps_before}
-use Rattle.xmp_nodes.proofs.PlainValues.{reading, both, serial, alone, value_twin, value_calls, each_twin, each_calls, new_scalar}
+use Rattle.xmp_nodes.proofs.PlainValues.{reading, both, value_twin, value_calls, each_twin, each_calls, new_scalar}
 use Rattle.xmp_nodes.proofs.PlainWrites.{with_scalar, agrees_set, set_framed, agrees_write, agrees_taken}
 use Rattle.xmp_nodes.proofs.PlainWriting.{wrong_unmarked, right_test, none_way, one_way, mark_adds, not_index, set_along}
 

@@ -1,13 +1,12 @@
 -- What the events of an expression's reads say of the scalars and the elements that it names.
-use Rattle.std.proofs.Common.{◌≡◌, ◌++◌, ◌&&◌, ◌⊎◌, inl, inr, ℕ, ℤ, Bool, true, false, true≢false, List, [], ◌∷◌, map, Option, Some, None, refl, sym, subst, ap, ◌∙◌, if◌then◌else◌}
+use Rattle.std.proofs.Common.{◌≡◌, ◌++◌, ◌&&◌, inl, inr, ℕ, ℤ, Bool, true, true≢false, List, [], ◌∷◌, map, Option, Some, None, refl, sym, subst, ◌∙◌}
 use Rattle.std.specs.Prelude.{is_none}
 use Rattle.std.specs.List.{AllByRecursion, list_all, flat_map}
 use Rattle.std.proofs.lemmas.List.Folds.{list_all-append}
 use Rattle.xmp_base.specs.declared.place.Place.{Place}
 use Rattle.xmp_map.proofs.Counted.{and_left, and_right}
-use Rattle.xmp_paths.specs.Plans.{Plan, skip, branch, in_order}
+use Rattle.xmp_paths.specs.Plans.{Plan, skip, branch}
 use Rattle.xmp_paths.specs.declared.event.Event.{Event}
-use Rattle.xmp_paths.specs.declared.event.Event.TheVariants.{Wrong}
 use Rattle.xmp_num.specs.declared.types.Ty.{Ty}
 use Rattle.xmp_prog.specs.declared.parts.ProgParts.{ProgParts}
 use Rattle.xmp_prog.specs.declared.expressions.Expr.{Expr, map-Expr}
@@ -15,7 +14,7 @@ use Rattle.xmp_prog.specs.declared.expressions.Access.{Access, map-Access}
 use Rattle.xmp_prog.specs.declared.expressions.Expr.TheOpen.{Expr-F, Access-F}
 use Rattle.xmp_prog.specs.declared.expressions.Expr.TheFolds.{fold-Access, ind-Expr, ind-Access, fold-roll-Expr, fold-roll-Access}
 use Rattle.xmp_prog.specs.declared.expressions.Expr.TheViews.{roll-Expr, roll-Access}
-use Rattle.xmp_prog.specs.Terms.{Term, Of, Element, Typed, typed_step, access_step, access_types, typed, terms_of, terms_of_access}
+use Rattle.xmp_prog.specs.Terms.{Term, Element, Typed, typed_step, access_step, typed, terms_of_access}
 use Rattle.xmp_flow.specs.Setting.{Setting, wrong_where, reads_scalar}
 use Rattle.xmp_flow.specs.Elements.{element_read}
 use Rattle.xmp_flow.specs.Reads as flow
@@ -25,8 +24,7 @@ use Rattle.xmp_meaning_laws.specs.Laws.{calls_pass}
 use Rattle.xmp_meaning_laws.specs.Agreement.{Spot, Seen, SeenElement, seen_step, seen_element, seen, seen_access}
 use Rattle.xmp_meaning_laws.proofs.Conditions.{all_apart}
 use Rattle.xmp_meaning_laws.proofs.CountedLoops.{both_true}
-use Rattle.xmp_meaning_laws.proofs.Twins.{all_first, all_last}
-use Rattle.xmp_nodes.proofs.MetEvents.{EachEvent, EachOf, each_ordered, ordered_each, each_skip, each_emit, each_branch, all_together}
+use Rattle.xmp_nodes.proofs.MetEvents.{EachEvent, EachOf, each_ordered, ordered_each, each_skip, each_branch, all_together}
 
 pub terms_first : (test : Term → Bool) (xs ys : List Term) → list_all test (xs ++ ys) ≡ true → list_all test xs ≡ true
 terms_first test xs ys e = and_left (list_all test xs) (list_all test ys) (sym (list_all-append test xs ys) ∙ e)

@@ -1,26 +1,24 @@
 -- Two runs of an expression side by side, in two layouts, from states that agree on what it reads: an expression sets nothing,
 -- so that the states agree on nothing else is asked.
 use Rattle.std.proofs.Common.{◌≡◌, ◌<◌, ◌++◌, ℕ, suc, ℤ, pos, negsuc, Bool, true, false, true≢false, List, [], ◌∷◌, map, Option, Some, None, Result, Ok, Err, refl, sym, subst, ap, ◌∙◌, if◌then◌else◌}
-use Rattle.std.specs.Prelude.{slice_set, nat_lt}
+use Rattle.std.specs.Prelude.{nat_lt}
 use Rattle.std.specs.List.{AllByRecursion, list_all, flat_map}
 use Rattle.std.specs.Option.{option_map}
 use Rattle.std.proofs.lemmas.Bool.{leb-true}
-use Rattle.std.proofs.lemmas.List.Folds.{list_all-append}
 use Rattle.xmp_base.specs.declared.place.Place.{Place}
-use Rattle.xmp_map.proofs.Counted.{and_left, and_right}
+use Rattle.xmp_map.proofs.Counted.{and_left}
 use Rattle.xmp_num.specs.declared.types.Ty.{Ty}
 use Rattle.xmp_num.specs.declared.types.BinOp.{BinOp}
 use Rattle.xmp_num.specs.declared.types.TrapKind.{TrapKind}
 use Rattle.xmp_num.specs.Arithmetic.{binary_of, wrap}
-use Rattle.xmp_prog.specs.declared.parts.ProgParts.{ProgParts}
 use Rattle.xmp_prog.specs.declared.expressions.Expr.{Expr, map-Expr}
 use Rattle.xmp_prog.specs.declared.expressions.Access.{Access, map-Access}
 use Rattle.xmp_prog.specs.declared.expressions.Expr.TheOpen.{Expr-F, Access-F}
 use Rattle.xmp_prog.specs.declared.expressions.Expr.TheFolds.{ind-Expr, ind-Access, fold-roll-Expr, fold-roll-Access}
 use Rattle.xmp_prog.specs.declared.expressions.Expr.TheViews.{roll-Expr, roll-Access}
-use Rattle.xmp_meaning.specs.Runs.{State, Step, StepIn, Gave, Ended, Run, RunIn, and_then, ◌>>=◌, pure, or_trap, scalar}
+use Rattle.xmp_meaning.specs.Runs.{State, Step, Gave, Ended, Run, ◌>>=◌, pure, or_trap, scalar}
 use Rattle.xmp_meaning.specs.Declarations.{extents}
-use Rattle.xmp_meaning.specs.Layouts.{Layout, number_of}
+use Rattle.xmp_meaning.specs.Layouts.{number_of}
 use Rattle.xmp_meaning.specs.Context.{Context}
 use Rattle.xmp_meaning.specs.Handlers.{Handlers}
 use Rattle.xmp_meaning.specs.Blocks.{each}

@@ -1,9 +1,8 @@
 -- Reading marks nothing.
-use Rattle.std.proofs.Common.{◌≡◌, ℕ, Bool, true, false, List, Option, Some, None, refl, if◌then◌else◌}
+use Rattle.std.proofs.Common.{ℕ, Bool, true, false, List, Option, Some, None, if◌then◌else◌}
 use Rattle.std.specs.List.{list_all}
 use Rattle.xmp_base.specs.declared.place.Place.{Place}
-use Rattle.xmp_paths.specs.Plans.{Plan, skip, emit, Path}
-use Rattle.xmp_paths.specs.Safe.{left}
+use Rattle.xmp_paths.specs.Plans.{Plan, skip, emit}
 use Rattle.xmp_paths.specs.declared.event.Event.{Event}
 use Rattle.xmp_paths.specs.declared.event.Event.TheVariants.{Read, Wrong}
 use Rattle.xmp_map.specs.declared.array_map.ArrayMap.{ArrayMap}
@@ -16,7 +15,7 @@ use Rattle.xmp_loops.specs.Objects.{array_object, scalar_object, all_nodes}
 use Rattle.xmp_loops.specs.Offsets.{Offset, offsets_of, is_own, is_within}
 use Rattle.xmp_loops.specs.declared.role.Role.{Role}
 use Rattle.xmp_loops.specs.declared.role.Role.TheVariants.{Shared, Index, Reduced, Own}
-use Rattle.xmp_flow.specs.Setting.{Setting, wrong_where, read_scalar, reads_scalar}
+use Rattle.xmp_flow.specs.Setting.{Setting, wrong_where, read_scalar}
 use Rattle.xmp_flow.specs.Elements.{home_of, shadow_read, offset_events, spread_events, read_at_home, element_read}
 use Rattle.xmp_flow.specs.Reads.{reads_of, subscript_reads}
 use Rattle.xmp_nodes.proofs.MetEvents.{EachEvent, EachOf, NoMark, each_emit, each_skip, unmarked}

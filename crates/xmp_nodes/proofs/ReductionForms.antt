@@ -1,7 +1,6 @@
 -- An assignment to a reduction variable in one of its forms: both runs combine the variable with one value.
-use Rattle.std.proofs.Common.{◌≡◌, ◌<◌, ◌++◌, ◌&&◌, ◌||◌, not, ◌⊎◌, inl, inr, ℕ, ℤ, pos, Bool, true, false, true≢false, List, [], ◌∷◌, length, map, Option, Some, None, Ok, refl, sym, subst, ap, ◌∙◌, if◌then◌else◌, ⊎_elim, arith}
-use Rattle.std.specs.Prelude.{slice_get, unwrap_or}
-use Rattle.std.specs.List.{AllByRecursion, list_all}
+use Rattle.std.proofs.Common.{◌≡◌, ◌++◌, ◌&&◌, ◌||◌, not, ℕ, ℤ, Bool, true, false, true≢false, List, Some, None, Ok, refl, sym, subst, ap, ◌∙◌, if◌then◌else◌, arith}
+use Rattle.std.specs.List.{AllByRecursion}
 use Rattle.std.proofs.lemmas.Int.{ints, int_wrap_fits}
 use Rattle.xmp_base.specs.declared.place.Place.{Place}
 use Rattle.xmp_num.specs.declared.types.RedOp.{RedOp}
@@ -20,12 +19,12 @@ use Rattle.xmp_prog.specs.declared.expressions.Expr.TheVariants as expr
 use Rattle.xmp_prog.specs.declared.expressions.Expr.TheOpen.{Expr-F}
 use Rattle.xmp_prog.specs.declared.expressions.Expr.TheViews.{roll-Expr, roll-out-Expr}
 use Rattle.xmp_prog.specs.Numbers.{same_type}
-use Rattle.xmp_prog.specs.Terms.{Term, Of, Typed, typed_step, access_step, typed, terms_of, type_of}
+use Rattle.xmp_prog.specs.Terms.{Typed, typed_step, access_step, terms_of, type_of}
 use Rattle.xmp_prog.specs.Tests.{is_shift, right_fits}
 use Rattle.xmp_prog.proofs.Rolls.{at_scalar, at_binary, at_choose, at_convert}
 use Rattle.xmp_loops.specs.Same.{same}
-use Rattle.xmp_loops.specs.Forms.{in_type, in_other_type, if_apart, variable, names, fits_in, goes_before, goes_behind, is_operator, compared}
-use Rattle.xmp_meaning.specs.Runs.{State, Step, Gave, Ended, Run, and_then, ◌>>=◌, or_trap}
+use Rattle.xmp_loops.specs.Forms.{in_type, in_other_type, if_apart, variable, names, fits_in, goes_before, goes_behind, compared}
+use Rattle.xmp_meaning.specs.Runs.{State, Gave, Ended, Run, and_then, ◌>>=◌, or_trap}
 use Rattle.xmp_meaning.specs.declared.ends.End.{End}
 use Rattle.xmp_meaning.specs.Declarations.{scalar_type}
 use Rattle.xmp_meaning.specs.Context.{Context}
@@ -37,7 +36,7 @@ use Rattle.xmp_meaning_laws.proofs.Conditions.{all_apart}
 use Rattle.xmp_meaning_laws.proofs.Values.{same_types}
 use Rattle.xmp_nodes.proofs.Standing.{TermStands}
 use Rattle.xmp_nodes.proofs.WideBits.{Wide, Same, Wider}
-use Rattle.xmp_nodes.proofs.SameGives.{Alike, same_gives, gave_first}
+use Rattle.xmp_nodes.proofs.SameGives.{same_gives, gave_first}
 use Rattle.xmp_nodes.proofs.ReductionValues.{Picks, picks_before, picks_behind}
 
 -- ---- forms

@@ -1,31 +1,21 @@
 -- `if (q) v = x;` that is the form of a maximum or a minimum: the node and the serial run combine the variable with one value,
 -- though their tests may differ.
-use Rattle.std.proofs.Common.{◌≡◌, ◌<◌, ◌⊎◌, inl, inr, ◌==◌, ◌&&◌, ◌||◌, not, if◌then◌else◌, ℕ, zero, suc, ℤ, pos, Bool, true, false, true≢false, List, [], ◌∷◌, ◌++◌, length, map, Option, Some, None, Ok, refl, sym, subst, ap, ◌∙◌}
-use Rattle.std.specs.Prelude.{slice_get, slice_set, unwrap_or}
-use Rattle.std.specs.List.{AllByRecursion, list_all}
+use Rattle.std.proofs.Common.{◌≡◌, ◌⊎◌, inl, inr, ◌&&◌, not, if◌then◌else◌, ℕ, ℤ, Bool, true, false, true≢false, List, [], ◌∷◌, Option, Some, None, refl, sym, subst, ap, ◌∙◌}
+use Rattle.std.specs.Prelude.{slice_set}
 use Rattle.std.proofs.lemmas.Int.{int_wrap_fits}
 use Rattle.xmp_base.specs.declared.place.Place.{Place}
 use Rattle.xmp_num.specs.declared.types.RedOp.{RedOp}
-use Rattle.xmp_num.specs.declared.types.RedOp.TheVariants as red
 use Rattle.xmp_num.specs.declared.types.BinOp.{BinOp}
-use Rattle.xmp_num.specs.declared.types.BinOp.TheVariants as op
 use Rattle.xmp_num.specs.declared.types.Ty.{Ty}
 use Rattle.xmp_num.specs.Arithmetic.{FitsType, width_of, wrap, binary_of, truth}
 use Rattle.xmp_num.specs.Reduction.{combine_of}
-use Rattle.xmp_map.specs.declared.grid.NodeSet.{NodeSet}
 use Rattle.xmp_map.proofs.Counted.{and_left, and_right}
-use Rattle.xmp_paths.specs.NodeSets.{has}
-use Rattle.xmp_paths.specs.Plans.{Plan, in_order}
-use Rattle.xmp_paths.specs.Safe.{Safe, NothingWrong}
-use Rattle.xmp_paths.specs.declared.event.Event.{Event}
 use Rattle.xmp_prog.specs.declared.parts.ProgParts.{ProgParts}
 use Rattle.xmp_prog.specs.declared.expressions.Expr.{Expr, out-Expr}
 use Rattle.xmp_prog.specs.declared.expressions.Expr.TheVariants as expr
-use Rattle.xmp_prog.specs.declared.expressions.Expr.TheOpen.{Expr-F, Access-F}
+use Rattle.xmp_prog.specs.declared.expressions.Expr.TheOpen.{Expr-F}
 use Rattle.xmp_prog.specs.declared.expressions.Expr.TheViews.{roll-Expr, roll-out-Expr}
 use Rattle.xmp_prog.specs.declared.expressions.Access.{Access}
-use Rattle.xmp_prog.specs.declared.statements.Compound.{Compound}
-use Rattle.xmp_prog.specs.declared.statements.Target.{Target}
 use Rattle.xmp_prog.specs.declared.statements.Target.TheVariants as target
 use Rattle.xmp_prog.specs.declared.statements.Plain.{Plain}
 use Rattle.xmp_prog.specs.declared.statements.Plain.TheVariants as plain
@@ -35,16 +25,13 @@ use Rattle.xmp_prog.specs.declared.statements.Stmt.TheOpen.{Stmt-F}
 use Rattle.xmp_prog.specs.declared.statements.Stmt.TheViews.{roll-Stmt, roll-out-Stmt}
 use Rattle.xmp_prog.specs.declared.statements.Task.{Task}
 use Rattle.xmp_prog.specs.Numbers.{same_type}
-use Rattle.xmp_prog.specs.Terms.{Term, Of, Typed, typed_step, terms_of, type_of}
-use Rattle.xmp_prog.specs.Terms as terms
-use Rattle.xmp_prog.specs.Tests.{is_shift, right_fits, operands_fit}
+use Rattle.xmp_prog.specs.Terms.{type_of}
 use Rattle.xmp_prog.proofs.Rolls as rolls
-use Rattle.xmp_loops.specs.Same.{same_operator, same}
-use Rattle.xmp_loops.specs.Forms.{in_other_type, in_type, names, goes_before, goes_behind, if_apart, variable, compared, guarded_form, is_nothing, assigns}
+use Rattle.xmp_loops.specs.Same.{same}
+use Rattle.xmp_loops.specs.Forms.{in_other_type, in_type, names, goes_before, goes_behind, variable, compared, guarded_form, is_nothing, assigns}
 use Rattle.xmp_loops.specs.declared.role.Role.{Role}
 use Rattle.xmp_loops.specs.declared.role.Role.TheVariants.{Shared, Index, Reduced, Own}
 use Rattle.xmp_flow.specs.Setting.{Setting}
-use Rattle.xmp_flow.specs.Reads.{reads_of, reads_of_all}
 use Rattle.xmp_flow.specs.Statements.{if_form, form_of_if}
 use Rattle.xmp_meaning.specs.declared.ends.End.{End}
 use Rattle.xmp_meaning.specs.declared.ends.Flow.{Flow}
@@ -52,26 +39,16 @@ use Rattle.xmp_meaning.specs.declared.ends.Flow.TheVariants.{Next}
 use Rattle.xmp_meaning.specs.Runs.{State, Step, Gave, Ended, Run, and_then, ◌>>=◌, pure, or_trap}
 use Rattle.xmp_meaning.specs.Blocks.{block, choose}
 use Rattle.xmp_meaning.specs.Context.{Context}
-use Rattle.xmp_meaning.specs.Handlers.{Handlers, TaskRun, erased}
+use Rattle.xmp_meaning.specs.Handlers.{erased}
 use Rattle.xmp_meaning.specs.Declarations.{scalar_type}
 use Rattle.xmp_meaning.specs.Expressions.{Element, expr_step, access_step, expr_of, is_zero, holds}
-use Rattle.xmp_meaning.specs.Statements.{plain_of, stmt_step, task_step, stmt_of}
-use Rattle.xmp_meaning.specs.Exchanges.{Notes, traced}
-use Rattle.xmp_meaning.specs.Traffic.{node_context}
+use Rattle.xmp_meaning.specs.Statements.{plain_of}
 use Rattle.xmp_meaning_laws.specs.Laws.{scalar_in}
 use Rattle.xmp_meaning_laws.proofs.Values.{same_types}
-use Rattle.xmp_nodes.specs.Lockstep.{lockstep}
-use Rattle.xmp_nodes.proofs.Agrees.{Stand, Agrees, EndsSo, Along, Carried, IsNext}
-use Rattle.xmp_nodes.proofs.Standing.{TermStands, PartFits, IsSetting}
-use Rattle.xmp_nodes.proofs.Leaves.{serial_cx, noting, IfFormsCarry}
-use Rattle.xmp_nodes.proofs.MetEvents.{EachEvent, EachOf, NoMark, IsFine, each_ordered, ordered_each, each_is_fine}
-use Rattle.xmp_nodes.proofs.SameRuns.{noted_expr, noted_plain, alone_is_erased}
-use Rattle.xmp_nodes.proofs.PartSplits.{plain_fits}
-use Rattle.xmp_nodes.proofs.PlainsCarried.{all_unmarked, apart}
-use Rattle.xmp_nodes.proofs.WideBits.{same_operators}
-use Rattle.xmp_nodes.proofs.SameGives.{Alike, gave_first, gave_second, same_gives}
+use Rattle.xmp_nodes.proofs.Agrees.{Stand}
+use Rattle.xmp_nodes.proofs.SameGives.{gave_first, same_gives}
 use Rattle.xmp_nodes.proofs.PlainWrites.{with_scalar}
-use Rattle.xmp_nodes.proofs.ReductionValues.{Picks, picks_before, picks_behind, set_same, Value, Stop, value_or_stop, sum_along, in_loop}
+use Rattle.xmp_nodes.proofs.ReductionValues.{Picks, set_same}
 
 -- ---- what the form says
 
@@ -107,7 +84,12 @@ module _ (p : ProgParts) (slot : ℕ) (r : RedOp) where
       at_behind : (c : Bool) → (same_type ty (scalar_type p slot) && (goes_behind r o && same a (variable slot at))) ≡ c → (if c then Some b else None) ≡ Some y → IsCompared p slot r e y
       at_behind true t g =
           let rest : (goes_behind r o && same a (variable slot at)) ≡ true = and_right (same_type ty (scalar_type p slot)) (goes_behind r o && same a (variable slot at)) t in record {
-            operator = o; ty = ty; first = a; second = b; at = at; here = at;
+            operator = o;
+            ty = ty;
+            first = a;
+            second = b;
+            at = at;
+            here = at;
             is = here_is;
             typed = same_types ty (scalar_type p slot) (and_left (same_type ty (scalar_type p slot)) (goes_behind r o && same a (variable slot at)) t);
             side = inr (and_left (goes_behind r o) (same a (variable slot at)) rest, and_right (goes_behind r o) (same a (variable slot at)) rest, some_same b y g);
@@ -118,7 +100,12 @@ module _ (p : ProgParts) (slot : ℕ) (r : RedOp) where
           → (if c then Some a else (if same_type ty (scalar_type p slot) && (goes_behind r o && same a (variable slot at)) then Some b else None)) ≡ Some y → IsCompared p slot r e y
       at_before true t g =
           let rest : (goes_before r o && same b (variable slot at)) ≡ true = and_right (same_type ty (scalar_type p slot)) (goes_before r o && same b (variable slot at)) t in record {
-            operator = o; ty = ty; first = a; second = b; at = at; here = at;
+            operator = o;
+            ty = ty;
+            first = a;
+            second = b;
+            at = at;
+            here = at;
             is = here_is;
             typed = same_types ty (scalar_type p slot) (and_left (same_type ty (scalar_type p slot)) (goes_before r o && same b (variable slot at)) t);
             side = inl (and_left (goes_before r o) (same b (variable slot at)) rest, and_right (goes_before r o) (same b (variable slot at)) rest, some_same a y g);
@@ -275,7 +262,7 @@ module _ (X : Type 0) (cx : Context) where
       by_form (Expr-F.Const w t) i f = (
         w,
         ap (λ z. value_of z s) (sym (roll-out-Expr e) ∙ ap roll-Expr i ∙ expr.rolls-Const w t)
-        ∙ ap (λ (r : Run X ℤ). r s) (rolls.at_const (Run X ℤ) (Element X) (expr_step erased cx) (access_step cx) w t),
+            ∙ ap (λ (r : Run X ℤ). r s) (rolls.at_const (Run X ℤ) (Element X) (expr_step erased cx) (access_step cx) w t),
         const_same (ap (λ (r : Run X ℤ). r s) (sym (rolls.at_const (Run X ℤ) (Element X) (expr_step erased cx) (access_step cx) (wrap ty w) ty)) ∙ f),
       )
         where

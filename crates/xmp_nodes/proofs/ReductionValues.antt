@@ -1,18 +1,16 @@
 -- What the parts of a reduction form give in both runs: one value, and the states as they were.
-use Rattle.std.proofs.Common.{◌≡◌, ◌≢◌, ◌<◌, ◌++◌, ◌==◌, ◌&&◌, ◌||◌, not, ◌⊎◌, inl, inr, ℕ, zero, suc, ℤ, pos, Bool, true, false, true≢false, List, [], ◌∷◌, length, map, Option, Some, None, Ok, refl, sym, subst, ap, ◌∙◌, if◌then◌else◌, arith}
+use Rattle.std.proofs.Common.{◌≡◌, ◌<◌, ◌⊎◌, inl, inr, ℕ, zero, suc, ℤ, pos, Bool, true, false, true≢false, List, [], ◌∷◌, length, Option, Some, None, Ok, refl, sym, subst, ap, ◌∙◌, if◌then◌else◌, arith}
 use Rattle.std.specs.Prelude.{slice_get, slice_set, unwrap_or, int_lt}
 use Rattle.std.specs.Int.{int_max, int_min}
-use Rattle.std.specs.List.{AllByRecursion, list_all}
-use Rattle.std.proofs.lemmas.Int.{ints, int_wrap_fits}
-use Rattle.xmp_base.specs.declared.place.Place.{Place}
+use Rattle.std.specs.List.{AllByRecursion}
+use Rattle.std.proofs.lemmas.Int.{ints}
 use Rattle.xmp_num.specs.declared.types.RedOp.{RedOp}
 use Rattle.xmp_num.specs.declared.types.RedOp.TheVariants as red
 use Rattle.xmp_num.specs.declared.types.BinOp.{BinOp}
 use Rattle.xmp_num.specs.declared.types.BinOp.TheVariants as op
 use Rattle.xmp_num.specs.declared.types.Ty.{Ty}
-use Rattle.xmp_num.specs.Arithmetic.{FitsType, width_of, wrap, binary_of, truth}
+use Rattle.xmp_num.specs.Arithmetic.{FitsType, binary_of, truth}
 use Rattle.xmp_num.specs.Reduction.{combine_of}
-use Rattle.xmp_map.proofs.Counted.{and_left, and_right}
 use Rattle.xmp_paths.specs.NodeSets.{has}
 use Rattle.xmp_paths.specs.Plans.{Plan, Path, in_order}
 use Rattle.xmp_paths.specs.Safe.{left}
@@ -22,25 +20,23 @@ use Rattle.xmp_prog.specs.declared.expressions.Expr.{Expr}
 use Rattle.xmp_prog.specs.declared.statements.LoopDirective.{LoopDirective}
 use Rattle.xmp_prog.specs.Terms.{terms_of, type_of}
 use Rattle.xmp_prog.specs.Fits.{node_count}
-use Rattle.xmp_loops.specs.Same.{same_operator}
 use Rattle.xmp_loops.specs.Forms.{goes_before, goes_behind}
-use Rattle.xmp_loops.specs.declared.role.Role.{Role}
-use Rattle.xmp_loops.specs.declared.role.Role.TheVariants.{Shared, Index, Reduced, Own}
-use Rattle.xmp_flow.specs.Reads.{reads_of, reads_of_all}
+use Rattle.xmp_loops.specs.declared.role.Role.TheVariants.{Shared, Reduced}
+use Rattle.xmp_flow.specs.Reads.{reads_of}
 use Rattle.xmp_meaning.specs.declared.ends.End.{End}
 use Rattle.xmp_meaning.specs.declared.ends.Flow.{Flow}
 use Rattle.xmp_meaning.specs.declared.ends.Flow.TheVariants.{Next}
 use Rattle.xmp_meaning.specs.Runs.{State, Step, Gave, Ended, Run, and_then}
 use Rattle.xmp_meaning.specs.Declarations.{scalar_type}
 use Rattle.xmp_meaning.specs.Handlers.{erased}
-use Rattle.xmp_meaning.specs.Expressions.{expr_of, is_zero}
+use Rattle.xmp_meaning.specs.Expressions.{expr_of}
 use Rattle.xmp_meaning.specs.Exchanges.{Notes}
 use Rattle.xmp_meaning.specs.Traffic.{node_context}
 use Rattle.xmp_meaning_laws.specs.Laws.{TakesNoStep, GivesA, scalar_in}
 use Rattle.xmp_meaning_laws.specs.Agreement.{seen, StepsMeet, IsKnown}
 use Rattle.xmp_meaning_laws.proofs.Types.{expressions_lie}
-use Rattle.xmp_nodes.proofs.Agrees.{Stand, Agrees, Framed, GoesOn, EndsSo, Along}
-use Rattle.xmp_nodes.proofs.Standing.{TermStands, IsSetting, IsLoopSetting}
+use Rattle.xmp_nodes.proofs.Agrees.{Stand, Agrees, EndsSo, Along}
+use Rattle.xmp_nodes.proofs.Standing.{TermStands, IsSetting}
 use Rattle.xmp_nodes.proofs.Leaves.{serial_cx}
 use Rattle.xmp_nodes.proofs.Follow.{agrees_fewer}
 use Rattle.xmp_nodes.proofs.MetEvents.{EachEvent, EachOf, NoMark, IsFine}

@@ -1,24 +1,21 @@
 -- Expressions that are the same, places apart: where one gives a value, the other gives it too.
-use Rattle.std.proofs.Common.{◌≡◌, ◌&&◌, ◌==◌, ℕ, ℤ, pos, Bool, true, false, true≢false, not, List, [], ◌∷◌, ◌++◌, map, Option, Some, None, Result, Ok, Err, refl, sym, subst, ap, ◌∙◌, if◌then◌else◌, eqb-true}
-use Rattle.std.specs.Prelude.{nat_lt}
+use Rattle.std.proofs.Common.{◌≡◌, ◌&&◌, ◌==◌, ℕ, ℤ, pos, Bool, true, false, true≢false, List, [], ◌∷◌, ◌++◌, map, Option, Some, None, Result, Ok, Err, refl, sym, subst, ap, ◌∙◌, if◌then◌else◌, eqb-true}
 use Rattle.std.specs.Ordering.{int_eq}
 use Rattle.std.proofs.lemmas.Bool.Decides.{Decides-int_eq}
 use Rattle.xmp_base.specs.declared.place.Place.{Place}
 use Rattle.xmp_num.specs.declared.types.TrapKind.{TrapKind}
-use Rattle.xmp_num.specs.declared.types.Ty.{Ty}
-use Rattle.xmp_num.specs.declared.types.BinOp.{BinOp}
 use Rattle.xmp_num.specs.Arithmetic.{binary_of, wrap}
 use Rattle.xmp_map.proofs.Counted.{and_left, and_right}
 use Rattle.xmp_prog.specs.declared.expressions.Expr.{Expr, map-Expr, out-Expr}
 use Rattle.xmp_prog.specs.declared.expressions.Access.{Access, map-Access}
 use Rattle.xmp_prog.specs.declared.expressions.Expr.TheOpen.{Expr-F, Access-F}
-use Rattle.xmp_prog.specs.declared.expressions.Expr.TheFolds.{fold-Expr, fold-Access, ind-Expr, ind-Access, fold-roll-Expr, fold-roll-Access}
+use Rattle.xmp_prog.specs.declared.expressions.Expr.TheFolds.{ind-Expr, fold-roll-Expr, fold-roll-Access}
 use Rattle.xmp_prog.specs.declared.expressions.Expr.TheViews.{roll-Expr, roll-Access, roll-out-Expr}
 use Rattle.xmp_prog.specs.Fits.{node_count}
 use Rattle.xmp_prog.specs.Numbers.{same_type}
-use Rattle.xmp_loops.specs.Same.{same_operator, all_pass, may_pass, same_form, same_element, same_step, same, same_access}
+use Rattle.xmp_loops.specs.Same.{same_operator, all_pass, same_form, same_element, same_step, same, same_access}
 use Rattle.xmp_meaning.specs.Runs.{State, Step, Gave, Ended, Run, and_then, ◌>>=◌, pure, or_trap, scalar}
-use Rattle.xmp_meaning.specs.Declarations.{extents, is_coarray}
+use Rattle.xmp_meaning.specs.Declarations.{extents}
 use Rattle.xmp_meaning.specs.Layouts.{number_of}
 use Rattle.xmp_meaning.specs.Context.{Context}
 use Rattle.xmp_meaning.specs.Handlers.{erased}

@@ -1,7 +1,7 @@
 -- Runs that are the same: between directives the run that notes exchanges does what the erased one does, and in step a
 -- node by itself does the erased statement over its packed store.
-use Rattle.std.proofs.Common.{◌≡◌, ◌++◌, ℕ, ℤ, pos, Bool, true, false, true≢false, List, [], ◌∷◌, map, Option, Some, None, refl, sym, subst, ap, ◌∙◌}
-use Rattle.xmp_num.specs.Arithmetic.{binary_of, wrap}
+use Rattle.std.proofs.Common.{◌≡◌, ℕ, ℤ, pos, true, true≢false, List, [], ◌∷◌, map, Option, Some, None, refl, sym, subst, ap, ◌∙◌}
+use Rattle.xmp_num.specs.Arithmetic.{binary_of}
 use Rattle.xmp_num.specs.Decimal.{scan_of}
 use Rattle.xmp_prog.specs.declared.parts.ProgParts.{ProgParts}
 use Rattle.xmp_prog.specs.declared.expressions.Expr.{Expr}
@@ -15,20 +15,20 @@ use Rattle.xmp_prog.specs.declared.statements.Plain.{Plain}
 use Rattle.xmp_prog.specs.declared.statements.Plain.TheVariants as plain
 use Rattle.xmp_prog.specs.declared.statements.Stmt.{Stmt, map-Stmt}
 use Rattle.xmp_prog.specs.declared.statements.Stmt.TheOpen.{Stmt-F, Task-F}
-use Rattle.xmp_prog.specs.declared.statements.Stmt.TheFolds.{fold-Stmt, fold-Task, ind-Stmt, fold-roll-Stmt, fold-roll-Task}
+use Rattle.xmp_prog.specs.declared.statements.Stmt.TheFolds.{fold-Task, ind-Stmt, fold-roll-Stmt, fold-roll-Task}
 use Rattle.xmp_prog.specs.declared.statements.Stmt.TheViews.{roll-Stmt, roll-Task}
 use Rattle.xmp_prog.specs.declared.statements.Task.{Task, map-Task}
 use Rattle.xmp_meaning.specs.declared.location.Location.{Location}
 use Rattle.xmp_meaning.specs.declared.location.Location.TheVariants as location
 use Rattle.xmp_meaning.specs.declared.ends.Flow.{Flow}
 use Rattle.xmp_meaning.specs.declared.ends.Flow.TheVariants.{Next, Returned}
-use Rattle.xmp_meaning.specs.Runs.{Run, ◌>>=◌, pure, or_trap, scalar, set_scalar, set_cell, taken, set_taken, write}
+use Rattle.xmp_meaning.specs.Runs.{Run, ◌>>=◌, pure, or_trap, scalar, set_scalar, taken, set_taken, write}
 use Rattle.xmp_meaning.specs.Context.{Context}
-use Rattle.xmp_meaning.specs.Handlers.{Handlers, TaskRun, erased}
+use Rattle.xmp_meaning.specs.Handlers.{TaskRun, erased}
 use Rattle.xmp_meaning.specs.Blocks.{each, block}
 use Rattle.xmp_meaning.specs.Expressions.{Element, expr_step, access_step, expr_of, element_of, cell_number, cell_of, call}
 use Rattle.xmp_meaning.specs.Formats.{printed}
-use Rattle.xmp_meaning.specs.Assignments.{at_target, assign, declare, scan, store, store_read, initialise, location_type}
+use Rattle.xmp_meaning.specs.Assignments.{at_target, assign, scan, store, store_read, initialise, location_type}
 use Rattle.xmp_meaning.specs.Statements.{plain_of, stmt_step, task_step, stmt_of}
 use Rattle.xmp_meaning.specs.Exchanges.{Notes, traced}
 use Rattle.xmp_meaning.specs.Traffic.{node_context}

@@ -1,5 +1,5 @@
 -- Assignments to a reduction variable in its forms follow.
-use Rattle.std.proofs.Common.{◌≡◌, ◌<◌, ◌++◌, ◌&&◌, ◌||◌, not, ◌⊎◌, inl, inr, ℕ, ℤ, pos, Bool, true, false, true≢false, List, [], ◌∷◌, length, map, Option, Some, None, Ok, refl, sym, subst, ap, ◌∙◌, if◌then◌else◌, ⊎_elim}
+use Rattle.std.proofs.Common.{◌≡◌, ◌<◌, ◌&&◌, ◌⊎◌, inl, inr, ℕ, ℤ, Bool, true, false, List, [], ◌∷◌, length, Option, Some, None, refl, sym, subst, ap, ◌∙◌, if◌then◌else◌}
 use Rattle.std.specs.Prelude.{slice_set}
 use Rattle.std.specs.List.{AllByRecursion}
 use Rattle.std.proofs.lemmas.Int.{int_wrap_fits}
@@ -23,13 +23,12 @@ use Rattle.xmp_prog.specs.declared.statements.Compound.{Compound}
 use Rattle.xmp_prog.specs.declared.statements.Target.TheVariants as target
 use Rattle.xmp_prog.specs.declared.statements.Plain.TheVariants as plain
 use Rattle.xmp_prog.specs.declared.statements.Stmt.TheOpen.{Stmt-F}
-use Rattle.xmp_prog.specs.declared.statements.Stmt.TheVariants as stmt
 use Rattle.xmp_prog.specs.Terms.{terms_of, type_of}
 use Rattle.xmp_prog.proofs.Rolls.{at_binary, at_choose}
 use Rattle.xmp_loops.specs.Same.{same}
 use Rattle.xmp_loops.specs.Forms.{in_type, variable, fits_in, is_operator, compared, chosen_form, value_form, assignment_form}
 use Rattle.xmp_loops.specs.declared.role.Role.TheVariants.{Reduced}
-use Rattle.xmp_flow.specs.Reads.{reads_of, reads_of_all}
+use Rattle.xmp_flow.specs.Reads.{reads_of_all}
 use Rattle.xmp_meaning.specs.declared.location.Location.TheVariants as location
 use Rattle.xmp_meaning.specs.declared.ends.End.{End}
 use Rattle.xmp_meaning.specs.declared.ends.Flow.{Flow}
@@ -47,16 +46,16 @@ use Rattle.xmp_meaning.specs.Traffic.{node_context}
 use Rattle.xmp_meaning_laws.specs.Laws.{scalar_in}
 use Rattle.xmp_meaning_laws.proofs.Values.{wrap_fits}
 use Rattle.xmp_nodes.proofs.Agrees.{Stand, Agrees, Along, Carried, IsNext}
-use Rattle.xmp_nodes.proofs.Standing.{TermStands, PartFits, IsSetting}
+use Rattle.xmp_nodes.proofs.Standing.{TermStands, IsSetting}
 use Rattle.xmp_nodes.proofs.Leaves.{serial_cx, StepFits, SetFormsCarry, PlainsCarry}
-use Rattle.xmp_nodes.proofs.MetEvents.{EachEvent, EachOf, NoMark, IsFine, each_ordered, ordered_each, each_is_fine}
+use Rattle.xmp_nodes.proofs.MetEvents.{EachOf, NoMark, IsFine, each_ordered, ordered_each, each_is_fine}
 use Rattle.xmp_nodes.proofs.PartSplits.{plain_fits}
 use Rattle.xmp_nodes.proofs.SameRuns.{noted_plain}
 use Rattle.xmp_nodes.proofs.PlainsCarried.{all_unmarked}
 use Rattle.xmp_nodes.proofs.AllPlains.{plains_carry}
 use Rattle.xmp_nodes.proofs.WideBits.{Wide, StepIs, step_is}
 use Rattle.xmp_nodes.proofs.SameGives.{same_gives, gave_first, gave_second}
-use Rattle.xmp_nodes.proofs.ReductionValues.{Value, Stop, value_or_stop, stop_along, sum_along, in_loop}
+use Rattle.xmp_nodes.proofs.ReductionValues.{Value, Stop, value_or_stop, sum_along, in_loop}
 use Rattle.xmp_nodes.proofs.ReductionForms.{if_apart_is, wide_of, same_variable, in_type_gives, BinaryParts, binary_parts, ChooseParts, choose_parts, Compares, compares}
 
 -- what an assignment does with the value of its right side

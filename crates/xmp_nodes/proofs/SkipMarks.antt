@@ -253,8 +253,7 @@ module _ (node : ℕ) where
     scan_marks : (to : Target) (at : Place) → WritesMark (plain.Scan to at)
     scan_marks (target.Scalar n place) at =
         let last : List (Plan Event) = wrong_where (is_some s.over || not (is_first_alone s)) 8 at ∷ [] in
-        let m : Plan Event = emit (Mark (scalar_object n) 0 (others s)) in
-        (
+        let m : Plan Event = emit (Mark (scalar_object n) 0 (others s)) in (
           marks_back (scalar_object n) (wrong_where (is_reduced (s.roles n)) 5 place) (in_order (m ∷ last))
               (marks_front (scalar_object n) m (in_order last) (marks_emit (scalar_object n) 0 (others s) beside)
               (keeps (in_order last) (ordered_each Fades last (wrong_fades (is_some s.over || not (is_first_alone s)) 8 at, tt)))),

@@ -173,16 +173,16 @@ module _ (a : Stand) (is : IsSetting a) (within : a.set.inside ≡ true) where
   plain_calls shared (plain.Set (target.Cell b) c e) i terms h =
       let both : _ = all_apart (TermStands a.program) (terms_of_access a.program b) (terms_of a.program e) terms in
       let parts : _ = all_apart (EachEvent Fair) (subscript_reads b a.set) (old_element a.set b c ∷ reads_of e a.set ∷ element_write a.set b.array b.subscripts b.at ∷ [])
-          (each_ordered Fair (subscript_reads b a.set ++ old_element a.set b c ∷ reads_of e a.set ∷ element_write a.set b.array b.subscripts b.at ∷ []) h) in
+      (each_ordered Fair (subscript_reads b a.set ++ old_element a.set b c ∷ reads_of e a.set ∷ element_write a.set b.array b.subscripts b.at ∷ []) h) in
       calls_joined (terms_of_access a.program b) (terms_of a.program e) (access_calls b both.0 parts.0) (expr_calls e both.1 parts.1.1.0)
   plain_calls shared (plain.Return e) i terms h = expr_calls e terms h
   plain_calls shared (plain.Call function es at) i terms h =
       let parts : _ = all_apart (EachEvent Fair) (reads_of_all es a.set) (wrong_where (a.set.inside && a.set.loops function) 9 at ∷ [])
-          (each_ordered Fair (reads_of_all es a.set ++ wrong_where (a.set.inside && a.set.loops function) 9 at ∷ []) h) in
+      (each_ordered Fair (reads_of_all es a.set ++ wrong_where (a.set.inside && a.set.loops function) 9 at ∷ []) h) in
       both_true (lone function) (list_all (calls_pass lone) (terms_of_list a.program es)) (of_call function at parts.1.0) (exprs_calls es terms.1 parts.0)
   plain_calls shared (plain.Print format es at) i terms h =
       let parts : _ = all_apart (EachEvent Fair) (reads_of_all es a.set) (wrong_where (is_some a.set.over || not (is_alone a.set)) 7 at ∷ [])
-          (each_ordered Fair (reads_of_all es a.set ++ wrong_where (is_some a.set.over || not (is_alone a.set)) 7 at ∷ []) h) in
+      (each_ordered Fair (reads_of_all es a.set ++ wrong_where (is_some a.set.over || not (is_alone a.set)) 7 at ∷ []) h) in
       exprs_calls es terms parts.0
   plain_calls shared (plain.Scan (target.Scalar n here) at) i terms h = refl
   plain_calls shared (plain.Scan (target.Cell b) at) i terms h =

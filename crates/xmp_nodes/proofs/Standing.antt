@@ -1,5 +1,5 @@
 -- What is asked of a program, of the parts of a statement, and of where a statement stands, so that nodes follow.
-use Rattle.std.specs.Prelude.{◌≡◌, ◌<◌, ◌&&◌, ℕ, Bool, true, false, List, [], length, Option, Some, None}
+use Rattle.std.specs.Prelude.{◌≡◌, ◌<◌, ◌&&◌, ℕ, true, false, length, Some, None}
 use Rattle.std.specs.List.{AllByRecursion, list_all}
 use Rattle.xmp_prog.specs.declared.parts.ProgParts.{ProgParts}
 use Rattle.xmp_prog.specs.declared.parts.Kind.TheVariants.{Global}

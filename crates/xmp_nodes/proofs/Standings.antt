@@ -1,13 +1,12 @@
 -- What all nodes come to stands for the program.
-use Rattle.std.proofs.Common.{◌≡◌, ◌≢◌, ◌<◌, ◌≤◌, ◌+◌, ◌++◌, ◌&&◌, not, ℕ, zero, suc, ℤ, pos, Bool, true, false, true≢false, List, [], ◌∷◌, map, length, Option, Some, None, refl, sym, subst, ap, ◌∙◌, append-nil, arith}
+use Rattle.std.proofs.Common.{◌≡◌, ◌<◌, ◌+◌, ◌++◌, not, ℕ, pos, Bool, true, false, true≢false, List, [], ◌∷◌, length, Some, None, refl, sym, subst, ap, ◌∙◌, append-nil, arith}
 use Rattle.std.specs.Prelude.{slice_get, unwrap_or}
-use Rattle.std.specs.List.{AllByRecursion}
-use Rattle.std.proofs.lemmas.Option.{none-some, same_Some, unwrap_or-slice_get, slice_get_within}
+use Rattle.std.proofs.lemmas.Option.{none-some, unwrap_or-slice_get, slice_get_within}
 use Rattle.std.proofs.lemmas.List.{length-map}
 use Rattle.xmp_base.specs.declared.refusal.Phase.TheVariants as phase
 use Rattle.xmp_base.specs.First.{IsFirst}
 use Rattle.xmp_map.specs.declared.array_map.ArrayMap.{ArrayMap}
-use Rattle.xmp_map.specs.RowMajor.{row_major, product}
+use Rattle.xmp_map.specs.RowMajor.{row_major}
 use Rattle.xmp_map.specs.Boxes.{IsInside}
 use Rattle.xmp_map.specs.Held as held
 use Rattle.xmp_map.proofs.Counted.{and_left, and_right}
@@ -20,22 +19,21 @@ use Rattle.xmp_paths.specs.Plans.{Plan, skip, sequence, Path}
 use Rattle.xmp_paths.specs.Rules.{Broken, Breaks}
 use Rattle.xmp_paths.specs.Safe.{Safe, NothingWrong}
 use Rattle.xmp_paths.proofs.SafeLaws.{safe_paths, safe_is}
-use Rattle.xmp_flow.specs.Program.{outermost, plan_of_program, FlowBreaks}
-use Rattle.xmp_meaning.specs.declared.ends.End.{End}
+use Rattle.xmp_flow.specs.Program.{plan_of_program, FlowBreaks}
 use Rattle.xmp_meaning.specs.declared.ends.Flow.{Flow}
 use Rattle.xmp_meaning.specs.declared.ends.Flow.TheVariants.{Next}
 use Rattle.xmp_meaning.specs.Runs.{State, StepIn, Step, Gave, Ended, end_of, state_of}
 use Rattle.xmp_meaning.specs.Cells.{row_in}
 use Rattle.xmp_meaning.specs.Declarations.{extents, home_of}
-use Rattle.xmp_meaning.specs.Layouts.{Whole, Packed, words_of}
+use Rattle.xmp_meaning.specs.Layouts.{Whole}
 use Rattle.xmp_meaning.specs.Handlers.{erased}
 use Rattle.xmp_meaning.specs.Calls.{main_context}
-use Rattle.xmp_meaning.specs.Programs.{beginning, program, starts, serial_end}
+use Rattle.xmp_meaning.specs.Programs.{beginning, starts, serial_end}
 use Rattle.xmp_meaning.specs.Exchanges.{Notes, no_notes, traced}
 use Rattle.xmp_meaning.specs.Messages.{sent}
-use Rattle.xmp_meaning.specs.Stores.{words_on, base_of, store_of}
-use Rattle.xmp_meaning.specs.Traffic.{noted_end, notes, traffic, turns_on, copied, node_context}
-use Rattle.xmp_meaning.specs.Laws.{bare, bare_step}
+use Rattle.xmp_meaning.specs.Stores.{base_of, store_of}
+use Rattle.xmp_meaning.specs.Traffic.{noted_end, notes, turns_on, copied, node_context}
+use Rattle.xmp_meaning.specs.Laws.{bare_step}
 use Rattle.xmp_meaning.specs.TrafficLaws.{StoreIsLaid}
 use Rattle.xmp_meaning.proofs.RelatedStatements.{keeps-program}
 use Rattle.xmp_meaning.proofs.Notes.{forgets, forgets_traced}
@@ -48,10 +46,10 @@ use Rattle.xmp_move.specs.Whole.{HasSlots}
 use Rattle.xmp_move.proofs.SidesKept.{owners_hold}
 use Rattle.xmp_nodes.specs.Nodes.{Nodes, bounded, all_do, nodes_beginning}
 use Rattle.xmp_nodes.specs.Lockstep.{lockstep, nodes_end}
-use Rattle.xmp_nodes.specs.Worlds.{World, out_of, world_after}
+use Rattle.xmp_nodes.specs.Worlds.{out_of, world_after}
 use Rattle.xmp_nodes.specs.Stands.{StoreStands, StoresStand, StandsFor}
-use Rattle.xmp_nodes.proofs.Agrees.{Agrees, Anything, IsNext, base_at, at_main, ReadyAt, Counted, Ready, AllAlong}
-use Rattle.xmp_nodes.proofs.Standing.{IsGlobal, PartFits}
+use Rattle.xmp_nodes.proofs.Agrees.{Agrees, Anything, at_main, ReadyAt, Ready, AllAlong}
+use Rattle.xmp_nodes.proofs.Standing.{IsGlobal}
 use Rattle.xmp_nodes.proofs.Leaves.{BodyFits, serial_cx, noting}
 use Rattle.xmp_nodes.proofs.Each.{Alone, mapped_at, at_mapped, there}
 use Rattle.xmp_nodes.proofs.PackedRows.{IsSpreadArray, spread_array, IsRowOf, spread_row, row_read, some_nodes}
@@ -101,7 +99,7 @@ module _ (p : ProgParts) (global : IsGlobal p) (input : List ℕ) (steps : ℕ) 
         let same : row_in n.arrays array ≡ row.row = row_read n.arrays array row.row row.at in
         let long : length (row_in n.arrays array) ≡ held.words m node = ap length same ∙ row.long in
         let slots : HasSlots (extents p array) (holds_cell (home.Spread tm m) node) (position (home.Spread tm m) (extents p array) node) (row_in n.arrays array) =
-            rows_kept (home.Spread tm m) (extents p array) node (row_in n.arrays array) of.three of.fits (let l = long in omega (arith, l)) in
+        rows_kept (home.Spread tm m) (extents p array) node (row_in n.arrays array) of.three of.fits (let l = long in omega (arith, l)) in
         let at : ℕ = position (home.Spread tm m) (extents p array) node cell in
         sym (unwrap_or-slice_get (store_of n) (base_of p node array + at) (pos 0))
         ∙ (ap (λ o. unwrap_or o (pos 0)) (laid.cells array at (slots.inside cell inside h)) ∙ unwrap_or-slice_get (row_in n.arrays array) at (pos 0))
@@ -174,8 +172,8 @@ module _ (p : ProgParts) (global : IsGlobal p) (input : List ℕ) (steps : ℕ) 
   carried_out parts body_fits none =
       let fine : ((node : ℕ) → Safe node (plan_of_program p) (λ object. false)) × NothingWrong (plan_of_program p) = (safe_is (plan_of_program p)).0 (nothing_breaks p none) in
       let ready : Ready p (sequence (sequence skip (plan_of_program p)) skip) (first_state p steps) (nodes_beginning p steps) =
-          begins_ready p global steps (sequence (sequence skip (plan_of_program p)) skip)
-          (λ node. safe_paths node (plan_of_program p) (sequence (sequence skip (plan_of_program p)) skip) (λ object. false) (whole_way (plan_of_program p)) (fine.0 node)) in
+      begins_ready p global steps (sequence (sequence skip (plan_of_program p)) skip)
+      (λ node. safe_paths node (plan_of_program p) (sequence (sequence skip (plan_of_program p)) skip) (λ object. false) (whole_way (plan_of_program p)) (fine.0 node)) in
       stands (noted_end p input steps) (nodes_end p input steps) refl
       (all_then p Anything skip (plan_of_program p) (starts (traced p) (serial_cx p input) p.start) (noting p input p.body)
       (all_do Next (λ node. starts erased (node_context p node input) p.start)) (lockstep p input p.body).all

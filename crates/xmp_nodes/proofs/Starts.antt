@@ -1,15 +1,12 @@
 -- The initialisers at file scope, in step: each value is a constant.
-use Rattle.std.proofs.Common.{◌≡◌, ◌<◌, ℕ, ℤ, Bool, true, false, true≢false, List, [], ◌∷◌, map, Option, refl, sym, subst, ap, ◌∙◌}
+use Rattle.std.proofs.Common.{◌≡◌, ◌<◌, ℕ, ℤ, Bool, true, false, true≢false, List, [], ◌∷◌, refl, sym, subst, ap, ◌∙◌}
 use Rattle.std.specs.List.{AllByRecursion}
-use Rattle.xmp_base.specs.declared.place.Place.{Place}
-use Rattle.xmp_num.specs.declared.types.Ty.{Ty}
-use Rattle.xmp_num.specs.Arithmetic.{FitsType, wrap}
+use Rattle.xmp_num.specs.Arithmetic.{wrap}
 use Rattle.xmp_prog.specs.declared.parts.ProgParts.{ProgParts}
 use Rattle.xmp_prog.specs.declared.parts.Start.{Start}
 use Rattle.xmp_prog.specs.declared.expressions.Access.{Access}
 use Rattle.xmp_prog.specs.declared.expressions.Expr.{Expr, map-Expr}
-use Rattle.xmp_prog.specs.declared.expressions.Expr.TheOpen.{Expr-F, Access-F}
-use Rattle.xmp_prog.specs.declared.expressions.Expr.TheVariants as expr
+use Rattle.xmp_prog.specs.declared.expressions.Expr.TheOpen.{Expr-F}
 use Rattle.xmp_prog.specs.declared.expressions.Expr.TheFolds.{ind-Expr, fold-Access, fold-roll-Expr}
 use Rattle.xmp_prog.specs.declared.expressions.Expr.TheViews.{roll-Expr}
 use Rattle.xmp_prog.specs.Tests.{constant_step, is_constant}
@@ -17,7 +14,7 @@ use Rattle.xmp_prog.specs.Fits.{node_count}
 use Rattle.xmp_paths.specs.Plans.{skip}
 use Rattle.xmp_meaning.specs.declared.ends.Flow.{Flow}
 use Rattle.xmp_meaning.specs.declared.ends.Flow.TheVariants.{Next}
-use Rattle.xmp_meaning.specs.Runs.{State, RunIn, Run, ◌>>=◌, pure, set_scalar}
+use Rattle.xmp_meaning.specs.Runs.{Run, ◌>>=◌, pure, set_scalar}
 use Rattle.xmp_meaning.specs.Context.{Context}
 use Rattle.xmp_meaning.specs.Handlers.{Handlers, erased}
 use Rattle.xmp_meaning.specs.Expressions.{Element, expr_of, expr_step, access_step}
@@ -26,7 +23,7 @@ use Rattle.xmp_meaning.specs.Programs.{starts}
 use Rattle.xmp_meaning.specs.Exchanges.{Notes, traced}
 use Rattle.xmp_meaning.specs.Traffic.{node_context}
 use Rattle.xmp_meaning_laws.proofs.Values.{wrap_fits}
-use Rattle.xmp_nodes.specs.Nodes.{Nodes, all_do}
+use Rattle.xmp_nodes.specs.Nodes.{all_do}
 use Rattle.xmp_nodes.proofs.Agrees.{Carried, Anything, IsNext, at_main, AllFollow}
 use Rattle.xmp_nodes.proofs.Leaves.{serial_cx}
 use Rattle.xmp_nodes.proofs.Follow.{carried_pure, carried_last}

@@ -1,8 +1,7 @@
 -- Every statement of a task or a loop directive at a node that executes it.
-use Rattle.std.proofs.Common.{◌≡◌, ◌≢◌, ◌++◌, ◌⊎◌, inl, inr, ℕ, Bool, true, false, true≢false, not, List, [], ◌∷◌, map, Option, Some, None, refl, sym, subst, ap, ◌∙◌}
+use Rattle.std.proofs.Common.{◌≡◌, ℕ, Bool, true, false, true≢false, not, List, [], ◌∷◌, map, Option, Some, None, refl, sym, subst, ap, ◌∙◌}
 use Rattle.std.specs.List.{AllByRecursion}
 use Rattle.xmp_base.specs.declared.place.Place.{Place}
-use Rattle.xmp_num.specs.declared.types.Ty.TheVariants.{Int}
 use Rattle.xmp_num.specs.Arithmetic.{FitsType}
 use Rattle.xmp_prog.specs.declared.expressions.Expr.{Expr}
 use Rattle.xmp_prog.specs.declared.statements.LoopDirective.{LoopDirective}
@@ -10,7 +9,7 @@ use Rattle.xmp_prog.specs.declared.statements.LoopHead.{LoopHead}
 use Rattle.xmp_prog.specs.declared.statements.Plain.{Plain}
 use Rattle.xmp_prog.specs.declared.statements.Plain.TheVariants as plain
 use Rattle.xmp_prog.specs.declared.statements.Stmt.{Stmt, map-Stmt}
-use Rattle.xmp_prog.specs.declared.statements.Stmt.TheOpen.{Stmt-F, Task-F}
+use Rattle.xmp_prog.specs.declared.statements.Stmt.TheOpen.{Stmt-F}
 use Rattle.xmp_prog.specs.declared.statements.Stmt.TheVariants as stmt
 use Rattle.xmp_prog.specs.declared.statements.Stmt.TheFolds.{ind-Stmt}
 use Rattle.xmp_prog.specs.declared.statements.Stmt.TheViews.{roll-Stmt}
@@ -21,14 +20,14 @@ use Rattle.xmp_prog.proofs.Rolls as rolls
 use Rattle.xmp_paths.specs.declared.event.Event.{Event}
 use Rattle.xmp_paths.specs.declared.event.Event.TheVariants.{Wrong}
 use Rattle.xmp_paths.specs.NodeSets.{has}
-use Rattle.xmp_paths.specs.Plans.{Plan, Stands, skip, emit, sequence, branch, loop, Path, in_order}
-use Rattle.xmp_paths.specs.Safe.{left, NothingWrong}
+use Rattle.xmp_paths.specs.Plans.{Plan, Stands, skip, sequence, branch, loop, Path, in_order}
+use Rattle.xmp_paths.specs.Safe.{NothingWrong}
 use Rattle.xmp_loops.specs.Roles.{scalars_of}
-use Rattle.xmp_flow.specs.Setting.{Setting, is_reduced, wrong_where, assigned, in_task}
-use Rattle.xmp_flow.specs.Reads.{reads_of, reads_of_all}
+use Rattle.xmp_flow.specs.Setting.{is_reduced, wrong_where, assigned, in_task}
+use Rattle.xmp_flow.specs.Reads.{reads_of}
 use Rattle.xmp_flow.specs.PlainEvents.{in_form, reflected, cast, side_events, source_events, moved, plain_events}
-use Rattle.xmp_flow.specs.Statements.{events_of, if_form, while_events}
-use Rattle.xmp_flow.specs.LoopEvents.{at_bounds, nest_events, reduction_events, iteration, ends, loop_events}
+use Rattle.xmp_flow.specs.Statements.{events_of, if_form}
+use Rattle.xmp_flow.specs.LoopEvents.{at_bounds, nest_events, reduction_events, iteration, ends}
 use Rattle.xmp_flow.proofs.FormLaws.{events_plain, events_block, events_if, events_while, events_counted, events_loop, events_tasks}
 use Rattle.xmp_meaning.specs.declared.ends.Flow.{Flow}
 use Rattle.xmp_meaning.specs.Runs.{Run, ◌>>=◌, pure}
@@ -37,7 +36,6 @@ use Rattle.xmp_meaning.specs.Handlers.{erased}
 use Rattle.xmp_meaning.specs.Expressions.{expr_of, holds, is_zero}
 use Rattle.xmp_meaning.specs.Loops.{counted}
 use Rattle.xmp_meaning.specs.Statements.{plain_of}
-use Rattle.xmp_meaning.specs.Declarations.{scalar_type}
 use Rattle.xmp_meaning.specs.Exchanges.{Notes, traced}
 use Rattle.xmp_meaning.proofs.Forms.{stmt_plain, stmt_block, stmt_if, stmt_counted}
 use Rattle.xmp_meaning_laws.specs.Laws.{is_plain}
@@ -48,10 +46,10 @@ use Rattle.xmp_nodes.proofs.Standing.{TermStands, PartFits, NoReturn, IsSetting,
 use Rattle.xmp_nodes.proofs.Leaves.{noting, GivesNext, StatementsCarry}
 use Rattle.xmp_nodes.proofs.Below.{every_plain, every_block, every_if, every_counted}
 use Rattle.xmp_nodes.proofs.Follow.{right_front, right_back, right_first, right_second, right_turn, carried_pure, carried_weaker, carried_paths, carried_on, carried_last, carried_choose, carried_block}
-use Rattle.xmp_nodes.proofs.InStep.{way_first, way_last, way_skipped}
+use Rattle.xmp_nodes.proofs.InStep.{way_first, way_last}
 use Rattle.xmp_nodes.proofs.CountedInStep.{way_skip, way_loop}
 use Rattle.xmp_nodes.proofs.Lockstep.{index_int, index_unwritten}
-use Rattle.xmp_nodes.proofs.CountedCarried.{writes_first, writes_second, writes_counted, index_changed, writes_block, Leaves, scx, ncx, reads, turn, loop_along}
+use Rattle.xmp_nodes.proofs.CountedCarried.{writes_first, writes_second, writes_counted, index_changed, writes_block, Leaves, scx, ncx, loop_along}
 
 module _ (p : Leaves) (a : Stand) (is : IsSetting a) (there : has a.set.nodes a.node ≡ true) (within : a.set.inside ≡ true) (input : List ℕ) where
   abbrev serial : Stmt → Run Notes Flow
@@ -172,12 +170,18 @@ module _ (p : Leaves) (a : Stand) (is : IsSetting a) (there : has a.set.nodes a.
       (subst (λ q. Carried a IsNext q (counted (traced a.program) (scx p a is there input) head (serial x)) (counted erased (ncx p a is there input) head (alone x))) (sym (events_counted head x a.set))
       (carried_paths a IsNext (sequence f (sequence m (sequence (loop (sequence t (sequence b m))) t))) (sequence w rest)
       (counted (traced a.program) (scx p a is there input) head (serial x)) (counted erased (ncx p a is there input) head (alone x))
-      (λ way v. record { front = []; back = way; whole = refl; in_front = subst (λ r. Path (wrong_where r 5 head.index.at) []) (sym unreduced) refl; in_back =
-      way_last f (sequence m (sequence (loop (sequence t (sequence b m))) t)) (sequence m (sequence (loop one) (sequence t skip)))
-      (way_last m (sequence (loop (sequence t (sequence b m))) t) (sequence (loop one) (sequence t skip))
-      (λ w2 x2. way_first (loop (sequence t (sequence b m))) (loop one) (sequence t skip)
-      (way_loop (sequence t (sequence b m)) one (way_last t (sequence b m) (sequence b (sequence m skip)) (way_last b m (sequence m skip) (way_skip m)))) w2
-      (way_last (loop (sequence t (sequence b m))) t (sequence t skip) (way_skip t) w2 x2))) way v })
+      (λ way v. record {
+        front = [];
+        back = way;
+        whole = refl;
+        in_front = subst (λ r. Path (wrong_where r 5 head.index.at) []) (sym unreduced) refl;
+        in_back =
+            way_last f (sequence m (sequence (loop (sequence t (sequence b m))) t)) (sequence m (sequence (loop one) (sequence t skip)))
+            (way_last m (sequence (loop (sequence t (sequence b m))) t) (sequence (loop one) (sequence t skip))
+            (λ w2 x2. way_first (loop (sequence t (sequence b m))) (loop one) (sequence t skip)
+            (way_loop (sequence t (sequence b m)) one (way_last t (sequence b m) (sequence b (sequence m skip)) (way_last b m (sequence m skip) (way_skip m)))) w2
+            (way_last (loop (sequence t (sequence b m))) t (sequence t skip) (way_skip t) w2 x2))) way v;
+      })
       (loop_along p a is there input head (index_int a.program head x own.counted) unreduced (index_changed a head x writes) own.from own.to
       (right_front f (sequence m (sequence (loop one) (sequence t skip))) inner) last b (serial x) (alone x) carried
       (λ way v stale e. p.unwritten_stay a.set a.node head.index.number x (index_unwritten a.program head x own.counted) way v stale e)))))

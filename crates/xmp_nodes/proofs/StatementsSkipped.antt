@@ -70,7 +70,6 @@ use Rattle.xmp_nodes.proofs.Turns.{GoesOn}
 use Rattle.xmp_nodes.proofs.WholeStays.{whole_stays}
 use Rattle.xmp_nodes.proofs.SkipMarks.{Marks, CopyMarks, keeps, marks_front, marks_back, marks_after, write_marks, wrong_fades}
 use Rattle.xmp_nodes.proofs.SkipPlains.{still_by}
-
 use Rattle.xmp_nodes.proofs.SkipSteps.{cx, shared, all_there, condition, loop_skipped}
 
 right_after : (xs ys : List (Plan Event)) → NothingWrong (in_order (xs ++ ys)) → NothingWrong (in_order ys)
@@ -110,9 +109,9 @@ module _ (a : Stand) (is : IsSetting a) (out : has a.set.nodes a.node ≡ false)
       → Writes (element_write a.set b.array b.subscripts b.at) b.array
   written_is b terms right =
       let m : CopyMarks a.node a.set out (all_there a is out within alone silent input) alone (shared a is out within alone silent input) (element_write a.set b.array b.subscripts b.at) b.array =
-          write_marks a.node a.set out (all_there a is out within alone silent input) alone (shared a is out within alone silent input) b.array b.subscripts b.at (slice_get a.set.program.arrays b.array) refl
-          (subst (λ p. is_some (slice_get p.arrays b.array) ≡ true) (sym is.program) (is_there b terms))
-          (λ r e i. true≢false (sym (ap is_image (ap home_of_array (ap (λ p. slice_get p.arrays b.array) (sym is.program) ∙ e) ∙ i)) ∙ not_image a.program is.global b.array)) right in
+      write_marks a.node a.set out (all_there a is out within alone silent input) alone (shared a is out within alone silent input) b.array b.subscripts b.at (slice_get a.set.program.arrays b.array) refl
+      (subst (λ p. is_some (slice_get p.arrays b.array) ≡ true) (sym is.program) (is_there b terms))
+      (λ r e i. true≢false (sym (ap is_image (ap home_of_array (ap (λ p. slice_get p.arrays b.array) (sym is.program) ∙ e) ∙ i)) ∙ not_image a.program is.global b.array)) right in
       (subst (λ p. home_of p b.array ≡ home.Copy) is.program m.0, m.1)
 
   copies_of : (q : Plain) → is_plain q ≡ true → AllByRecursion (TermStands a.program) (terms_of_plain a.program q) → NothingWrong (plain_events q a.set)
@@ -125,8 +124,7 @@ module _ (a : Stand) (is : IsSetting a) (out : has a.set.nodes a.node ≡ false)
       let rs : Plan Event = reads_of e a.set in
       let both : _ = all_apart (TermStands a.program) (terms_of_access a.program b) (terms_of a.program e) terms in
       let last : NothingWrong (sequence old (sequence rs (sequence w skip))) = right_after (subscript_reads b a.set) (old ∷ rs ∷ w ∷ []) right in
-      let m : Writes w b.array = written_is b both.0 (right_front w skip (right_back rs (sequence w skip) (right_back old (sequence rs (sequence w skip)) last))) in
-      (
+      let m : Writes w b.array = written_is b both.0 (right_front w skip (right_back rs (sequence w skip) (right_back old (sequence rs (sequence w skip)) last))) in (
         (
           m.0,
           marks_after a.node (array_object b.array) (subscript_reads b a.set) (old ∷ rs ∷ w ∷ [])
@@ -144,9 +142,8 @@ module _ (a : Stand) (is : IsSetting a) (out : has a.set.nodes a.node ≡ false)
       let test : Bool = is_some a.set.over || not (is_first_alone a.set) in
       let end : Plan Event = wrong_where test 8 at in
       let last : NothingWrong (sequence w (sequence end skip)) =
-          right_after (subscript_reads b a.set) (w ∷ end ∷ []) (subst (λ l. NothingWrong (in_order l)) (joined (subscript_reads b a.set) w end) right) in
-      let m : Writes w b.array = written_is b terms (right_front w (sequence end skip) last) in
-      (
+      right_after (subscript_reads b a.set) (w ∷ end ∷ []) (subst (λ l. NothingWrong (in_order l)) (joined (subscript_reads b a.set) w end) right) in
+      let m : Writes w b.array = written_is b terms (right_front w (sequence end skip) last) in (
         (
           m.0,
           subst (λ l. Marks a.node (array_object b.array) (in_order l)) (sym (joined (subscript_reads b a.set) w end))
@@ -197,7 +194,7 @@ module _ (a : Stand) (is : IsSetting a) (out : has a.set.nodes a.node ≡ false)
       let terms : AllByRecursion (TermStands a.program) (terms_of_plain a.program q) = (plain_fits a.program q fits).terms in
       let same : serial (stmt.Plain q) ≡ stmt_of erased here (stmt.Plain q) = stmt_plain (traced a.program) here q ∙ (noted_plain a.program here q one ∙ sym (stmt_plain erased here q)) in
       let whole : IsWhole a.program (state_of (stmt_of erased here (stmt.Plain q) s)) =
-          subst (λ (f : Run Notes Flow). IsWhole a.program (state_of (f s))) same (whole_stays a.program input (stmt.Plain q) (some_nodes a.program) fits s g.whole) in
+      subst (λ (f : Run Notes Flow). IsWhole a.program (state_of (f s))) same (whole_stays a.program input (stmt.Plain q) (some_nodes a.program) fits s g.whole) in
       subst (λ (f : Run Notes Flow). Still a IsNext (plan (stmt.Plain q)) stale s n (f s)) (sym same)
       (subst (λ e. Still a IsNext e stale s n (stmt_of erased here (stmt.Plain q) s)) (sym (events_plain q a.set))
       (still_by a is within out alone silent input q one terms fine (copies_of q one terms fine) stale s n g IsNext whole
@@ -260,12 +257,18 @@ module _ (a : Stand) (is : IsSetting a) (out : has a.set.nodes a.node ≡ false)
       subst (λ g. Skipped a IsNext (plan (stmt.Counted head x)) g) (sym (stmt_counted (traced a.program) here head x))
       (subst (λ q. Skipped a IsNext q (counted (traced a.program) here head (serial x))) (sym (events_counted head x a.set))
       (skipped_paths a IsNext (sequence f (sequence m (sequence (loop (sequence t (sequence b m))) t))) (sequence w rest) (counted (traced a.program) here head (serial x))
-      (λ way v. record { front = []; back = way; whole = refl; in_front = subst (λ r. Path (wrong_where r 5 head.index.at) []) (sym unreduced) refl; in_back =
-      way_last f (sequence m (sequence (loop (sequence t (sequence b m))) t)) (sequence m (sequence (loop one) (sequence t skip)))
-      (way_last m (sequence (loop (sequence t (sequence b m))) t) (sequence (loop one) (sequence t skip))
-      (λ w2 x2. way_first (loop (sequence t (sequence b m))) (loop one) (sequence t skip)
-      (way_loop (sequence t (sequence b m)) one (way_last t (sequence b m) (sequence b (sequence m skip)) (way_last b m (sequence m skip) (way_skip m)))) w2
-      (way_last (loop (sequence t (sequence b m))) t (sequence t skip) (way_skip t) w2 x2))) way v })
+      (λ way v. record {
+        front = [];
+        back = way;
+        whole = refl;
+        in_front = subst (λ r. Path (wrong_where r 5 head.index.at) []) (sym unreduced) refl;
+        in_back =
+            way_last f (sequence m (sequence (loop (sequence t (sequence b m))) t)) (sequence m (sequence (loop one) (sequence t skip)))
+            (way_last m (sequence (loop (sequence t (sequence b m))) t) (sequence (loop one) (sequence t skip))
+            (λ w2 x2. way_first (loop (sequence t (sequence b m))) (loop one) (sequence t skip)
+            (way_loop (sequence t (sequence b m)) one (way_last t (sequence b m) (sequence b (sequence m skip)) (way_last b m (sequence m skip) (way_skip m)))) w2
+            (way_last (loop (sequence t (sequence b m))) t (sequence t skip) (way_skip t) w2 x2))) way v;
+      })
       (loop_skipped a is out within alone silent input head (index_int a.program head x own.counted) own.from own.to (right_front f (sequence m (sequence (loop one) (sequence t skip))) inner) last b (serial x)
       (c own.inner (every_counted (λ z. is_return z ≡ false) head x quiet) body_fine))))
 

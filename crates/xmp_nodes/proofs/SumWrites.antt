@@ -1,16 +1,14 @@
 -- Both runs combine a reduction variable with one value: with what the others have, it is still the serial one.
-use Rattle.std.proofs.Common.{◌≡◌, ◌≢◌, ◌<◌, ◌++◌, ℕ, zero, suc, ℤ, pos, Bool, true, false, true≢false, List, [], ◌∷◌, length, Option, Some, None, refl, sym, subst, ap, ◌∙◌, arith, if◌then◌else◌, ◌==◌, eqb-true}
-use Rattle.std.specs.Prelude.{slice_get, slice_set, unwrap_or, is_some}
+use Rattle.std.proofs.Common.{◌≡◌, ◌≢◌, ◌<◌, ℕ, zero, suc, ℤ, pos, Bool, true, false, true≢false, List, [], ◌∷◌, length, refl, sym, subst, ap, ◌∙◌, arith, ◌==◌, eqb-true}
+use Rattle.std.specs.Prelude.{slice_get, unwrap_or, is_some}
 use Rattle.std.proofs.lemmas.Bool.{eqb-false}
 use Rattle.xmp_num.specs.declared.types.RedOp.{RedOp}
 use Rattle.xmp_num.specs.declared.types.Ty.{Ty}
 use Rattle.xmp_num.specs.Arithmetic.{FitsType}
-use Rattle.xmp_num.specs.Reduction.{combine_of, IsCommutativeMonoid}
+use Rattle.xmp_num.specs.Reduction.{combine_of}
 use Rattle.xmp_num.proofs.ReductionLaws.{holds}
-use Rattle.xmp_prog.specs.declared.statements.LoopDirective.{LoopDirective}
-use Rattle.xmp_loops.specs.Objects.{scalar_object, array_object}
 use Rattle.xmp_loops.specs.declared.role.Role.{Role}
-use Rattle.xmp_loops.specs.declared.role.Role.TheVariants.{Shared, Index, Reduced, Own}
+use Rattle.xmp_loops.specs.declared.role.Role.TheVariants.{Index, Reduced}
 use Rattle.xmp_flow.specs.Setting.{is_reduced}
 use Rattle.xmp_meaning.specs.Runs.{State}
 use Rattle.xmp_meaning.specs.Declarations.{scalar_type}

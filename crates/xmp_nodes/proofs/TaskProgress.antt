@@ -360,9 +360,9 @@ module _ (carry : StatementsCarry) (skips : StatementsSkip) (p : ProgParts) (glo
         met_all : Met (serial_of t s)
         met_all k lt b = (
           (λ m. task_carried t good.bodies.0 good.returns.0 right_one k lt m None b.stale s (states k) (front_safe k b.stale b.safe)
-          (agrees_there p k (all_nodes p) (nodes_in p.grid t.nodes) false true None None b.stale s (states k) s.out (states k).out s.extra (λ array number. refl) (λ x e. absurd (none-some x e)) b.agrees)),
+              (agrees_there p k (all_nodes p) (nodes_in p.grid t.nodes) false true None None b.stale s (states k) s.out (states k).out s.extra (λ array number. refl) (λ x e. absurd (none-some x e)) b.agrees)),
           (λ m. task_skipped t good.bodies.0 good.returns.0 right_one k lt m b.stale s (states k)
-          (agrees_there p k (all_nodes p) (nodes_in p.grid t.nodes) false true None None b.stale s (states k) s.out (states k).out s.extra (λ array number. refl) (λ x e. absurd (none-some x e)) b.agrees)),
+              (agrees_there p k (all_nodes p) (nodes_in p.grid t.nodes) false true None None b.stale s (states k) s.out (states k).out s.extra (λ array number. refl) (λ x e. absurd (none-some x e)) b.agrees)),
         )
 
         led_met : Before (t ∷ ts) l s (states l) → LedMet (serial_of t s)

@@ -1,5 +1,5 @@
 -- The nodes carry out a program: all lemmas together.
-use Rattle.std.proofs.Common.{◌≡◌, ℕ, List, Option, None}
+use Rattle.std.proofs.Common.{◌≡◌, ℕ, List, None}
 use Rattle.xmp_base.specs.First.{IsFirst}
 use Rattle.xmp_prog.specs.declared.parts.ProgParts.{ProgParts}
 use Rattle.xmp_prog.specs.declared.parts.Kind.TheVariants.{Global}
@@ -11,7 +11,6 @@ use Rattle.xmp_nodes.specs.Lockstep.{nodes_end}
 use Rattle.xmp_nodes.specs.Worlds.{World, world_after}
 use Rattle.xmp_nodes.specs.Stands.{StandsFor}
 use Rattle.xmp_nodes.specs.Answers.{answer_of}
-use Rattle.xmp_nodes.proofs.Standing.{IsGlobal}
 use Rattle.xmp_nodes.proofs.Leaves.{StatementsCarry}
 use Rattle.xmp_nodes.proofs.IfFormsCarried.{if_forms_carry}
 use Rattle.xmp_nodes.proofs.SetForms.{all_plains_carry}
@@ -22,7 +21,6 @@ use Rattle.xmp_nodes.proofs.ReadsMark.{reads_keep}
 use Rattle.xmp_nodes.proofs.Unwritten.{unwritten_stay}
 use Rattle.xmp_nodes.proofs.SameRuns.{alone_is_erased}
 use Rattle.xmp_nodes.proofs.ExpressionsCarried.{expressions_carry}
-use Rattle.xmp_nodes.proofs.CountedCarried.{Leaves}
 use Rattle.xmp_nodes.proofs.StatementsCarried.{statements_carry}
 use Rattle.xmp_nodes.proofs.LoopLeaf.{loops_follow}
 use Rattle.xmp_nodes.proofs.CastLeaf.{casts_follow}

@@ -1,5 +1,5 @@
 -- Values of the nodes combined, under an operation that is a commutative monoid on the values of a set.
-use Rattle.std.proofs.Common.{◌≡◌, ◌≢◌, ℕ, zero, suc, ◌<◌, ◌+◌, ◌⊎◌, inl, inr, refl, sym, ap, ◌∙◌, ⊎_elim, arith, ℤ}
+use Rattle.std.proofs.Common.{◌≡◌, ◌≢◌, ℕ, zero, suc, ◌<◌, ◌⊎◌, inl, inr, refl, sym, ap, ◌∙◌, ⊎_elim, arith, ℤ}
 use Rattle.xmp_num.specs.Reduction.{IsCommutativeMonoid}
 
 -- below the successor: below it, or it

@@ -1,28 +1,24 @@
 -- A turn of a loop directive at its owner, beside the serial one: both go on, and all nodes are as between turns again; or both
 -- come to one end.
-use Rattle.std.proofs.Common.{◌≡◌, ◌≢◌, ◌<◌, ◌+◌, ◌++◌, ◌==◌, ◌&&◌, ◌||◌, not, if◌then◌else◌, ℕ, zero, suc, ℤ, pos, Bool, true, false, true≢false, List, [], ◌∷◌, length, map, Option, Some, None, inl, inr, refl, sym, subst, ap, ◌∙◌, arith, eq-eqb, eqb-true, ne_eqb}
-use Rattle.std.specs.Prelude.{slice_get, slice_set, unwrap_or, is_some}
+use Rattle.std.proofs.Common.{◌≡◌, ◌≢◌, ◌<◌, ◌++◌, ◌==◌, if◌then◌else◌, ℕ, suc, ℤ, pos, Bool, true, false, true≢false, List, [], ◌∷◌, length, map, Some, refl, sym, subst, ap, ◌∙◌, eq-eqb, eqb-true}
+use Rattle.std.specs.Prelude.{slice_get, unwrap_or}
 use Rattle.std.specs.List.{AllByRecursion, flat_map}
 use Rattle.xmp_map.specs.declared.array_map.ArrayMap.{ArrayMap}
 use Rattle.xmp_map.specs.RowMajor.{row_major}
 use Rattle.xmp_map.specs.Boxes.{IsInside}
 use Rattle.xmp_num.specs.declared.types.RedOp.{RedOp}
-use Rattle.xmp_num.specs.declared.types.Ty.{Ty}
 use Rattle.xmp_num.specs.declared.types.Ty.TheVariants.{Int}
 use Rattle.xmp_num.specs.Arithmetic.{FitsType}
-use Rattle.xmp_num.specs.Reduction.{combine_of, unit_of, IsCommutativeMonoid}
-use Rattle.xmp_num.proofs.ReductionLaws as reductions
+use Rattle.xmp_num.specs.Reduction.{combine_of}
 use Rattle.xmp_paths.specs.NodeSets.{has}
-use Rattle.xmp_paths.specs.Plans.{Plan}
 use Rattle.xmp_paths.specs.Safe.{left, Safe, NothingWrong}
-use Rattle.xmp_paths.specs.declared.event.Event.{Event}
 use Rattle.xmp_prog.specs.declared.parts.ProgParts.{ProgParts}
 use Rattle.xmp_prog.specs.declared.parts.Home.TheVariants as home
 use Rattle.xmp_prog.specs.declared.statements.LoopDirective.{LoopDirective}
 use Rattle.xmp_prog.specs.declared.statements.Stmt.{Stmt}
 use Rattle.xmp_prog.specs.Numbers.{is_in}
 use Rattle.xmp_prog.specs.Fits.{node_count}
-use Rattle.xmp_prog.specs.Statements.{indices_of, slots_of_point, writes_of}
+use Rattle.xmp_prog.specs.Statements.{indices_of, slots_of_point}
 use Rattle.xmp_meaning.specs.declared.ends.Flow.{Flow}
 use Rattle.xmp_meaning.specs.declared.ends.Flow.TheVariants.{Next, Returned}
 use Rattle.xmp_meaning.specs.Cells.{row_in}
@@ -38,35 +34,33 @@ use Rattle.xmp_meaning.specs.Traffic.{copied, node_context}
 use Rattle.xmp_meaning.specs.TrafficLaws.{IsNodeState}
 use Rattle.xmp_meaning.proofs.Stays.{keeps_scalar, keeps_array}
 use Rattle.xmp_meaning_laws.specs.Laws.{scalar_in}
-use Rattle.xmp_meaning_laws.specs.Tuples.{at_tuple, set_where, value_in, owns_tuple, slots_of_nest, LeavesScalars}
+use Rattle.xmp_meaning_laws.specs.Tuples.{at_tuple, value_in, owns_tuple, slots_of_nest, LeavesScalars}
 use Rattle.xmp_meaning_laws.proofs.Conditions.{all_apart}
-use Rattle.xmp_meaning_laws.proofs.Values.{zero_fits}
 use Rattle.xmp_meaning_laws.proofs.Bodies.{statement_leaves}
 use Rattle.xmp_meaning_laws.proofs.Nests.{Exists}
-use Rattle.xmp_meaning_laws.proofs.Settings.{Apart, where_other, where_length}
-use Rattle.xmp_move.specs.Sides.{owns_cell, holds_cell, position}
+use Rattle.xmp_meaning_laws.proofs.Settings.{Apart, where_length}
+use Rattle.xmp_move.specs.Sides.{owns_cell}
 use Rattle.xmp_move.specs.Stores.{word_at}
-use Rattle.xmp_move.specs.Whole.{Shows}
 use Rattle.xmp_loops.specs.Objects.{scalar_object, array_object, all_nodes}
 use Rattle.xmp_loops.specs.Roles.{role_in, own_scalars, writes_array}
 use Rattle.xmp_loops.specs.declared.role.Role.{Role}
 use Rattle.xmp_loops.specs.declared.role.Role.TheVariants.{Shared, Index, Reduced, Own}
-use Rattle.xmp_flow.specs.Setting.{Setting, is_reduced}
-use Rattle.xmp_flow.specs.LoopEvents.{within, loop_events}
+use Rattle.xmp_flow.specs.Setting.{is_reduced}
+use Rattle.xmp_flow.specs.LoopEvents.{loop_events}
 use Rattle.xmp_flow.specs.Statements.{events_of}
 use Rattle.xmp_flow.specs.Program.{outermost}
 use Rattle.xmp_nodes.specs.Lockstep.{lockstep}
-use Rattle.xmp_nodes.proofs.Agrees.{Stand, IsWhole, IsSum, Agrees, is_changed, TurnLeaves, GoesOn, EndsSo, Along, IsNext, base_at}
+use Rattle.xmp_nodes.proofs.Agrees.{Stand, IsWhole, IsSum, Agrees, is_changed, TurnLeaves, GoesOn, Along, IsNext, base_at}
 use Rattle.xmp_nodes.proofs.Standing.{IsGlobal, NoReturn}
 use Rattle.xmp_nodes.proofs.Leaves.{LoopFits, AloneIsErased, StatementsCarry, noting}
 use Rattle.xmp_nodes.proofs.Each.{there}
 use Rattle.xmp_nodes.proofs.NodeBits.{all_have}
-use Rattle.xmp_nodes.proofs.Totals.{total_of, total_in, total_more}
-use Rattle.xmp_nodes.proofs.Turns.{Turn, BodyStays, with_state, with_state_here, with_state_else, Owner}
+use Rattle.xmp_nodes.proofs.Turns.{Turn, BodyStays, with_state, with_state_here, with_state_else}
 use Rattle.xmp_nodes.proofs.BodiesGo.{statement_goes}
-use Rattle.xmp_nodes.proofs.LoopOwn.{value_at, owns_at_tuple, added_by, owned_count, turn_counted}
-use Rattle.xmp_nodes.proofs.LoopTurns.{index_there, other_there, value_fits, exist_below, Between, Beside, sum_of, others_by, others, sum_with, others_fit}
+use Rattle.xmp_nodes.proofs.LoopOwn.{owns_at_tuple, added_by, owned_count, turn_counted}
+use Rattle.xmp_nodes.proofs.LoopTurns.{index_there, other_there, value_fits, exist_below, Between, Beside, others_by, others, sum_with, others_fit}
 use Rattle.xmp_nodes.proofs.LoopFacts.{none_equal, one_of_all, shared_is, index_is, own_is, set, body_nothing, nest_fits, indices_apart, indices_int, role_of_index, copies_unwritten, at_turn, is_setting, writes_fit, one_owner}
+
 module _ (p : ProgParts) (global : IsGlobal p) (some : 0 < node_count p) (input : List ℕ) (d : LoopDirective) (body : Stmt) (fits : LoopFits p d body) (go : NoReturn body)
     (nothing : NothingWrong (loop_events d body (events_of body) (outermost p))) (carry : StatementsCarry) (alone : AloneIsErased) where
   abbrev slots : List ℕ

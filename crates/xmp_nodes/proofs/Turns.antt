@@ -1,5 +1,5 @@
 -- The parts of a loop side by side: each turn is the turn of the node that owns its tuple, in the order of the serial loop.
-use Rattle.std.proofs.Common.{◌≡◌, ◌≢◌, ◌<◌, ◌==◌, ◌&&◌, if◌then◌else◌, ℕ, zero, suc, ℤ, pos, Bool, true, false, true≢false, List, [], ◌∷◌, length, map, Option, Some, refl, sym, subst, ap, ◌∙◌, arith, eq-eqb, eqb-true, ne_eqb}
+use Rattle.std.proofs.Common.{◌≡◌, ◌≢◌, ◌<◌, ◌==◌, if◌then◌else◌, ℕ, ℤ, pos, Bool, true, false, true≢false, List, [], ◌∷◌, length, map, Some, refl, sym, subst, ap, ◌∙◌, arith, eq-eqb, eqb-true, ne_eqb}
 use Rattle.std.specs.Prelude.{slice_get, slice_set, unwrap_or, is_some, cond}
 use Rattle.std.specs.List.{AllByRecursion, list_all, filter}
 use Rattle.std.proofs.lemmas.List.{length-set}
@@ -8,8 +8,8 @@ use Rattle.xmp_prog.specs.Numbers.{pairwise}
 use Rattle.xmp_meaning.specs.declared.ends.End.{End}
 use Rattle.xmp_meaning.specs.declared.ends.Flow.{Flow}
 use Rattle.xmp_meaning.specs.declared.ends.Flow.TheVariants.{Next, Returned}
-use Rattle.xmp_meaning.specs.Runs.{State, Step, Gave, Ended, Run, and_then, pure, state_of}
-use Rattle.xmp_meaning.specs.Blocks.{after, then_run}
+use Rattle.xmp_meaning.specs.Runs.{State, Step, Gave, Ended, Run, and_then, state_of}
+use Rattle.xmp_meaning.specs.Blocks.{after}
 use Rattle.xmp_meaning.specs.LoopEnds.{comes_before}
 use Rattle.xmp_meaning.specs.Exchanges.{Notes, values_of}
 use Rattle.xmp_meaning_laws.specs.Tuples.{set_where, at_tuple, for_each}
@@ -174,7 +174,7 @@ module _ (slots : List ℕ) (count : ℕ) (f : Run Notes Flow) (g : ℕ → Run 
       (there : (ts : List (List ℤ)) (s : State Notes) (m : ℕ → State (Unit {0})) → I ts s m → (k : ℕ) → k < count → Exists (m k) slots)
       (owner : (vs : List ℤ) → length vs ≡ length slots → Owner count owns vs)
       (turn : (vs : List ℤ) (l : length vs ≡ length slots) (rest : List (List ℤ)) (s : State Notes) (m : ℕ → State (Unit {0})) → I (vs ∷ rest) s m
-          → Turn rest (owner vs l).node m (f (at_tuple slots vs s)) (g (owner vs l).node (at_tuple slots vs (m (owner vs l).node)))) where
+      → Turn rest (owner vs l).node m (f (at_tuple slots vs s)) (g (owner vs l).node (at_tuple slots vs (m (owner vs l).node)))) where
     -- the part of a node that owns the first tuple, and of one that doesn't
     part_owned : (node : ℕ) (vs : List ℤ) (ts : List (List ℤ)) (s : State (Unit {0})) → owns node vs ≡ true
         → part node (vs ∷ ts) s ≡ and_then (g node (at_tuple slots vs s)) (λ flow. after flow (part node ts))

@@ -392,17 +392,26 @@ module _ (node slot : ℕ) where
       let both = not_in_both (indices_of d.nest) (scalars_written a) (subst NotIn (rolls.at_loop (List ℕ) (List ℕ) scalars_step written_in_task d a) h) in
       let own : NotIn (own_scalars d a) = not_in_filtered (λ n. is_own (role_in d a n)) (scalars_written a) both.1 in
       subst Quietly (sym (events_loop d a s))
-      (ordered_each Harmless (wrong_where s.inside 10 d.at ∷ in_order (nest_events (at_bounds d a s) [] (scalars_of d a) d.nest) ∷ in_order (reduction_events s [] d.reductions) ∷ loop (iteration s d a (events_of a)) ∷ in_order (ends s d a) ∷ [])
-      (wrong_quiet s.inside 10 d.at,
-      (ordered_each Harmless (nest_events (at_bounds d a s) [] (scalars_of d a) d.nest) (heads_quiet (at_bounds d a s) [] (scalars_of d a) d.nest),
-      (ordered_each Harmless (reduction_events s [] d.reductions) (reductions_quiet s [] d.reductions),
-      (ordered_each Harmless (map (λ n. stale_on_all s (scalar_object n)) (own_scalars d a) ++ events_of a (within d a s) ∷ [])
-      (all_together Quietly (map (λ n. stale_on_all s (scalar_object n)) (own_scalars d a)) (events_of a (within d a s) ∷ []) (stale_quiet s (own_scalars d a) own) (ca both.1 (within d a s), tt)),
-      (ordered_each Harmless (ends s d a)
-      (all_together Quietly (map (λ n. stale_on_all s (scalar_object n)) (own_scalars d a ++ indices_of d.nest)) (map (λ (r : Reduction). current_on_all s (scalar_object r.variable.number)) d.reductions ++ map (shadow_stale s) (arrays_written a))
-      (stale_quiet s (own_scalars d a ++ indices_of d.nest) (not_in_together (own_scalars d a) (indices_of d.nest) own both.0))
-      (all_together Quietly (map (λ (r : Reduction). current_on_all s (scalar_object r.variable.number)) d.reductions) (map (shadow_stale s) (arrays_written a)) (reductions_current s d.reductions) (shadows_quiet s (arrays_written a)))),
-      tt))))))
+      (ordered_each Harmless (wrong_where s.inside 10 d.at ∷ in_order (nest_events (at_bounds d a s) [] (scalars_of d a) d.nest) ∷ in_order (reduction_events s [] d.reductions) ∷ loop (iteration s d a (events_of a)) ∷ in_order (ends s d a) ∷ []) (
+        wrong_quiet s.inside 10 d.at,
+        (
+          ordered_each Harmless (nest_events (at_bounds d a s) [] (scalars_of d a) d.nest) (heads_quiet (at_bounds d a s) [] (scalars_of d a) d.nest),
+          (
+            ordered_each Harmless (reduction_events s [] d.reductions) (reductions_quiet s [] d.reductions),
+            (
+              ordered_each Harmless (map (λ n. stale_on_all s (scalar_object n)) (own_scalars d a) ++ events_of a (within d a s) ∷ [])
+                  (all_together Quietly (map (λ n. stale_on_all s (scalar_object n)) (own_scalars d a)) (events_of a (within d a s) ∷ []) (stale_quiet s (own_scalars d a) own) (ca both.1 (within d a s), tt)),
+              (
+                ordered_each Harmless (ends s d a)
+                    (all_together Quietly (map (λ n. stale_on_all s (scalar_object n)) (own_scalars d a ++ indices_of d.nest)) (map (λ (r : Reduction). current_on_all s (scalar_object r.variable.number)) d.reductions ++ map (shadow_stale s) (arrays_written a))
+                    (stale_quiet s (own_scalars d a ++ indices_of d.nest) (not_in_together (own_scalars d a) (indices_of d.nest) own both.0))
+                    (all_together Quietly (map (λ (r : Reduction). current_on_all s (scalar_object r.variable.number)) d.reductions) (map (shadow_stale s) (arrays_written a)) (reductions_current s d.reductions) (shadows_quiet s (arrays_written a)))),
+                tt,
+              ),
+            ),
+          ),
+        ),
+      ))
 
   each_task_stays : (all : List Task) → AllByRecursion (λ t. Stays t.body) all → NotIn (concat (map task_writes all)) → (s : Setting) → EachOf Harmless (map (λ t. events_of t.body (in_task s t.nodes)) all)
   each_task_stays [] c h s = tt

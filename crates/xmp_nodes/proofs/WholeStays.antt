@@ -8,10 +8,9 @@ use Rattle.xmp_meaning.specs.Declarations.{scalar_type, array_type}
 use Rattle.xmp_prog.specs.declared.parts.ProgParts.{ProgParts}
 use Rattle.xmp_prog.specs.declared.statements.Stmt.{Stmt}
 use Rattle.xmp_prog.specs.Fits.{node_count}
-use Rattle.xmp_prog.specs.Terms.{Term}
 use Rattle.xmp_prog.specs.Tests.{constant_fits, operands_fit, choice_fits, counted_fits}
 use Rattle.xmp_prog.specs.Directives.{nest_counted}
-use Rattle.xmp_prog.specs.Statements.{Statement, statements_of, terms_of_stmt}
+use Rattle.xmp_prog.specs.Statements.{statements_of, terms_of_stmt}
 use Rattle.xmp_meaning.specs.declared.ends.Flow.{Flow}
 use Rattle.xmp_meaning.specs.Runs.{State, Step, Gave, Ended, state_of}
 use Rattle.xmp_meaning.specs.Handlers.{erased}
@@ -20,7 +19,7 @@ use Rattle.xmp_meaning.specs.Calls.{main_context}
 use Rattle.xmp_meaning.specs.Exchanges.{Notes, traced}
 use Rattle.xmp_meaning.specs.Laws.{bare, bare_step}
 use Rattle.xmp_meaning.proofs.Notes.{notes_apart}
-use Rattle.xmp_meaning_laws.specs.Laws.{SameShape, ValuesLie, TermsFit, TypesFit}
+use Rattle.xmp_meaning_laws.specs.Laws.{SameShape, ValuesLie, TypesFit}
 use Rattle.xmp_meaning_laws.proofs.CountedLoops.{both_true}
 use Rattle.xmp_meaning_laws.proofs.Shapes as shapes
 use Rattle.xmp_meaning_laws.proofs.Types.{statements_lie}

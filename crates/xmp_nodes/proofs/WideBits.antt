@@ -1,9 +1,9 @@
 -- An operator in a wider type, cut to the type of a reduction variable, is the reduction's own step.
-use Rattle.std.proofs.Common.{◌≡◌, ℕ, suc, ◌+◌, ◌-◌, ◌%◌, ◌<◌, ◌≤◌, refl, sym, ap, subst, ◌∙◌, arith, ℤ, pos, negsuc, ◌+ℤ◌, ◌*ℤ◌, max, min, Ok, true, false, true≢false, if◌then◌else◌, ◌==◌, eqb-true}
+use Rattle.std.proofs.Common.{◌≡◌, ℕ, suc, ◌+◌, ◌-◌, ◌%◌, ◌<◌, refl, sym, ap, subst, ◌∙◌, arith, ℤ, pos, negsuc, ◌+ℤ◌, ◌*ℤ◌, max, min, Ok, true, true≢false, if◌then◌else◌, ◌==◌, eqb-true}
 use Rattle.std.specs.Prelude.{bit_and, bit_or, bit_xor}
 use Rattle.std.specs.Int.{int_wrap, int_rem_euclid, cast_signed, cast_unsigned, bit_at, w32, w64}
 use Rattle.std.specs.Int.RustNames.{FitsSigned, unsigned_abs}
-use Rattle.std.proofs.lemmas.Int.{ints, int_wrap_fits, SFits-int_wrap, of_z-to_z, int_wrap-add_right, int_wrap-mul_right}
+use Rattle.std.proofs.lemmas.Int.{int_wrap_fits, SFits-int_wrap, of_z-to_z, int_wrap-add_right, int_wrap-mul_right}
 use Rattle.std.proofs.lemmas.Nat.{and_mask}
 use Rattle.std.proofs.lemmas.Nat.Bits.{bit_at-lt, bit_at_and, bit_at_or, bit_at_xor, same_from_bits}
 use Rattle.xmp_num.specs.Arithmetic.{FitsType, width_of, wrap, binary_of}

@@ -1,12 +1,12 @@
 -- A bcast of scalars: each node takes the values that the source has (XcalableMP 1.4, bcast construct).
-use Rattle.std.specs.Prelude.{ℕ, List, [], ◌∷◌, map, ℤ}
+use Rattle.std.specs.Prelude.{List, ℤ}
 use Rattle.xmp_map.specs.declared.grid.NodeSet.{NodeSet}
 use Rattle.xmp_prog.specs.declared.parts.ProgParts.{ProgParts}
 use Rattle.xmp_prog.specs.declared.statements.Name.{Name}
 use Rattle.xmp_prog.specs.Statements.{slots_of_names}
 use Rattle.xmp_meaning.specs.declared.ends.Flow.{Flow}
 use Rattle.xmp_meaning.specs.declared.ends.Flow.TheVariants.{Next}
-use Rattle.xmp_meaning.specs.Runs.{State, RunIn}
+use Rattle.xmp_meaning.specs.Runs.{RunIn}
 use Rattle.xmp_meaning.specs.Blocks.{then_run}
 use Rattle.xmp_meaning.specs.Exchanges.{Broadcast, values_of}
 use Rattle.xmp_meaning.specs.LoopEnds.{set_all}

@@ -1,6 +1,6 @@
 -- What all nodes do together, statement by statement, and what one node does alone in a task or a loop directive (this
 -- project).
-use Rattle.std.specs.Prelude.{ℕ, suc, false, Bool, List, [], ◌∷◌, map, slice_get, unwrap_or}
+use Rattle.std.specs.Prelude.{ℕ, suc, false, Bool, List, [], ◌∷◌, map}
 use Rattle.xmp_prog.specs.declared.parts.ProgParts.{ProgParts}
 use Rattle.xmp_prog.specs.declared.statements.Plain.{Plain}
 use Rattle.xmp_prog.specs.declared.statements.Plain.TheVariants as plain
@@ -11,7 +11,6 @@ use Rattle.xmp_meaning.specs.declared.ends.Flow.{Flow}
 use Rattle.xmp_meaning.specs.declared.ends.Flow.TheVariants.{Next}
 use Rattle.xmp_meaning.specs.Runs.{State, StepIn, RunIn, Run, ◌>>=◌, pure, take_step}
 use Rattle.xmp_meaning.specs.Blocks.{then_run, block, choose, turns}
-use Rattle.xmp_meaning.specs.Context.{Context}
 use Rattle.xmp_meaning.specs.Handlers.{erased}
 use Rattle.xmp_meaning.specs.Expressions.{expr_of, holds}
 use Rattle.xmp_meaning.specs.Loops.{while_loop, inside, step_up, entering, counted, nest}

@@ -7,7 +7,7 @@ use Rattle.xmp_prog.specs.declared.statements.LoopDirective.{LoopDirective}
 use Rattle.xmp_prog.specs.Statements.{indices_of}
 use Rattle.xmp_meaning.specs.declared.ends.Flow.{Flow}
 use Rattle.xmp_meaning.specs.declared.ends.Flow.TheVariants.{Next}
-use Rattle.xmp_meaning.specs.Runs.{State, Step, Gave, RunIn, Run, ◌>>=◌}
+use Rattle.xmp_meaning.specs.Runs.{State, Step, RunIn, Run, ◌>>=◌}
 use Rattle.xmp_meaning.specs.Blocks.{then_run}
 use Rattle.xmp_meaning.specs.Parts.{begin}
 use Rattle.xmp_meaning.specs.Exchanges.{PartEnd, LoopEnd, part_end}

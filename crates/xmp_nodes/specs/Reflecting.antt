@@ -10,7 +10,7 @@ use Rattle.xmp_prog.specs.Fits.{node_count}
 use Rattle.xmp_meaning.specs.declared.ends.Flow.{Flow}
 use Rattle.xmp_meaning.specs.declared.ends.Flow.TheVariants.{Next}
 use Rattle.xmp_meaning.specs.Cells.{row_in}
-use Rattle.xmp_meaning.specs.Runs.{State, Gave, RunIn, pure}
+use Rattle.xmp_meaning.specs.Runs.{Gave, RunIn, pure}
 use Rattle.xmp_meaning.specs.Blocks.{then_run}
 use Rattle.xmp_meaning.specs.Declarations.{extents, home_of}
 use Rattle.xmp_meaning.specs.Messages.{Message, words_alone}

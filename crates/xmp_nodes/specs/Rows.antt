@@ -1,5 +1,5 @@
 -- The words of a side of a transfer on a node: the row of an array, or one scalar (this project).
-use Rattle.std.specs.Prelude.{ℕ, ◌∷◌, List, [], map, ℤ, pos, slice_set, unwrap_or, slice_get}
+use Rattle.std.specs.Prelude.{ℕ, ◌∷◌, List, [], ℤ, pos, slice_set, unwrap_or, slice_get}
 use Rattle.xmp_num.specs.declared.types.Ty.{Ty}
 use Rattle.xmp_prog.specs.declared.parts.ProgParts.{ProgParts}
 use Rattle.xmp_prog.specs.declared.parts.Home.{Home}

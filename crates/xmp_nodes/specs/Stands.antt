@@ -1,9 +1,8 @@
 -- What it means that a world stands for a program (this project).
-use Rattle.std.specs.Prelude.{◌≡◌, ◌<◌, ◌+◌, ◌&&◌, not, ℕ, ℤ, true, List, length, slice_get, Option, Some, None}
+use Rattle.std.specs.Prelude.{◌≡◌, ◌<◌, ◌+◌, ◌&&◌, not, ℕ, ℤ, true, List, length, slice_get, Some, None}
 use Rattle.xmp_map.specs.declared.array_map.ArrayMap.{ArrayMap}
 use Rattle.xmp_map.specs.RowMajor.{row_major}
 use Rattle.xmp_map.specs.Boxes.{IsInside}
-use Rattle.xmp_map.specs.Held as held
 use Rattle.xmp_prog.specs.declared.parts.ProgParts.{ProgParts}
 use Rattle.xmp_prog.specs.declared.parts.Home.TheVariants as home
 use Rattle.xmp_prog.specs.Fits.{node_count}
@@ -14,7 +13,7 @@ use Rattle.xmp_meaning.specs.Programs.{serial_end}
 use Rattle.xmp_meaning.specs.Messages.{sent}
 use Rattle.xmp_meaning.specs.Stores.{words_on, base_of}
 use Rattle.xmp_meaning.specs.Traffic.{traffic, turns_on, copied}
-use Rattle.xmp_move.specs.Sides.{padded, owns_cell, holds_cell, position}
+use Rattle.xmp_move.specs.Sides.{owns_cell, holds_cell, position}
 use Rattle.xmp_move.specs.Stores.{word_at}
 use Rattle.xmp_nodes.specs.Nodes.{bounded}
 use Rattle.xmp_nodes.specs.Worlds.{World}

@@ -14,7 +14,7 @@ use Rattle.xmp_meaning.specs.LoopEnds.{ending}
 use Rattle.xmp_meaning.specs.TaskEnds.{leader, own_tasks, own_end, first_end, texts}
 use Rattle.xmp_meaning.specs.Messages.{message}
 use Rattle.xmp_meaning.specs.Traffic.{node_beginning}
-use Rattle.xmp_nodes.specs.Nodes.{Nodes, each_does, with_steps, say}
+use Rattle.xmp_nodes.specs.Nodes.{Nodes, each_does, say}
 
 -- A task: its nodes, what a node does that runs it, and the place of its word.
 pub record TaskOf : Type 0 where

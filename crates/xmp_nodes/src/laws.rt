@@ -16,9 +16,9 @@ ghost use Rattle.xmp_nodes.specs.Worlds.{World, world_after};
 ghost use Rattle.xmp_nodes.specs.Stands.{StandsFor};
 ghost use Rattle.xmp_nodes.specs.Answers.{answer_of};
 
-/// What all nodes come to in step stands for the program: of every program whose parts fit and in which no rule of
-/// staleness breaks, on every input and with any number of steps, the end, the output, the stores and the counts are the
-/// program's.
+/// What all nodes come to in step stands for the program: of every program whose parts fit and in which none of the rules
+/// on copies and directives breaks, on every input and with any number of steps, the end, the output, the stores and the
+/// counts are the program's.
 pub fn nodes_carry_out()
     ensures { (p : ProgParts) (input : List ℕ) (steps : ℕ) → PartsFit p → p.kind ≡ Global → HasAxes p
         → IsFirst (FlowBreaks p) None → StandsFor p input steps (world_after (nodes_end p input steps)) }
