@@ -7,3 +7,5 @@ mod AskingLaws
 mod BetweenLaws
 mod ImageLaws
 mod GatheredLaws
+mod RaceLaws
+mod CourseLaws

@@ -12,3 +12,6 @@ pub mod Sets
 pub mod Images
 pub mod Variables
 pub mod Footprints
+pub mod PlanRaces
+pub mod Courses
+pub mod Summaries

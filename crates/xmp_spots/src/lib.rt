@@ -8,19 +8,24 @@
 mod accesses;
 mod asking;
 mod entering;
+mod events;
 mod expressions;
 mod images;
 mod keys;
 mod laws;
 mod nearest;
 mod order;
+mod summary;
 mod table;
 mod touches;
+mod verdict;
 
 pub use accesses::Accesses;
+pub use events::{Course, Event};
 pub use expressions::image_values;
-pub use laws::{meetings, spots_as_one};
+pub use laws::{meetings, races, spots_as_one};
 pub use touches::{By, Spot, Subscripts, Touch};
+pub use verdict::judge;
 
 #[cfg(test)]
 mod tests;
