@@ -9,3 +9,7 @@ mod ImageLaws
 mod GatheredLaws
 mod RaceLaws
 mod CourseLaws
+mod SummaryLaws
+mod DeclareLaws
+mod WriteLaws
+mod PlaceLaws

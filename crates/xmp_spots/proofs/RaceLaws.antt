@@ -47,17 +47,17 @@ races_forth (emit e) r h = record { one = h.0; other = h.0; meet = (h.1, h.1); c
 races_forth (sequence p q) r h =
     ⊎_elim
     (λ k. ⊎_elim
-        (λ l. let m = races_forth p r l in record { one = m.one; other = m.other; meet = inl (inl m.meet); clashes = m.clashes; at = m.at })
-        (λ l. let m = races_forth q r l in record { one = m.one; other = m.other; meet = inl (inr m.meet); clashes = m.clashes; at = m.at })
-        k)
+    (λ l. let m = races_forth p r l in record { one = m.one; other = m.other; meet = inl (inl m.meet); clashes = m.clashes; at = m.at })
+    (λ l. let m = races_forth q r l in record { one = m.one; other = m.other; meet = inl (inr m.meet); clashes = m.clashes; at = m.at })
+    k)
     (λ k. across_forth (IsLate p) (IsEarly q) (sequence p q) r (λ a b m. inr m) k)
     h
 races_forth (branch p q) r h =
     ⊎_elim
     (λ k. ⊎_elim
-        (λ l. let m = races_forth p r l in record { one = m.one; other = m.other; meet = inl (inl m.meet); clashes = m.clashes; at = m.at })
-        (λ l. let m = races_forth q r l in record { one = m.one; other = m.other; meet = inl (inr m.meet); clashes = m.clashes; at = m.at })
-        k)
+    (λ l. let m = races_forth p r l in record { one = m.one; other = m.other; meet = inl (inl m.meet); clashes = m.clashes; at = m.at })
+    (λ l. let m = races_forth q r l in record { one = m.one; other = m.other; meet = inl (inr m.meet); clashes = m.clashes; at = m.at })
+    k)
     (λ k. across_forth (IsEarly p) (IsEarly q) (branch p q) r (λ a b m. inr m) k)
     h
 races_forth (loop p) r h =

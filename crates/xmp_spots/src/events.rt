@@ -14,10 +14,7 @@ use xmp_base::Place;
 pub enum Event {
     Touches(Touch),
     Sync,
-    Wrong {
-        rule: u16,
-        at: Place,
-    },
+    Wrong { rule: u16, at: Place },
 }
 
 /// Events in order, with branches and loops.

@@ -6,7 +6,7 @@ ghost use Rattle.xmp_paths.specs.Plans.{Plan};
 ghost use Rattle.xmp_spots.specs.declared.touches.Touch.{Touch};
 ghost use Rattle.xmp_spots.specs.declared.touches.Spot.{Spot};
 ghost use Rattle.xmp_spots.specs.Clashes.{spots_clash};
-ghost use Rattle.xmp_spots.specs.Footprints.{gathered};
+ghost use Rattle.xmp_spots.specs.Gathered.{gathered};
 ghost use Rattle.xmp_spots.specs.declared.events.Event.{Event};
 ghost use Rattle.xmp_spots.specs.Meetings.{Reached, MayMeet};
 ghost use Rattle.xmp_spots.specs.Joins.{IsEarly, Meet};

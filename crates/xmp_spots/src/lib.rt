@@ -10,6 +10,7 @@ mod asking;
 mod entering;
 mod events;
 mod expressions;
+mod gathering;
 mod images;
 mod keys;
 mod laws;
@@ -18,13 +19,17 @@ mod order;
 mod summary;
 mod table;
 mod touches;
+mod variables;
 mod verdict;
+mod writes;
 
 pub use accesses::Accesses;
 pub use events::{Course, Event};
 pub use expressions::image_values;
+pub use gathering::add_spot;
 pub use laws::{meetings, races, spots_as_one};
 pub use touches::{By, Spot, Subscripts, Touch};
+pub use variables::{Variables, image_variables, in_type};
 pub use verdict::judge;
 
 #[cfg(test)]

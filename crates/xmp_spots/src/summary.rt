@@ -1,7 +1,7 @@
 // What the accesses of a part of a course may meet outside it, and the first rule that breaks within it.
-ghost use Rattle.std.specs.Prelude.{◌≡◌, ◌↔◌, ◌⊎◌, ◌&&◌, ◌||◌, [], Contains, OnOk, IfOk, IsTrue, true, false};
+ghost use Rattle.std.specs.Prelude.{◌≡◌, ◌↔◌, ◌⊎◌, ◌&&◌, ◌||◌, [], Option, Contains, OnOk, IfOk, IsTrue, true, false};
 ghost use Rattle.xmp_base.specs.declared.refusal.Refusal.{Refusal};
-ghost use Rattle.xmp_base.specs.First.{IsFirst};
+ghost use Rattle.xmp_base.specs.First.{IsFirst, first_of};
 ghost use Rattle.xmp_paths.specs.Plans.{Plan, skip, emit, sequence, branch, loop};
 ghost use Rattle.xmp_spots.specs.declared.touches.Touch.{Touch};
 ghost use Rattle.xmp_spots.specs.declared.events.Event.{Event};
@@ -26,6 +26,13 @@ pub(crate) struct Summary {
     pub(crate) early: Accesses,
     pub(crate) late: Accesses,
     pub(crate) found: Option<Refusal>,
+}
+
+// Whether one of two tests holds.
+fn either(one: bool, other: bool) -> bool
+    ensures { result ≡ (one || other) }
+{
+    one || other
 }
 
 // Adds the accesses of a set to another, where a test holds.
@@ -122,6 +129,13 @@ impl Summary {
         self.quiet && self.early.touches().is_empty()
     }
 
+    // Whether no phase ends in either of two parts.
+    fn is_quiet_with(&self, next: &Summary) -> bool
+        ensures { result ≡ (self.now.quiet && next.now.quiet) }
+    {
+        self.quiet && next.quiet
+    }
+
     // The early accesses.
     fn into_early(self) -> Accesses
         ensures { result ≡ self.early }
@@ -144,7 +158,12 @@ impl Summary {
     }
 
     // The accesses of a part in which no phase ends, before or behind another such part, or in another branch.
-    fn gather(&mut self, alloc: Global, next: Summary, found: Option<Refusal>) -> Result<(), NoMemory>
+    fn gather(
+        &mut self,
+        alloc: Global,
+        next: Summary,
+        found: Option<Refusal>,
+    ) -> Result<(), NoMemory>
         ensures early { OnOk result ((t : Touch) → Contains self.new.early t ↔ (Contains self.old.early t ⊎ Contains next.early t)) }
         ensures rest { OnOk result ((self.new.quiet ≡ self.old.quiet) × (self.new.passes ≡ self.old.passes)
             × (self.new.turned ≡ false) × (self.new.found ≡ found)) }
@@ -155,7 +174,12 @@ impl Summary {
     }
 
     // The accesses of a part that follows.
-    fn append(&mut self, alloc: Global, next: Summary, found: Option<Refusal>) -> Result<(), NoMemory>
+    fn append(
+        &mut self,
+        alloc: Global,
+        next: Summary,
+        found: Option<Refusal>,
+    ) -> Result<(), NoMemory>
         ensures early { OnOk result ((t : Touch) → Contains self.new.early t
             ↔ (Contains self.old.early t ⊎ ((self.old.passes ≡ true) × Contains next.early t))) }
         ensures late { OnOk result ((t : Touch) → Contains self.new.late t
@@ -165,7 +189,9 @@ impl Summary {
     {
         let passes = next.passes;
         let Summary {
-            early, mut late, ..
+            early,
+            mut late,
+            ..
         } = next;
         std::mem::swap(&mut self.late, &mut late);
         match absorb_where(alloc, &mut self.early, self.passes, early) {
@@ -182,7 +208,12 @@ impl Summary {
     }
 
     // The accesses of another branch.
-    fn unite(&mut self, alloc: Global, next: Summary, found: Option<Refusal>) -> Result<(), NoMemory>
+    fn unite(
+        &mut self,
+        alloc: Global,
+        next: Summary,
+        found: Option<Refusal>,
+    ) -> Result<(), NoMemory>
         ensures early { OnOk result ((t : Touch) → Contains self.new.early t ↔ (Contains self.old.early t ⊎ Contains next.early t)) }
         ensures late { OnOk result ((t : Touch) → Contains self.new.late t
             ↔ ((Contains self.old.late t ⊎ Contains next.late t)
@@ -190,7 +221,8 @@ impl Summary {
         ensures rest { OnOk result ((self.new.quiet ≡ self.old.quiet) × (self.new.passes ≡ (self.old.passes || next.passes))
             × (self.new.turned ≡ false) × (self.new.found ≡ found)) }
     {
-        self.passes = self.passes || next.passes;
+        let passes = either(self.passes, next.passes);
+        self.passes = passes;
         self.turned = false;
         self.found = found;
         let Summary { early, late, .. } = next;
@@ -202,7 +234,7 @@ impl Summary {
             }
         }
         self.late.absorb(alloc, late)?;
-        if self.passes {
+        if passes {
             self.repeat_early(alloc)?;
         }
         Ok(())
@@ -220,8 +252,8 @@ impl Summary {
 
     // The first rule that breaks in two parts, or between accesses of the first and early ones of the second.
     fn found_with(&self, ours: &Accesses, next: &Summary) -> Option<Refusal>
-        ensures { (P Q : Refusal → Type 0) → IsFirst P self.now.found → IsFirst Q next.now.found
-            → IsFirst (λ r. (P r ⊎ Q r) ⊎ ClashBetween ours.now next.now.early r) result }
+        ensures { (across : Option Refusal) × IsFirst (ClashBetween ours.now next.now.early) across
+            × (result ≡ first_of (first_of self.now.found next.now.found) across) }
     {
         let both = earlier(self.found, next.found);
         earlier(both, ours.between(&next.early))
@@ -238,18 +270,24 @@ impl Summary {
             return Ok(());
         }
         if self.is_blank() {
-            *self = next;
+            std::mem::swap(self, &mut next);
             self.found = found;
+            std::mem::drop(next);
             return Ok(());
         }
-        if self.quiet && next.quiet {
+        if self.is_quiet_with(&next) {
             return self.gather(alloc, next, found);
         }
         self.follow_apart(alloc, next, found)
     }
 
     // Another part follows, and a phase ends in one of them.
-    fn follow_apart(&mut self, alloc: Global, mut next: Summary, found: Option<Refusal>) -> Result<(), NoMemory>
+    fn follow_apart(
+        &mut self,
+        alloc: Global,
+        mut next: Summary,
+        found: Option<Refusal>,
+    ) -> Result<(), NoMemory>
         ensures { OnOk result ((p q : Plan Event) → Sums p self.old → Sums q next → IsFirst (BreaksWithin (sequence p q)) found
             → Sums (sequence p q) self.new) }
     {
@@ -267,7 +305,7 @@ impl Summary {
         ensures { OnOk result ((p q : Plan Event) → Sums p self.old → Sums q next → Sums (branch p q) self.new) }
     {
         let found = self.found_with(&self.early, &next);
-        if self.quiet && next.quiet {
+        if self.is_quiet_with(&next) {
             return self.gather(alloc, next, found);
         }
         match keep_both(alloc, self, &mut next) {
@@ -283,7 +321,7 @@ impl Summary {
     pub(crate) fn turn(&mut self, alloc: Global) -> Result<(), NoMemory>
         ensures { OnOk result ((p : Plan Event) → Sums p self.old → Sums (loop p) self.new) }
     {
-        if self.quiet || self.turned {
+        if either(self.quiet, self.turned) {
             self.passes = true;
             return Ok(());
         }

@@ -1,7 +1,8 @@
 // The first rule that breaks on the paths through a course.
 ghost use Rattle.std.specs.Prelude.{◌≡◌, map, IfOk};
 ghost use Rattle.xmp_base.specs.First.{IsFirst};
-ghost use Rattle.xmp_paths.specs.Plans.{emit, branch, loop};
+ghost use Rattle.xmp_paths.specs.Plans.{Plan, emit, branch, loop};
+ghost use Rattle.xmp_spots.specs.declared.events.Event.{Event};
 ghost use Rattle.xmp_spots.specs.Courses.{in_sequence, plan_of};
 ghost use Rattle.xmp_spots.specs.PlanRaces.{BreaksIn};
 ghost use Rattle.xmp_spots.specs.Summaries.{Sums};
@@ -22,6 +23,32 @@ fn of_event(alloc: Global, event: &Event) -> Result<Summary, NoMemory>
     }
 }
 
+// The summary of two branches.
+fn either(alloc: Global, mut one: Summary, other: Summary) -> Result<Summary, NoMemory>
+    ensures { IfOk result (λ s. (p q : Plan Event) → Sums p one → Sums q other → Sums (branch p q) s) }
+{
+    match one.or(alloc, other) {
+        Ok(()) => Ok(one),
+        Err(e) => {
+            std::mem::drop(one);
+            Err(e)
+        }
+    }
+}
+
+// That of a loop.
+fn turns(alloc: Global, mut body: Summary) -> Result<Summary, NoMemory>
+    ensures { IfOk result (λ s. (p : Plan Event) → Sums p body → Sums (loop p) s) }
+{
+    match body.turn(alloc) {
+        Ok(()) => Ok(body),
+        Err(e) => {
+            std::mem::drop(body);
+            Err(e)
+        }
+    }
+}
+
 // The summary of a course.
 #[cycle(summary)]
 fn summary_of(alloc: Global, course: &Course) -> Result<Summary, NoMemory>
@@ -30,8 +57,17 @@ fn summary_of(alloc: Global, course: &Course) -> Result<Summary, NoMemory>
     match course {
         Course::Emit(event) => of_event(alloc, event),
         Course::Sequence(parts) => summary_of_all(alloc, parts.as_slice()),
-        Course::Branch(left, right) => summary_of_branch(alloc, left.get(), right.get()),
-        Course::Loop(body) => summary_of_loop(alloc, body.get()),
+        Course::Branch(left, right) => {
+            let one = summary_of(alloc, left.get())?;
+            match summary_of(alloc, right.get()) {
+                Ok(other) => either(alloc, one, other),
+                Err(e) => {
+                    std::mem::drop(one);
+                    Err(e)
+                }
+            }
+        }
+        Course::Loop(body) => turns(alloc, summary_of(alloc, body.get())?),
     }
 }
 
@@ -42,38 +78,22 @@ fn summary_of_all(alloc: Global, parts: &[Course]) -> Result<Summary, NoMemory>
 {
     let mut all = Summary::nothing(alloc);
     'parts: for part in parts {
-        let next = summary_of(alloc, part)?;
-        all.follow(alloc, next)?;
+        let next = match summary_of(alloc, part) {
+            Ok(next) => next,
+            Err(e) => {
+                std::mem::drop(all);
+                return Err(e);
+            }
+        };
+        match all.follow(alloc, next) {
+            Ok(()) => {}
+            Err(e) => {
+                std::mem::drop(all);
+                return Err(e);
+            }
+        }
     }
     Ok(all)
-}
-
-// That of two branches.
-#[cycle(summary)]
-fn summary_of_branch(alloc: Global, left: &Course, right: &Course) -> Result<Summary, NoMemory>
-    ensures { IfOk result (λ s. Sums (branch (plan_of left.now) (plan_of right.now)) s) }
-{
-    let other = summary_of(alloc, right)?;
-    match summary_of(alloc, left) {
-        Ok(mut one) => {
-            one.or(alloc, other)?;
-            Ok(one)
-        }
-        Err(e) => {
-            std::mem::drop(other);
-            Err(e)
-        }
-    }
-}
-
-// That of a loop.
-#[cycle(summary)]
-fn summary_of_loop(alloc: Global, body: &Course) -> Result<Summary, NoMemory>
-    ensures { IfOk result (λ s. Sums (loop (plan_of body.now)) s) }
-{
-    let mut turns = summary_of(alloc, body)?;
-    turns.turn(alloc)?;
-    Ok(turns)
 }
 
 /// The first rule that breaks on the paths through a course, or none: rule 2 at an access that clashes with another

@@ -1,37 +1,22 @@
 -- What an access touches: on which images, and which cells there. Source: this project, after XcalableMP 1.4, coarrays.
-use Rattle.std.specs.Prelude.{ℕ, zero, suc, ◌==◌, Bool, true, false, not, ◌&&◌, ◌||◌, if◌then◌else◌, List, [], ◌∷◌, ◌++◌, map, filter, fold, ℤ, pos, ◌-ℤ◌, ◌+ℤ◌, int_lt, int_le, int_rem, Option, Some, None, unwrap_or, slice_get}
+use Rattle.std.specs.Prelude.{ℕ, ◌+◌, ◌-◌, ◌%◌, ◌==◌, Bool, true, false, not, ◌&&◌, ◌||◌, if◌then◌else◌, List, [], ◌∷◌, map, filter, ℤ, pos, ◌-ℤ◌, int_lt, int_le, int_rem, nat_lt, Option, Some, None, unwrap_or, slice_get}
 use Rattle.std.specs.List.{flat_map, list_any, range_with_len}
 use Rattle.std.specs.Ordering.{int_eq}
-use Rattle.std.specs.Option.{option_map}
-use Rattle.xmp_base.specs.declared.place.Place.{Place}
 use Rattle.xmp_num.specs.declared.types.Ty.TheVariants.{Int}
 use Rattle.xmp_num.specs.Arithmetic.{wrap}
 use Rattle.xmp_prog.specs.declared.expressions.Expr.{Expr}
 use Rattle.xmp_prog.specs.declared.expressions.Expr.TheVariants as expr
 use Rattle.xmp_prog.specs.declared.statements.LoopHead.{LoopHead}
-use Rattle.xmp_meaning.specs.Expressions.{is_zero}
+use Rattle.xmp_meaning.specs.Expressions.{is_zero, natural}
 use Rattle.xmp_meaning.specs.Loops.{is_inside}
-use Rattle.xmp_spots.specs.declared.touches.By.{By}
-use Rattle.xmp_spots.specs.declared.touches.By.TheVariants.{One, Several}
+use Rattle.xmp_spots.specs.declared.touches.By.TheVariants.{One}
 use Rattle.xmp_spots.specs.declared.touches.Subscripts.{Subscripts}
 use Rattle.xmp_spots.specs.declared.touches.Spot.{Spot}
+use Rattle.xmp_spots.specs.Gathered.{gathered}
 use Rattle.xmp_spots.specs.Images.{Values, image_values}
+use Rattle.xmp_races.specs.declared.setting.LoopImages.{LoopImages}
 
--- ---- where an access stands
-
--- a counted loop whose bounds are image expressions: its index, and on each image the first value and the bound
-pub record LoopImages : Type 0 where
-  pub index : ℕ
-  pub from : List ℤ
-  pub to : List ℤ
-  pub inclusive : Bool
-  pub step : ℕ
-
--- the images that come to an access, as the conditions of `if` and `?:` round it choose, and the counted loops round it
--- whose bounds are image expressions, the innermost first
-pub record Around : Type 0 where
-  pub counts : List Bool
-  pub loops : List LoopImages
+-- ---- where an access stands, and for which images
 
 -- whether an image comes there
 abbrev pub comes : List Bool → ℕ → Bool
@@ -43,13 +28,6 @@ those_of counts None holding = counts
 those_of [] (Some vs) holding = []
 those_of (c ∷ cs) (Some []) holding = c ∷ cs
 those_of (c ∷ cs) (Some (v ∷ vs)) holding = (c && (if is_zero v then not holding else holding)) ∷ those_of cs (Some vs) holding
-
--- where the first part of an `if` or `?:` stands, and where the second
-abbrev pub where_holds : Around → Option (List ℤ) → Around
-where_holds around test = record around { counts = those_of around.counts test true }
-
-abbrev pub where_fails : Around → Option (List ℤ) → Around
-where_fails around test = record around { counts = those_of around.counts test false }
 
 -- the loops round the body of a counted loop
 abbrev pub loops_in : List LoopImages → LoopHead → Option (List ℤ) → Option (List ℤ) → List LoopImages
@@ -91,16 +69,57 @@ abbrev pub whose_given : List LoopImages → Expr → Option (List ℤ) → Whos
 whose_given loops e (Some vs) = Given vs
 whose_given loops e None = whose_scalar loops e
 
-abbrev pub whose : (count : ℕ) → Values → Around → Option Expr → Whose
-whose count values around None = Own
-whose count values around (Some e) = whose_given around.loops e (image_values count values e)
+abbrev pub whose : (count : ℕ) → Values → List LoopImages → Option Expr → Whose
+whose count values loops None = Own
+whose count values loops (Some e) = whose_given loops e (image_values count values e)
 
--- whether a number is a value of the index on an image: the first value, or so many steps behind it, inside the bound
+-- the first value of the index on an image, and its bound
+abbrev pub first_on : LoopImages → (image : ℕ) → ℤ
+first_on l image = unwrap_or (slice_get l.from image) (pos 0)
+
+abbrev pub bound_on : LoopImages → (image : ℕ) → ℤ
+bound_on l image = unwrap_or (slice_get l.to image) (pos 0)
+
+-- Whether a number is a value of the index on an image: the first value, or so many steps behind it, inside the bound. A
+-- step is never 0.
 abbrev pub is_turn : LoopImages → (image : ℕ) → ℤ → Bool
 is_turn l image v =
-    let from = unwrap_or (slice_get l.from image) (pos 0) in
-    let to = unwrap_or (slice_get l.to image) (pos 0) in
-    int_le from v && (is_inside l.inclusive v to && int_eq (int_rem (v -ℤ from) (pos l.step)) (pos 0))
+    nat_lt 0 l.step
+    && (int_le (first_on l image) v
+    && (is_inside l.inclusive v (bound_on l image) && int_eq (int_rem (v -ℤ first_on l image) (pos l.step)) (pos 0)))
+
+-- whether an image's number is one of so many
+abbrev pub is_image : (count : ℕ) → ℤ → Bool
+is_image count v = int_le (pos 0) v && int_lt v (pos count)
+
+-- from an image's number, the first at so many steps that is none: above the number of images by what is left of a step
+abbrev pub beyond : (count : ℕ) → ℤ → (step : ℕ) → ℤ
+beyond count from step =
+    let rest = (count - natural from) % step in pos (if rest == 0 then count else count + (step - rest))
+
+-- whether the index has a value on an image that is no image's number: it has its first value, and that is none, or it
+-- comes to one
+abbrev pub leaves : (count : ℕ) → LoopImages → (image : ℕ) → Bool
+leaves count l image =
+    nat_lt 0 l.step
+    && (is_inside l.inclusive (first_on l image) (bound_on l image)
+    && (not (is_image count (first_on l image)) || is_inside l.inclusive (beyond count (first_on l image) l.step) (bound_on l image)))
+
+-- whether an access means an image that there isn't, on an image that comes to it; or none that can be told
+abbrev pub misses : (count : ℕ) → Whose → (image : ℕ) → Bool
+misses count Own image = false
+misses count (Given vs) image = not (is_image count (unwrap_or (slice_get vs image) (pos 0)))
+misses count (Turning l) image = leaves count l image
+misses count Unknown image = false
+
+abbrev pub is_unknown : Whose → Bool
+is_unknown Own = false
+is_unknown (Given vs) = false
+is_unknown (Turning l) = false
+is_unknown Unknown = true
+
+abbrev pub is_elsewhere : (count : ℕ) → (counts : List Bool) → Whose → Bool
+is_elsewhere count counts w = is_unknown w || list_any (misses count w) (filter (comes counts) (range_with_len 0 count))
 
 -- the images whose cells are meant on an image. Of a loop image only values that are images are meant.
 abbrev pub meant : (count : ℕ) → Whose → (image : ℕ) → List ℤ
@@ -112,11 +131,12 @@ meant count Unknown image = []
 -- ---- spots
 
 -- the subscript of a dimension on an image, where it is a number
+abbrev pub number_on : Option (List ℤ) → (image : ℕ) → Option ℤ
+number_on None image = None
+number_on (Some vs) image = slice_get vs image
+
 abbrev pub subscript_on : List (Option (List ℤ)) → (dimension image : ℕ) → Option ℤ
-subscript_on [] dimension image = None
-subscript_on (None ∷ rest) zero image = None
-subscript_on (Some vs ∷ rest) zero image = slice_get vs image
-subscript_on (s ∷ rest) (suc n) image = subscript_on rest n image
+subscript_on subscripts dimension image = number_on (unwrap_or (slice_get subscripts dimension) None) image
 
 abbrev pub subscripts_on : List (Option (List ℤ)) → (image : ℕ) → Subscripts
 subscripts_on subscripts image = record {
@@ -130,36 +150,7 @@ abbrev pub spots_on : (count : ℕ) → Whose → List (Option (List ℤ)) → (
 spots_on count w subscripts image =
     map (λ k. record { by = One image; on = k; subscripts = subscripts_on subscripts image }) (meant count w image)
 
-abbrev pub same_number : Option ℤ → Option ℤ → Bool
-same_number None None = true
-same_number None (Some y) = false
-same_number (Some x) None = false
-same_number (Some x) (Some y) = int_eq x y
-
--- whether two spots are of the same cells
-abbrev pub same_cells : Spot → Spot → Bool
-same_cells s t =
-    int_eq s.on t.on
-    && (same_number s.subscripts.first t.subscripts.first
-    && (same_number s.subscripts.second t.subscripts.second && same_number s.subscripts.third t.subscripts.third))
-
--- the images of both
-abbrev pub both_by : By → By → By
-both_by (One a) (One b) = if a == b then One a else Several
-both_by (One a) Several = Several
-both_by Several b = Several
-
--- one spot more: where there is one of the same cells, the images of both touch that
-abbrev pub with_spot : List Spot → Spot → List Spot
-with_spot [] s = s ∷ []
-with_spot (t ∷ spots) s =
-    if same_cells t s then record t { by = both_by t.by s.by } ∷ spots else t ∷ with_spot spots s
-
--- the spots, those of the same cells as one
-abbrev pub gathered : List Spot → List Spot
-gathered spots = fold with_spot [] spots
-
 -- the spots of an access, each once, of the images that come to it
-abbrev pub spots : (count : ℕ) → Around → Whose → List (Option (List ℤ)) → List Spot
-spots count around w subscripts =
-    gathered (flat_map (spots_on count w subscripts) (filter (comes around.counts) (range_with_len 0 count)))
+abbrev pub spots : (count : ℕ) → (counts : List Bool) → Whose → List (Option (List ℤ)) → List Spot
+spots count counts w subscripts =
+    gathered (flat_map (spots_on count w subscripts) (filter (comes counts) (range_with_len 0 count)))

@@ -1,0 +1,61 @@
+// The images that come to an expression or a statement.
+ghost use Rattle.std.specs.Prelude.{◌≡◌, if◌then◌else◌, not, Some, IfOk};
+ghost use Rattle.xmp_meaning.specs.Expressions.{is_zero};
+ghost use Rattle.xmp_races.specs.Footprints.{comes, those_of};
+
+use sqlite_items::{Items, at};
+use std::alloc::{AllocError, Global};
+use xmp_base::Words;
+
+/// Whether an image comes there.
+pub fn comes(counts: &[bool], image: u32) -> bool
+    ensures { result ≡ comes counts.now image }
+{
+    match counts.get(image as usize) {
+        Some(on) => *on,
+        None => false,
+    }
+}
+
+// Whether an image goes on where a condition holds, or where it fails, by the condition's value.
+fn goes_on(value: i64, holding: bool) -> bool
+    ensures { result ≡ (if is_zero value then not holding else holding) }
+{
+    (value == 0) != holding
+}
+
+// Those that go on, by the condition's values.
+fn chosen(
+    alloc: Global,
+    counts: &[bool],
+    values: &[i64],
+    holding: bool,
+) -> Result<Items<bool>, AllocError>
+    ensures { IfOk result (λ found. found ≡ those_of counts.now (Some values.now) holding) }
+{
+    let mut found = Items::new(alloc);
+    'counts: for (k, on) in counts.iter().enumerate() {
+        let on = match at(values, k) {
+            Some(value) => *on && goes_on(*value, holding),
+            None => *on,
+        };
+        found.push(on)?;
+    }
+    Ok(found)
+}
+
+/// Of the images that come to a condition, those that go on where it holds, or where it fails: all, where it is no image
+/// expression.
+pub fn those_of(
+    alloc: Global,
+    counts: &[bool],
+    test: &Option<Words>,
+    holding: bool,
+) -> Result<Items<bool>, AllocError>
+    ensures { IfOk result (λ found. found ≡ those_of counts.now test.now holding) }
+{
+    match test {
+        Some(values) => chosen(alloc, counts, values.as_slice(), holding),
+        None => Items::from_slice(alloc, counts),
+    }
+}
