@@ -93,9 +93,11 @@ abbrev pub is_image : (count : ℕ) → ℤ → Bool
 is_image count v = int_le (pos 0) v && int_lt v (pos count)
 
 -- from an image's number, the first at so many steps that is none: above the number of images by what is left of a step
+abbrev pub left_of_step : (distance step : ℕ) → ℕ
+left_of_step distance step = if distance % step == 0 then 0 else step - distance % step
+
 abbrev pub beyond : (count : ℕ) → ℤ → (step : ℕ) → ℤ
-beyond count from step =
-    let rest = (count - natural from) % step in pos (if rest == 0 then count else count + (step - rest))
+beyond count from step = pos (count + left_of_step (count - natural from) step)
 
 -- whether the index has a value on an image that is no image's number: it has its first value, and that is none, or it
 -- comes to one

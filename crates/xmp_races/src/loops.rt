@@ -1,11 +1,12 @@
 // The counted loops round an access whose bounds are image expressions.
-ghost use Rattle.std.specs.Prelude.{◌≡◌, ◌&&◌, ◌++◌, pos, nat_lt, int_rem, true, map, OnOk, IfOk};
+ghost use Rattle.std.specs.Prelude.{◌≡◌, ◌≤◌, ◌&&◌, ◌++◌, pos, nat_lt, int_rem, true, map, OnOk, IfOk};
 ghost use Rattle.std.specs.Option.{option_copied};
 ghost use Rattle.std.specs.Ordering.{int_eq};
 ghost use Rattle.xmp_num.specs.declared.types.Ty.TheVariants.{Int};
 ghost use Rattle.xmp_num.specs.Arithmetic.{wrap};
+ghost use Rattle.xmp_meaning.specs.Expressions.{natural};
 ghost use Rattle.xmp_meaning.specs.Loops.{is_inside};
-ghost use Rattle.xmp_races.specs.Footprints.{beyond, bound_on, first_on, is_image, is_turn, leaves, loop_of, loops_in};
+ghost use Rattle.xmp_races.specs.Footprints.{beyond, bound_on, first_on, is_image, is_turn, leaves, left_of_step, loop_of, loops_in};
 
 use crate::setting::LoopImages;
 use sqlite_items::Items;
@@ -13,8 +14,8 @@ use std::alloc::{AllocError, Global};
 use xmp_base::{NoMemory, Words};
 use xmp_prog::LoopHead;
 
-// A value of the type int.
-fn int(value: i64) -> i32
+/// A value of the type int.
+pub fn int(value: i64) -> i32
     ensures { result ≡ wrap Int value }
 {
     (value.rem_euclid(1 << 32) as u32).cast_signed()
@@ -118,19 +119,34 @@ pub fn is_image(count: u32, value: i64) -> bool
     0 <= value && value < i64::from(count)
 }
 
+/// A number, and 0 for one below it.
+pub fn natural(value: i64) -> u64
+    ensures { result ≡ natural value }
+{
+    if value < 0 { 0 } else { value as u64 }
+}
+
 // From an image's number, the first at so many steps that is none.
 fn beyond(count: u32, from: i64, step: u32) -> i64
     requires image { is_image count from ≡ true }
     requires step { nat_lt 0 step ≡ true }
     ensures { result ≡ beyond count from step }
 {
-    let count = i64::from(count);
-    let step = i64::from(step);
-    let rest = (count - from) % step;
+    let rest = left_of_step(u64::from(count) - natural(from), step);
+    (u64::from(count) + rest) as i64
+}
+
+// What is left of a step after a distance.
+fn left_of_step(distance: u64, step: u32) -> u64
+    requires { nat_lt 0 step ≡ true }
+    ensures value { result ≡ left_of_step distance step }
+    ensures bound { result ≤ step }
+{
+    let rest = distance % u64::from(step);
     if rest == 0 {
-        count
+        0
     } else {
-        count + (step - rest)
+        u64::from(step) - rest
     }
 }
 
@@ -159,6 +175,15 @@ fn copies(
         all.push(copy)?;
     }
     Ok(())
+}
+
+/// The same loops.
+pub fn copies_of(alloc: Global, loops: &[LoopImages]) -> Result<Items<LoopImages>, AllocError>
+    ensures { IfOk result (λ all. all ≡ loops.now) }
+{
+    let mut all = Items::new(alloc);
+    copies(alloc, loops, &mut all)?;
+    Ok(all)
 }
 
 /// The loops round the body of a counted loop, from those round the loop and the values of its bounds.

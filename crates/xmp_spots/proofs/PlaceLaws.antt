@@ -29,7 +29,7 @@ found_at [] k s t h e same = absurd (false≢true (ap {A = Option Spot} is_some 
 found_at (x ∷ xs) zero s t h e same =
     let i : x ≡ t = ap {A = Option Spot} (the t) e in
     ap (λ (b : Bool). if b then record x { by = both_by x.by s.by } ∷ xs else x ∷ with_spot xs s) (ap (λ y. same_cells y s) i ∙ same)
-    ∙ ap (λ y. record y { by = both_by y.by s.by } ∷ xs) i
+    ∙ ap {A = Spot} (λ y. record y { by = both_by y.by s.by } ∷ xs) i
 found_at (x ∷ xs) (suc k) s t h e same =
     let both = and_parts (not (same_cells x s)) (apart s (take k xs)) h in
     ap (λ (b : Bool). if b then record x { by = both_by x.by s.by } ∷ xs else x ∷ with_spot xs s) (not_true (same_cells x s) both.0)

@@ -4,8 +4,8 @@ ghost use Rattle.xmp_num.specs.Arithmetic.{binary_of, wrap};
 ghost use Rattle.xmp_meaning.specs.Expressions.{as_truth};
 ghost use Rattle.xmp_spots.specs.Images.{row_of, is_variable, is_built, given, joined, converted, chosen, value_on, image_values};
 
-use std::alloc::Global;
 use crate::variables::Variables;
+use std::alloc::Global;
 use xmp_base::{NoMemory, Words};
 use xmp_num::{BinOp, Ty, binary, convert};
 use xmp_prog::Expr;

@@ -1,0 +1,6 @@
+mod SpotLaws
+mod ExprLaws
+mod StmtLaws
+mod StopLaws
+mod GuardLaws
+mod NestLaws
