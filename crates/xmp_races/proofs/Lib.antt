@@ -4,3 +4,4 @@ mod StmtLaws
 mod StopLaws
 mod GuardLaws
 mod NestLaws
+mod RuleLaws

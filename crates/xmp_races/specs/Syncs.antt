@@ -1,6 +1,6 @@
 -- Rule C1 (this project): where `xmp_sync_all` may stand, and how many phases there may be.
-use Rattle.std.specs.Prelude.{ℕ, ◌≡◌, ◌+◌, ◌*◌, ◌^◌, ◌<◌, ◌⊎◌, ◌&&◌, ◌||◌, min, not, nat_lt, nat_le, Bool, true, false, if◌then◌else◌, List, [], ◌∷◌, ◌++◌, ℤ, Option, Some, None}
-use Rattle.std.specs.List.{concat, list_all}
+use Rattle.std.specs.Prelude.{ℕ, ◌≡◌, ◌+◌, ◌*◌, ◌⊎◌, ◌||◌, min, not, nat_le, Bool, true, false, if◌then◌else◌, List, [], ◌∷◌, ◌++◌, ℤ, Option, Some, None}
+use Rattle.std.specs.List.{list_all}
 use Rattle.std.specs.Ordering.{int_eq}
 use Rattle.xmp_base.specs.declared.place.Place.{Place}
 use Rattle.xmp_base.specs.declared.refusal.Phase.TheVariants.{Coarray}
@@ -90,6 +90,11 @@ abbrev pub BreaksAtStop : (before : ℕ) → List Stop → Refusal → Type 0
 BreaksAtStop before [] r = ⊥
 BreaksAtStop before (s ∷ stops) r =
     ((breaks_at before s ≡ true) × (stopped_at s ≡ r)) ⊎ BreaksAtStop (min (before + s.rounds.turns) most) stops r
+
+-- how many phases end up to the last of these syncs
+abbrev pub phases_after : (before : ℕ) → List Stop → ℕ
+phases_after before [] = before
+phases_after before (s ∷ stops) = phases_after (min (before + s.rounds.turns) most) stops
 
 abbrev pub outermost_rounds : Rounds
 outermost_rounds = record { placed = true; turns = 1 }

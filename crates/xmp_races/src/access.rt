@@ -11,7 +11,7 @@ ghost use Rattle.xmp_races.specs.Views.{setting_of, whose_of};
 use crate::rules::wrong_where;
 use crate::setting::Site;
 use crate::spots::{spots, values_of_each};
-use crate::whose::{Whose, is_elsewhere, whose};
+use crate::whose::{Whose, is_elsewhere, means};
 use sqlite_items::Items;
 use std::alloc::Global;
 use xmp_base::NoMemory;
@@ -62,7 +62,7 @@ pub fn access_events(
     if !is_coarray(s.program, a.array) {
         return Ok(());
     }
-    let w = whose(alloc, s, &a.image)?;
+    let w = means(alloc, s, &a.image)?;
     let touch = touch_of(alloc, s, writes, a, &w)?;
     let elsewhere = is_elsewhere(s.count, s.counts, &w);
     add_access(alloc, elsewhere, touch, parts)

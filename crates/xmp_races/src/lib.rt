@@ -6,6 +6,7 @@
 mod access;
 mod expressions;
 mod guards;
+mod laws;
 mod loops;
 mod plain;
 mod program;
@@ -16,4 +17,5 @@ mod statements;
 mod stops;
 mod whose;
 
+pub use laws::one_verdict;
 pub use program::check;

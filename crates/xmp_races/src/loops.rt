@@ -143,11 +143,7 @@ fn left_of_step(distance: u64, step: u32) -> u64
     ensures bound { result ≤ step }
 {
     let rest = distance % u64::from(step);
-    if rest == 0 {
-        0
-    } else {
-        u64::from(step) - rest
-    }
+    if rest == 0 { 0 } else { u64::from(step) - rest }
 }
 
 /// The innermost of these loops with an index.

@@ -1,11 +1,11 @@
 // The syncs of a program in order, and the first of them at which rule C1 breaks.
-ghost use Rattle.std.specs.Prelude.{◌≡◌, ◌++◌, ◌≤◌, ◌-ℤ◌, ◌+ℤ◌, pos, if◌then◌else◌, min, Some, map, OnOk, IfOk};
+ghost use Rattle.std.specs.Prelude.{◌≡◌, ◌++◌, ◌≤◌, ◌+◌, true, ◌-ℤ◌, ◌+ℤ◌, pos, if◌then◌else◌, min, Some, map, OnOk, IfOk};
 ghost use Rattle.xmp_base.specs.First.{IsFirst};
 ghost use Rattle.xmp_meaning.specs.Loops.{turn_count};
-ghost use Rattle.xmp_races.specs.Syncs.{BreaksAtStop, all_stops, in_loop, misplaced, most, one_value, outermost_rounds, plain_stops, stopped_at, stops_of, turns_between, turns_of};
+ghost use Rattle.xmp_races.specs.Syncs.{BreaksAtStop, all_stops, breaks_at, in_loop, misplaced, most, one_value, outermost_rounds, plain_stops, stopped_at, stops_of, turns_between, turns_of};
 
 use crate::loops::{int, natural};
-use sqlite_items::Items;
+use sqlite_items::{Items, at};
 use std::alloc::Global;
 use xmp_base::{NoMemory, Phase, Place, Refusal, Words, earlier};
 use xmp_prog::{LoopHead, Plain, Stmt, Task};
@@ -43,7 +43,7 @@ fn one_value(values: &Option<Words>) -> Option<i64>
 fn same_value(values: &[i64]) -> Option<i64>
     ensures { result ≡ one_value (Some values.now) }
 {
-    let first = match values.first() {
+    let first = match at(values, 0) {
         Some(first) => *first,
         None => return None,
     };
@@ -141,6 +141,7 @@ fn plain_stops(p: &Plain, r: Rounds, out: &mut Items<Stop>) -> Result<(), NoMemo
 
 // Adds the syncs of a statement, in order.
 #[cycle(stops)]
+#[tactic(auto, using(crate::proofs::StopLaws::stops_plain, crate::proofs::StopLaws::stops_block, crate::proofs::StopLaws::stops_if, crate::proofs::StopLaws::stops_while, crate::proofs::StopLaws::stops_counted, crate::proofs::StopLaws::stops_loop, crate::proofs::StopLaws::stops_tasks))]
 fn stops_of(
     alloc: Global,
     count: u32,
@@ -233,17 +234,40 @@ pub fn first_stop(
     Ok(first_of_stops(stops.as_slice()))
 }
 
+// How many phases end up to a sync, from those that end before it.
+fn phases_with(before: u64, s: Stop) -> u64
+    ensures { result ≡ min (before + s.rounds.turns) most }
+{
+    at_most(before.saturating_add(s.rounds.turns))
+}
+
+// Whether the rule breaks at a sync.
+fn breaks_at(before: u64, s: Stop) -> bool
+    ensures { result ≡ breaks_at before s }
+{
+    !s.rounds.placed || phases_with(before, s) >= MOST
+}
+
+// The refusal, where it does.
+fn found_at(before: u64, s: Stop) -> Option<Refusal>
+    ensures { IsFirst (λ r. (breaks_at before s ≡ true) × (stopped_at s ≡ r)) result }
+{
+    if breaks_at(before, s) {
+        Some(stopped_at(s))
+    } else {
+        None
+    }
+}
+
 // The first of these syncs at which it breaks.
 fn first_of_stops(stops: &[Stop]) -> Option<Refusal>
     ensures { IsFirst (BreaksAtStop 0 stops.now) result }
 {
-    let mut before = 0;
+    let mut before: u64 = 0;
     let mut found = None;
     'stops: for s in stops {
-        before = at_most(before.saturating_add(s.rounds.turns));
-        if !s.rounds.placed || before == MOST {
-            found = earlier(found, Some(stopped_at(*s)));
-        }
+        found = earlier(found, found_at(before, *s));
+        before = phases_with(before, *s);
     }
     found
 }

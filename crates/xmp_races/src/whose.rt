@@ -38,7 +38,7 @@ fn whose_scalar<'a>(loops: &'a [LoopImages], e: &Expr) -> Whose<'a>
 }
 
 /// Those that an access means by its image, where one is written.
-pub fn whose<'a>(
+pub fn means<'a>(
     alloc: Global,
     s: &Site<'a>,
     image: &Option<Boxed<Expr>>,
@@ -77,6 +77,7 @@ fn misses(count: u32, w: &Whose<'_>, image: u32) -> bool
 }
 
 // Whether one of the images that come there does.
+#[tactic(auto, using(crate::proofs::GuardLaws::any_next, crate::proofs::GuardLaws::any_end))]
 fn some_misses(count: u32, counts: &[bool], w: &Whose<'_>) -> bool
     ensures { result ≡ list_any (misses count (whose_of w.now)) (filter (comes counts.now) (range_with_len 0 count)) }
 {

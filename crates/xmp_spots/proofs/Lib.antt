@@ -13,3 +13,4 @@ mod SummaryLaws
 mod DeclareLaws
 mod WriteLaws
 mod PlaceLaws
+pub mod AnswerLaws

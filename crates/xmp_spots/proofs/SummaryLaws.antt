@@ -267,7 +267,7 @@ first_branch p q xs ys x y z w h k l a b e =
     x y z w h k l (between_is xs ys (IsEarly p) (IsEarly q) a b)
     (λ r. parts_alike (RacesIn p r) (RacesIn q r) (RacesAcross (IsEarly p) (IsEarly q) r) _ _ _) e
 
-first_turns : (p : Plan Event) (xs ys : List Touch) (x z w : Option Refusal) → IsFirst (BreaksWithin p) x → IsFirst (ClashBetween xs ys) z →
+pub first_turns : (p : Plan Event) (xs ys : List Touch) (x z w : Option Refusal) → IsFirst (BreaksWithin p) x → IsFirst (ClashBetween xs ys) z →
     ((t : Touch) → Contains xs t ↔ IsLate p t) → ((t : Touch) → Contains ys t ↔ IsEarly p t) → w ≡ first_of x z →
     IsFirst (BreaksWithin (loop p)) w
 first_turns p xs ys x z w h l a b e =
@@ -282,33 +282,40 @@ first_turns p xs ys x z w h l a b e =
 
 -- ---- one event
 
-pub sums_touch : (t : Touch) (z : Summary) (found : Option Refusal) → z.quiet ≡ true → z.passes ≡ true → z.turned ≡ false → z.early ≡ t ∷ [] →
-    z.found ≡ found → IsFirst (ClashesWith t (t ∷ [])) found → Sums (emit (Touches t)) z
-sums_touch t z found a b c e f h =
-    sums_quiet (emit (Touches t)) z refl a b c
-    (λ x. subst (λ l. Contains l x ↔ (Touches t ≡ Touches x)) (sym e) (
-      λ k. ⊎_elim (λ i. ap Touches i) (λ n. absurd (none_in x n)) (in_cases t [] x k),
-      λ k. let same : t ≡ x = cc in subst (Contains (t ∷ [])) same (here t []),
-    ))
-    (subst (IsFirst (BreaksWithin (emit (Touches t)))) (sym f)
-    (first_same (ClashesWith t (t ∷ [])) (BreaksWithin (emit (Touches t)))
+pub in_one : (t x : Touch) → Contains (t ∷ []) x ↔ (Touches t ≡ Touches x)
+in_one t x = (
+  λ k. ⊎_elim (λ i. ap Touches i) (λ n. absurd (none_in x n)) (in_cases t [] x k),
+  λ k. let same : t ≡ x = cc in subst (Contains (t ∷ [])) same (here t []),
+)
+
+is_touch : Event → Bool
+is_touch (Touches x) = true
+is_touch Sync = false
+is_touch (Wrong rule at) = false
+
+not_wrong : (t : Touch) (r : Refusal) → Touches t ≡ Wrong r.rule r.at → ⊥
+unfolding is_touch
+not_wrong t r k = false≢true (sym (ap is_touch k))
+
+pub first_touch : (t : Touch) (found : Option Refusal) → IsFirst (ClashesWith t (t ∷ [])) found → IsFirst (BreaksWithin (emit (Touches t))) found
+first_touch t found h =
+    first_same (ClashesWith t (t ∷ [])) (BreaksWithin (emit (Touches t)))
     (λ r. (
       λ s. ⊎_elim (λ k. inl (t, refl, k.0, ⊎_elim (λ i. i) (λ i. i) k.1)) (λ k. absurd k) s,
       λ s. ⊎_elim
           (λ k. let alike = k.1 in let same : t ≡ k.0 = cc in
-          inl (subst (λ x. clash x x ≡ true) (sym same) k.2, inl (ap refused same ∙ k.3)))
-          (λ k. absurd (not_wrong r k.1))
+              inl (subst (λ x. clash x x ≡ true) (sym same) k.2, inl (ap refused same ∙ k.3)))
+          (λ k. absurd (not_wrong t r k.1))
           s,
     ))
-    found h))
-  where
-    is_touch : Event → Bool
-    is_touch (Touches x) = true
-    is_touch Sync = false
-    is_touch (Wrong rule at) = false
+    found h
 
-    not_wrong : (r : Refusal) → Touches t ≡ Wrong r.rule r.at → ⊥
-    not_wrong r k = false≢true (sym (ap is_touch k))
+pub sums_touch : (t : Touch) (z : Summary) (found : Option Refusal) → z.quiet ≡ true → z.passes ≡ true → z.turned ≡ false → z.early ≡ t ∷ [] →
+    z.found ≡ found → IsFirst (ClashesWith t (t ∷ [])) found → Sums (emit (Touches t)) z
+sums_touch t z found a b c e f h =
+    sums_quiet (emit (Touches t)) z refl a b c
+    (λ x. subst (λ l. Contains l x ↔ (Touches t ≡ Touches x)) (sym e) (in_one t x))
+    (subst (IsFirst (BreaksWithin (emit (Touches t)))) (sym f) (first_touch t found h))
 
 -- ---- a part that follows
 

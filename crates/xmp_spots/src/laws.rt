@@ -1,5 +1,6 @@
 // Laws of meetings.
-ghost use Rattle.std.specs.Prelude.{◌↔◌, ◌≡◌, List};
+ghost use Rattle.std.specs.Prelude.{◌↔◌, ◌≡◌, List, Option};
+ghost use Rattle.xmp_base.specs.First.{IsFirst};
 ghost use Rattle.std.specs.List.{list_any};
 ghost use Rattle.xmp_base.specs.declared.refusal.Refusal.{Refusal};
 ghost use Rattle.xmp_paths.specs.Plans.{Plan};
@@ -10,7 +11,7 @@ ghost use Rattle.xmp_spots.specs.Gathered.{gathered};
 ghost use Rattle.xmp_spots.specs.declared.events.Event.{Event};
 ghost use Rattle.xmp_spots.specs.Meetings.{Reached, MayMeet};
 ghost use Rattle.xmp_spots.specs.Joins.{IsEarly, Meet};
-ghost use Rattle.xmp_spots.specs.PlanRaces.{Races, RacesIn};
+ghost use Rattle.xmp_spots.specs.PlanRaces.{BreaksIn, Races, RacesIn};
 
 /// Which accesses are reached before any sync, and which may fall in one phase, is what the recursion on the plan says.
 pub fn meetings()
@@ -28,4 +29,9 @@ pub fn spots_as_one()
 /// says: it judges the accesses of each part, and those of two parts against each other.
 pub fn races()
     ensures { (plan : Plan Event) (r : Refusal) → RacesIn plan r ↔ Races plan r }
+{}
+
+/// Each plan has an answer: a first rule that breaks, or that none does.
+pub fn plans_have_answers()
+    ensures { (plan : Plan Event) → (found : Option Refusal) × IsFirst (BreaksIn plan) found }
 {}

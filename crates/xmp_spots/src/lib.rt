@@ -27,7 +27,7 @@ pub use accesses::Accesses;
 pub use events::{Course, Event};
 pub use expressions::image_values;
 pub use gathering::add_spot;
-pub use laws::{meetings, races, spots_as_one};
+pub use laws::{meetings, plans_have_answers, races, spots_as_one};
 pub use touches::{By, Spot, Subscripts, Touch};
 pub use variables::{Variables, image_variables, in_type};
 pub use verdict::judge;
