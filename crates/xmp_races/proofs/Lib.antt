@@ -5,3 +5,4 @@ mod StopLaws
 mod GuardLaws
 mod NestLaws
 mod RuleLaws
+mod SiteLaws

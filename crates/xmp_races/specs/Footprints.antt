@@ -1,5 +1,5 @@
 -- What an access touches: on which images, and which cells there. Source: this project, after XcalableMP 1.4, coarrays.
-use Rattle.std.specs.Prelude.{ℕ, ◌+◌, ◌-◌, ◌%◌, ◌==◌, Bool, true, false, not, ◌&&◌, ◌||◌, if◌then◌else◌, List, [], ◌∷◌, map, filter, ℤ, pos, ◌-ℤ◌, int_lt, int_le, int_rem, nat_lt, Option, Some, None, unwrap_or, slice_get}
+use Rattle.std.specs.Prelude.{ℕ, suc, ◌+◌, ◌-◌, ◌%◌, ◌==◌, Bool, true, false, not, ◌&&◌, ◌||◌, if◌then◌else◌, List, [], ◌∷◌, map, filter, ℤ, pos, ◌-ℤ◌, int_lt, int_le, int_rem, nat_lt, Option, Some, None, unwrap_or, slice_get}
 use Rattle.std.specs.List.{flat_map, list_any, range_with_len}
 use Rattle.std.specs.Ordering.{int_eq}
 use Rattle.xmp_num.specs.declared.types.Ty.TheVariants.{Int}
@@ -22,12 +22,21 @@ use Rattle.xmp_races.specs.declared.setting.LoopImages.{LoopImages}
 abbrev pub comes : List Bool → ℕ → Bool
 comes counts image = unwrap_or (slice_get counts image) false
 
--- those that come, of which only those at which a condition holds go on; all, where it is no image expression
+-- whether an image goes on where a condition holds, or where it fails: where it came, and the condition's value there, if
+-- it has one, chooses so
+abbrev pub goes_on : (holding came : Bool) → Option ℤ → Bool
+goes_on holding came None = came
+goes_on holding came (Some v) = came && (if is_zero v then not holding else holding)
+
+abbrev pub those_from : (image : ℕ) → List Bool → List ℤ → (holding : Bool) → List Bool
+those_from image [] values holding = []
+those_from image (came ∷ counts) values holding =
+    goes_on holding came (slice_get values image) ∷ those_from (suc image) counts values holding
+
+-- of the images that come, those that go on; all, where the condition is no image expression
 abbrev pub those_of : List Bool → Option (List ℤ) → (holding : Bool) → List Bool
 those_of counts None holding = counts
-those_of [] (Some vs) holding = []
-those_of (c ∷ cs) (Some []) holding = c ∷ cs
-those_of (c ∷ cs) (Some (v ∷ vs)) holding = (c && (if is_zero v then not holding else holding)) ∷ those_of cs (Some vs) holding
+those_of counts (Some values) holding = those_from 0 counts values holding
 
 -- the loops round the body of a counted loop
 abbrev pub loops_in : List LoopImages → LoopHead → Option (List ℤ) → Option (List ℤ) → List LoopImages

@@ -1,7 +1,6 @@
 // The images that come to an expression or a statement.
-ghost use Rattle.std.specs.Prelude.{◌≡◌, if◌then◌else◌, not, Some, IfOk};
-ghost use Rattle.xmp_meaning.specs.Expressions.{is_zero};
-ghost use Rattle.xmp_races.specs.Footprints.{comes, those_of};
+ghost use Rattle.std.specs.Prelude.{◌≡◌, slice_get, IfOk};
+ghost use Rattle.xmp_races.specs.Footprints.{comes, goes_on, those_from, those_of};
 
 use sqlite_items::{Items, at};
 use std::alloc::{AllocError, Global};
@@ -17,29 +16,29 @@ pub fn comes(counts: &[bool], image: u32) -> bool
     }
 }
 
-// Whether an image goes on where a condition holds, or where it fails, by the condition's value.
-fn goes_on(value: i64, holding: bool) -> bool
-    ensures { result ≡ (if is_zero value then not holding else holding) }
+// Whether an image goes on where a condition holds, or where it fails, by the condition's values.
+fn goes_on(values: &[i64], image: usize, came: bool, holding: bool) -> bool
+    ensures { result ≡ goes_on holding came (slice_get values.now image) }
 {
-    (value == 0) != holding
+    match at(values, image) {
+        Some(value) => came && (*value == 0) != holding,
+        None => came,
+    }
 }
 
 // Those that go on, by the condition's values.
+#[tactic(auto, using(crate::proofs::GuardLaws::those_next))]
 fn chosen(
     alloc: Global,
     counts: &[bool],
     values: &[i64],
     holding: bool,
 ) -> Result<Items<bool>, AllocError>
-    ensures { IfOk result (λ found. found ≡ those_of counts.now (Some values.now) holding) }
+    ensures { IfOk result (λ found. found ≡ those_from 0 counts.now values.now holding) }
 {
     let mut found = Items::new(alloc);
-    'counts: for (k, on) in counts.iter().enumerate() {
-        let on = match at(values, k) {
-            Some(value) => *on && goes_on(*value, holding),
-            None => *on,
-        };
-        found.push(on)?;
+    'counts: for (image, came) in counts.iter().enumerate() {
+        found.push(goes_on(values, image, *came, holding))?;
     }
     Ok(found)
 }

@@ -140,6 +140,7 @@ fn add_bounds(
 }
 
 // Adds what happens in the bounds of a nest, and gives the loops round its body.
+#[tactic(auto, using(crate::proofs::NestLaws::bounds_next, crate::proofs::NestLaws::in_next))]
 fn nest_bounds(
     alloc: Global,
     s: &Site<'_>,

@@ -172,6 +172,7 @@ fn stops_of(
 }
 
 #[cycle(stops)]
+#[tactic(auto, using(crate::proofs::StopLaws::next_stops))]
 fn stops_of_all(
     alloc: Global,
     count: u32,
@@ -189,6 +190,7 @@ fn stops_of_all(
 }
 
 #[cycle(stops)]
+#[tactic(auto, using(crate::proofs::StopLaws::next_stops))]
 fn stops_of_tasks(
     alloc: Global,
     count: u32,

@@ -32,10 +32,11 @@ some_with : (x : Touch) (ys : List Touch) → (found : Option Refusal) × IsFirs
 some_with x [] = (None, λ r h. h)
 some_with x (y ∷ ys) =
     let one = first_where (clash x y) (λ r. (refused x ≡ r) ⊎ (refused y ≡ r)) (first_of (Some (refused x)) (Some (refused y)))
-        (first_or (λ r. refused x ≡ r) (λ r. refused y ≡ r) (Some (refused x)) (Some (refused y)) (first_at (refused x)) (first_at (refused y))) in
-    let rest = some_with x ys in
-    (first_of one.0 rest.0,
-    first_or (λ r. (clash x y ≡ true) × ((refused x ≡ r) ⊎ (refused y ≡ r))) (ClashesWith x ys) one.0 rest.0 one.1 rest.1)
+    (first_or (λ r. refused x ≡ r) (λ r. refused y ≡ r) (Some (refused x)) (Some (refused y)) (first_at (refused x)) (first_at (refused y))) in
+    let rest = some_with x ys in (
+      first_of one.0 rest.0,
+      first_or (λ r. (clash x y ≡ true) × ((refused x ≡ r) ⊎ (refused y ≡ r))) (ClashesWith x ys) one.0 rest.0 one.1 rest.1,
+    )
 
 some_between : (xs ys : List Touch) → (found : Option Refusal) × IsFirst (ClashBetween xs ys) found
 some_between [] ys = (None, λ r h. h)

@@ -304,7 +304,7 @@ first_touch t found h =
       λ s. ⊎_elim (λ k. inl (t, refl, k.0, ⊎_elim (λ i. i) (λ i. i) k.1)) (λ k. absurd k) s,
       λ s. ⊎_elim
           (λ k. let alike = k.1 in let same : t ≡ k.0 = cc in
-              inl (subst (λ x. clash x x ≡ true) (sym same) k.2, inl (ap refused same ∙ k.3)))
+          inl (subst (λ x. clash x x ≡ true) (sym same) k.2, inl (ap refused same ∙ k.3)))
           (λ k. absurd (not_wrong t r k.1))
           s,
     ))
