@@ -2,6 +2,9 @@
 use Rattle.std.proofs.Common.{◌≡◌, ◌∙◌, ap, refl, sym, subst, ◌∷◌, ◌++◌, [], List, map, Bool, true, false, not, ◌||◌, ℕ, zero, suc, ◌+◌, arith, ℤ, slice_get, ◌<◌, ◌≤◌, min, length, take, drop, get_or, Option, Some, None, ◌⊎◌, inl, inr, ⊎_elim, ◌↔◌, if◌then◌else◌}
 use Rattle.std.specs.List.{list_all}
 use Rattle.std.specs.Ordering.{int_eq}
+use Rattle.std.specs.Int.{w32, int_wrap}
+use Rattle.std.specs.Int.RustNames.{FitsSigned}
+use Rattle.std.proofs.lemmas.Int.{SFits-int_wrap}
 use Rattle.std.proofs.Math.Seq.{drop-cons}
 use Rattle.std.proofs.lemmas.Bool.{false≢true, and_parts, and_from}
 use Rattle.std.proofs.lemmas.List.{take_more, take_all}
@@ -153,3 +156,6 @@ one_differs (v ∷ vs) first k d e l h same =
     (λ t. absurd (false≢true (sym h ∙ all_from (int_eq first) (v ∷ vs) k d l (and_from _ _ (ap {A = ℤ} (int_eq first) i ∙ same) t))))
     (λ f. ap (λ (b : Bool). if b then Some first else None) f)
     (either_way (list_all (int_eq first) vs))
+
+pub int_fits : (z : ℤ) → FitsSigned w32 (int_wrap w32 z)
+int_fits z = SFits-int_wrap w32 z

@@ -1,5 +1,5 @@
 -- Rule C1 (this project): where `xmp_sync_all` may stand, and how many phases there may be.
-use Rattle.std.specs.Prelude.{ℕ, ◌≡◌, ◌+◌, ◌*◌, ◌⊎◌, ◌||◌, min, not, nat_le, Bool, true, false, if◌then◌else◌, List, [], ◌∷◌, ◌++◌, ℤ, Option, Some, None}
+use Rattle.std.specs.Prelude.{ℕ, ◌≡◌, ◌+◌, ◌*◌, ◌⊎◌, ◌||◌, min, not, nat_le, Bool, true, false, if◌then◌else◌, List, [], ◌∷◌, ◌++◌, ℤ, pos, ◌-ℤ◌, ◌+ℤ◌, Option, Some, None}
 use Rattle.std.specs.List.{list_all}
 use Rattle.std.specs.Ordering.{int_eq}
 use Rattle.xmp_base.specs.declared.place.Place.{Place}
@@ -29,6 +29,10 @@ abbrev pub one_value : Option (List ℤ) → Option ℤ
 one_value None = None
 one_value (Some []) = None
 one_value (Some (v ∷ vs)) = if list_all (int_eq v) vs then Some v else None
+
+-- how far a bound is above the first value
+abbrev pub gap : ℤ → ℤ → Bool → ℤ
+gap from to inclusive = (to -ℤ from) +ℤ pos (if inclusive then 1 else 0)
 
 abbrev pub turns_between : LoopHead → Option ℤ → Option ℤ → Option ℕ
 turns_between h (Some from) (Some to) = Some (turn_count (wrap Int from) (wrap Int to) h.inclusive h.step)

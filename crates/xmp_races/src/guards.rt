@@ -27,7 +27,6 @@ fn goes_on(values: &[i64], image: usize, came: bool, holding: bool) -> bool
 }
 
 // Those that go on, by the condition's values.
-#[tactic(auto, using(crate::proofs::GuardLaws::those_next))]
 fn chosen(
     alloc: Global,
     counts: &[bool],

@@ -1,13 +1,17 @@
 // The syncs of a program in order, and the first of them at which rule C1 breaks.
-ghost use Rattle.std.specs.Prelude.{◌≡◌, ◌++◌, ◌≤◌, ◌+◌, true, ◌-ℤ◌, ◌+ℤ◌, pos, if◌then◌else◌, min, Some, map, OnOk, IfOk};
+ghost use Rattle.std.specs.Prelude.{◌≡◌, ◌++◌, ◌≤◌, ◌+◌, true, min, Some, map, FitsSigned, OnOk, IfOk};
+ghost use Rattle.std.specs.Int.{w32};
 ghost use Rattle.xmp_base.specs.First.{IsFirst};
+ghost use Rattle.xmp_num.specs.declared.types.Ty.TheVariants.{Int};
+ghost use Rattle.xmp_num.specs.Arithmetic.{wrap};
 ghost use Rattle.xmp_meaning.specs.Loops.{turn_count};
-ghost use Rattle.xmp_races.specs.Syncs.{BreaksAtStop, all_stops, breaks_at, in_loop, misplaced, most, one_value, outermost_rounds, plain_stops, stopped_at, stops_of, turns_between, turns_of};
+ghost use Rattle.xmp_races.specs.Syncs.{BreaksAtStop, all_stops, breaks_at, gap, in_loop, misplaced, most, one_value, outermost_rounds, plain_stops, stopped_at, stops_of, turns_between, turns_of};
 
-use crate::loops::{int, natural};
+use crate::loops::natural;
 use sqlite_items::{Items, at};
 use std::alloc::Global;
 use xmp_base::{NoMemory, Phase, Place, Refusal, Words, earlier};
+use xmp_num::{Ty, convert};
 use xmp_prog::{LoopHead, Plain, Stmt, Task};
 use xmp_spots::{Variables, image_values};
 
@@ -55,15 +59,28 @@ fn same_value(values: &[i64]) -> Option<i64>
     Some(first)
 }
 
-// How far a bound is above the first value.
-fn gap(from: i32, to: i32, inclusive: bool) -> i64
-    ensures { result ≡ (to -ℤ from) +ℤ pos (if inclusive then 1 else 0) }
+// A value of the type int.
+#[tactic(auto, using(crate::proofs::StopLaws::int_fits))]
+fn to_int(value: i64) -> i64
+    ensures value { result ≡ wrap Int value }
+    ensures fits { FitsSigned w32 result }
 {
-    i64::from(to) - i64::from(from) + i64::from(inclusive)
+    convert(value, Ty::Int)
+}
+
+// How far a bound is above the first value.
+fn gap(from: i64, to: i64, inclusive: bool) -> i64
+    requires from { FitsSigned w32 from }
+    requires to { FitsSigned w32 to }
+    ensures { result ≡ gap from to inclusive }
+{
+    to - from + i64::from(inclusive)
 }
 
 // How many turns a counted loop makes at most: none where its step is 0.
-fn turn_count(from: i32, to: i32, inclusive: bool, step: u32) -> u64
+fn turn_count(from: i64, to: i64, inclusive: bool, step: u32) -> u64
+    requires from { FitsSigned w32 from }
+    requires to { FitsSigned w32 to }
     ensures { result ≡ turn_count from to inclusive step }
 {
     if step == 0 {
@@ -90,7 +107,9 @@ fn turns_between(h: &LoopHead, from: Option<i64>, to: Option<i64>) -> Option<u64
     ensures { result ≡ turns_between h.now from to }
 {
     match (from, to) {
-        (Some(from), Some(to)) => Some(turn_count(int(from), int(to), h.inclusive, h.step)),
+        (Some(from), Some(to)) => {
+            Some(turn_count(to_int(from), to_int(to), h.inclusive, h.step))
+        },
         _ => None,
     }
 }

@@ -7,7 +7,8 @@ use Rattle.xmp_races.proofs.loops.int.Goals as goal
 pub returns : goal.returns
 unfolding int_wrap
 returns c =
-    c.cast_signed.ensures
+    to_z-of_z w32 c.cast_signed.result (record { sfits = c.cast_signed.type_inv })
+    ∙ c.cast_signed.ensures
     ∙ ap (λ x. cast_signed w32 (unsigned_abs x))
     (to_z-of_z w64 c.rem_euclid.result (record { sfits = c.rem_euclid.type_inv })
     ∙ c.rem_euclid.ensures.value
