@@ -58,7 +58,7 @@ use Rattle.xmp_move.proofs.PlanLaws.{PairsAre, product_pad, map_extents, filled_
 asked_cons : (p : SidePart) (ps : List SidePart) → sum_by asked (p ∷ ps) ≡ asked p + sum_by asked ps
 asked_cons p ps = sum_by-cons asked p ps
 
-chosen_long : (ps : List SidePart) (ns : List ℤ) → sum_by asked ps ≤ length ns → length (chosen_by ps ns) ≡ length ps
+pub chosen_long : (ps : List SidePart) (ns : List ℤ) → sum_by asked ps ≤ length ns → length (chosen_by ps ns) ≡ length ps
 chosen_long [] ns l = refl
 chosen_long (part.One ∷ ps) [] l = let e = asked_cons part.One ps in absurd (omega (arith, l, e))
 chosen_long (part.One ∷ ps) (v ∷ ns) l = let e = asked_cons part.One ps in ap suc (chosen_long ps ns (omega (arith, l, e)))
@@ -70,7 +70,7 @@ chosen_long (part.Many ∷ ps) (a ∷ b ∷ c ∷ ns) l = let e = asked_cons par
 count_cons : (p : SidePart) (ps : List SidePart) → count_by is_section (p ∷ ps) ≡ cond (is_section p) 1 0 + count_by is_section ps
 count_cons p ps = sum_by-cons (λ p. cond (is_section p) 1 0) p ps
 
-lengths_long : (ps : List SidePart) (ns : List ℤ) → sum_by asked ps ≤ length ns → length (lengths (chosen_by ps ns)) ≡ count_by is_section ps
+pub lengths_long : (ps : List SidePart) (ns : List ℤ) → sum_by asked ps ≤ length ns → length (lengths (chosen_by ps ns)) ≡ count_by is_section ps
 lengths_long [] ns l = refl
 lengths_long (part.One ∷ ps) [] l = let e = asked_cons part.One ps in absurd (omega (arith, l, e))
 lengths_long (part.One ∷ ps) (v ∷ ns) l = let e = asked_cons part.One ps in let k = count_cons part.One ps in let i = lengths_long ps ns (omega (arith, l, e)) in omega (arith, i, k)
@@ -79,7 +79,7 @@ lengths_long (part.Many ∷ ps) (a ∷ []) l = let e = asked_cons part.Many ps i
 lengths_long (part.Many ∷ ps) (a ∷ b ∷ []) l = let e = asked_cons part.Many ps in absurd (omega (arith, l, e))
 lengths_long (part.Many ∷ ps) (a ∷ b ∷ c ∷ ns) l = let e = asked_cons part.Many ps in let k = count_cons part.Many ps in let i = lengths_long ps ns (omega (arith, l, e)) in omega (arith, i, k)
 
-drop_long : {A : Type 0} (n : ℕ) (xs : List A) → length (drop n xs) ≡ length xs - n
+pub drop_long : {A : Type 0} (n : ℕ) (xs : List A) → length (drop n xs) ≡ length xs - n
 drop_long zero xs = omega arith
 drop_long (suc n) [] = omega arith
 drop_long (suc n) (x ∷ xs) = let i = drop_long n xs in omega (arith, i)
@@ -90,7 +90,7 @@ counts_are [] = refl
 counts_are (One v ∷ cs) = counts_are cs
 counts_are (Many b n s ∷ cs) = ap (λ r. natural n ∷ r) (counts_are cs)
 
-no_items : {A : Type 0} (xs : List A) → length xs ≡ 0 → xs ≡ []
+pub no_items : {A : Type 0} (xs : List A) → length xs ≡ 0 → xs ≡ []
 no_items [] l = refl
 no_items (x ∷ xs) l = absurd (omega (arith, l))
 

@@ -17,8 +17,12 @@ pub mod DueSlots
 pub mod SumLaws
 pub mod Narrowed
 pub mod LegLaws
+pub mod RoundLaws
+pub mod RepeatLaws
+pub mod ApartLaws
 pub mod GatherLaws
 pub mod EndLaws
 pub mod PickLaws
 pub mod PlanLaws
 pub mod Gathering
+pub mod Assigning

@@ -78,14 +78,14 @@ alike_all : {A : Type 0} (f : A → ℕ) (v : ℕ) (xs : List A) → ((x : A) �
 alike_all f v [] h = refl
 alike_all f v (x ∷ xs) h = ap (λ r. v ∷ r) (alike_all f v xs h) ∙ ap (λ y. y ∷ map f xs) (sym (h x))
 
-counts_are : (cs : List Chosen) → counts cs ≡ map natural (lengths cs)
+pub counts_are : (cs : List Chosen) → counts cs ≡ map natural (lengths cs)
 unfolding counts
 counts_are [] = refl
 counts_are (One v ∷ cs) = counts_are cs
 counts_are (Many base length step ∷ cs) = ap (λ r. natural length ∷ r) (counts_are cs)
 
 -- a side without a section has one cell at all places
-one_cell : (cs : List Chosen) (places : List ℕ) → lengths cs ≡ [] → cell_at cs places ≡ cell_at cs []
+pub one_cell : (cs : List Chosen) (places : List ℕ) → lengths cs ≡ [] → cell_at cs places ≡ cell_at cs []
 unfolding cell_at
 one_cell [] places e = refl
 one_cell (One v ∷ cs) places e = ap (λ r. natural v ∷ r) (one_cell cs places e)

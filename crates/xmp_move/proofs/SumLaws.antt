@@ -7,7 +7,7 @@ use Rattle.std.proofs.lemmas.List.Elements.{All-nil, All-cons, All-head, All-tai
 use Rattle.std.proofs.lemmas.List.{map-append}
 use Rattle.xmp_move.specs.Sums.{sums, pair_sums, three_sums}
 
-take_one : (xs : List ℕ) (i : ℕ) → i < length xs → take (suc i) xs ≡ take i xs ++ get_or xs i 0 ∷ []
+pub take_one : (xs : List ℕ) (i : ℕ) → i < length xs → take (suc i) xs ≡ take i xs ++ get_or xs i 0 ∷ []
 take_one [] i h = absurd (omega arith)
 take_one (x ∷ xs) zero h = refl
 take_one (x ∷ xs) (suc i) h = ap (λ r. x ∷ r) (take_one xs i (omega arith))

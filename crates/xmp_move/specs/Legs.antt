@@ -1,5 +1,5 @@
 -- One section of a transfer between two nodes (this project).
-use Rattle.std.specs.Prelude.{ℕ, ◌+◌, ◌*◌, ◌^◌, ◌<◌, ◌≤◌, Bool, ◌&&◌, List}
+use Rattle.std.specs.Prelude.{ℕ, ◌+◌, ◌*◌, ◌^◌, ◌<◌, ◌≤◌, ◌≡◌, Bool, ◌&&◌, nat_lt, List, map, filter}
 use Rattle.xmp_base.specs.Limits.{size_limit, cell_limit}
 use Rattle.xmp_move.specs.declared.leg.Walk.{Walk}
 use Rattle.xmp_move.specs.declared.leg.Leg.{Leg}
@@ -28,3 +28,11 @@ pub record LegFits (leg : Leg) : Type 0 where
   pub gives : ReachFits leg.gives leg.extents.1
   pub side : ReachFits leg.side leg.extents.2
   pub weight : leg.extents.2 * leg.weight ≤ cell_limit
+
+-- a test that repeats after so many numbers
+abbrev pub Repeats : (ℕ → Bool) → ℕ → Type 0
+Repeats t n = (k : ℕ) → t (k + n) ≡ t k
+
+-- what places add that lie so much further on, of those before a bound
+abbrev pub adds_further : (ℕ → ℕ) → (to further : ℕ) → List ℕ → List ℕ
+adds_further f to d places = map f (filter (λ k. nat_lt k to) (map (λ k. k + d) places))

@@ -19,3 +19,4 @@ pub mod Legs
 pub mod Gathers
 pub mod Ends
 pub mod Plans
+pub mod Assigned

@@ -1,5 +1,6 @@
 // What all plans of a transfer do together, as laws that callers may take.
 
+ghost use Rattle.xmp_move.specs.Assigned.{AimsArePairs, GmovesArrays, PlansAreGood, PlansAreOfArrays, RowsAreKept};
 ghost use Rattle.xmp_move.specs.Kept.{CellsAreOwned, GmovesAssign, OwnersHold, ReflectsArrays, SidesAreKept};
 ghost use Rattle.xmp_move.specs.Meant.{MovesAsMeant, TrapsAsMeant};
 ghost use Rattle.xmp_move.specs.Laws.{PlansFit, FillsNeeded, FillsOnce, MovesAll, MovesWhole, Reflects};
@@ -38,4 +39,15 @@ pub fn gmoves_assign()
 /// After all nodes packed, a node that unpacks a reflect shows the owners' values in all cells that it holds.
 pub fn reflects_are_whole()
     ensures { ReflectsArrays }
+{}
+
+/// After all nodes packed, a node that unpacks a gmove, in any order of its peers, shows the whole assignment in the target's cells
+/// that are its own, and every other word is as it was: in rows of each array's own as in one store. A plan's gmove, which is laid
+/// out, has numbers without a fault, and its sides are arrays over all its peers.
+pub fn gmoves_are_whole()
+    ensures arrays { GmovesArrays }
+    ensures pairs { AimsArePairs }
+    ensures rows { RowsAreKept }
+    ensures good { PlansAreGood }
+    ensures over { PlansAreOfArrays }
 {}

@@ -1,5 +1,5 @@
 // Which subscripts of a dimension a node has.
-ghost use Rattle.std.specs.Prelude.{◌≡◌, ◌≤◌, ◌<◌, ◌+◌, ◌-◌, ◌/◌, ◌%◌, ◌==◌, ◌⊎◌, true, IsTrue, IfSome};
+ghost use Rattle.std.specs.Prelude.{◌≡◌, ◌≤◌, ◌<◌, ◌+◌, ◌-◌, ◌*◌, ◌/◌, ◌%◌, ◌==◌, ◌⊎◌, ℕ, true, false, IsTrue, IfSome};
 ghost use Rattle.xmp_base.specs.Limits.{size_limit, node_limit};
 ghost use Rattle.xmp_dist.specs.Count.{count_below};
 ghost use Rattle.xmp_dist.specs.Owner.{owner_inside};
@@ -43,6 +43,27 @@ fn dealt(width: u32, nodes: u32, node: u32, g: u32) -> u32
     g / round * width + width.min((g % round).saturating_sub(node * width))
 }
 
+/// How far the chunks of a node are from a position; 0 where it lies in one.
+fn to_chunk(width: u32, nodes: u32, node: u32, g: u32) -> u32
+    requires some { 1 ≤ width }
+    requires width { width ≤ size_limit }
+    requires node { node < nodes }
+    requires nodes { nodes ≤ node_limit }
+    ensures none { (d : ℕ) → d < result → ((((g + d) / width) % nodes) == node) ≡ false }
+    ensures small { result ≤ 2 * (node_limit * size_limit) }
+{
+    let round = nodes * width;
+    let chunk = node * width;
+    let place = g % round;
+    if place < chunk {
+        chunk - place
+    } else if place < chunk + width {
+        0
+    } else {
+        round - place + chunk
+    }
+}
+
 impl Reach {
     /// Whether it has a subscript.
     pub fn has(&self, extent: u32, x: u32) -> bool
@@ -75,6 +96,35 @@ impl Reach {
                 node,
                 offset,
             } => dealt(width, nodes, node, x + offset) - dealt(width, nodes, node, offset),
+        }
+    }
+
+    /// How many subscripts from one on it surely hasn't: of a cyclic form those before the node's next chunk.
+    pub fn missing(&self, extent: u32, x: u32) -> u32
+        requires fits { ReachFits self.now extent }
+        requires inside { x < extent }
+        ensures none { (d : ℕ) → d < result → reaches self.now (x + d) ≡ false }
+        ensures small { result ≤ 2 * (node_limit * size_limit) }
+    {
+        match *self {
+            Reach::Span { .. } => 0,
+            Reach::Rounds {
+                width,
+                nodes,
+                node,
+                offset,
+            } => to_chunk(width, nodes, node, x + offset),
+        }
+    }
+
+    /// After how many subscripts a cyclic form deals to the same node again; 0 for an interval.
+    pub fn round(&self, extent: u32) -> u32
+        requires fits { ReachFits self.now extent }
+        ensures { (result ≡ 0) ⊎ ((m x : ℕ) → reaches self.now (x + m * result) ≡ reaches self.now x) }
+    {
+        match *self {
+            Reach::Span { .. } => 0,
+            Reach::Rounds { width, nodes, .. } => nodes * width,
         }
     }
 }

@@ -64,7 +64,7 @@ any_swap (s ∷ ss) ts =
     (λ i. list_any (λ t. spots_swap s t i) ts || any_swap ss ts i)
     ∙ sym (next_of (λ t. spots_clash t s) (λ t. list_any (spots_clash t) ss) ts)
 
-clash_swap : (a b : Touch) → clash a b ≡ clash b a
+pub clash_swap : (a b : Touch) → clash a b ≡ clash b a
 clash_swap a b = λ i. nat_eq_swap a.array b.array i && (or_swap a.writes b.writes i && any_swap a.spots b.spots i)
 
 -- ---- sets

@@ -5,7 +5,9 @@ use Rattle.xmp_base.specs.declared.place.Place.{Place}
 use Rattle.xmp_paths.specs.Plans.{Plan, skip, emit, sequence, branch, loop, Path, Repeated}
 use Rattle.xmp_paths.proofs.PathLaws.{some_path, split, not_empty, alone, or_left, or_right}
 use Rattle.xmp_spots.specs.declared.touches.Touch.{Touch}
-use Rattle.xmp_spots.specs.Meetings.{Event, Touches, Sync, Wrong, is_sync, in_one_phase, Reached}
+use Rattle.xmp_spots.specs.declared.events.Event.{Event}
+use Rattle.xmp_spots.specs.declared.events.Event.TheVariants.{Touches, Sync, Wrong}
+use Rattle.xmp_spots.specs.Meetings.{is_sync, in_one_phase, Reached}
 use Rattle.xmp_spots.specs.Joins.{passes, IsEarly}
 
 one_phase-append : (xs ys : List Event) → in_one_phase xs ≡ true → in_one_phase ys ≡ true → in_one_phase (xs ++ ys) ≡ true

@@ -9,7 +9,7 @@ use Rattle.xmp_spots.specs.declared.touches.By.TheVariants.{One, Several}
 use Rattle.xmp_spots.specs.declared.touches.Subscripts.{Subscripts}
 use Rattle.xmp_spots.specs.declared.touches.Spot.{Spot}
 use Rattle.xmp_spots.specs.Clashes.{by_two, may_be_one, spots_clash}
-use Rattle.xmp_spots.specs.Footprints.{same_number, same_cells, both_by, with_spot, gathered}
+use Rattle.xmp_spots.specs.Gathered.{same_number, same_cells, both_by, with_spot, gathered}
 use Rattle.xmp_spots.proofs.BetweenLaws.{any_swap}
 
 number_is : (a b : Option ℤ) → same_number a b ≡ true → a ≡ b

@@ -7,3 +7,10 @@ mod AskingLaws
 mod BetweenLaws
 mod ImageLaws
 mod GatheredLaws
+mod RaceLaws
+mod CourseLaws
+mod SummaryLaws
+mod DeclareLaws
+mod WriteLaws
+mod PlaceLaws
+pub mod AnswerLaws

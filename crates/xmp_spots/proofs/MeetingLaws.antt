@@ -5,7 +5,9 @@ use Rattle.xmp_base.specs.declared.place.Place.{Place}
 use Rattle.xmp_paths.specs.Plans.{Plan, skip, emit, sequence, branch, loop}
 use Rattle.xmp_paths.proofs.PathLaws.{or_left, or_right}
 use Rattle.xmp_spots.specs.declared.touches.Touch.{Touch}
-use Rattle.xmp_spots.specs.Meetings.{Event, Touches, Sync, Wrong, is_sync, After, MayMeet}
+use Rattle.xmp_spots.specs.declared.events.Event.{Event}
+use Rattle.xmp_spots.specs.declared.events.Event.TheVariants.{Touches, Sync, Wrong}
+use Rattle.xmp_spots.specs.Meetings.{is_sync, After, MayMeet}
 use Rattle.xmp_spots.specs.Joins.{passes, IsEarly, IsLate, Across, Meet}
 use Rattle.xmp_spots.proofs.EarlyLaws.{early_forth, early_back}
 

@@ -2,7 +2,9 @@
 use Rattle.std.specs.Prelude.{◌≡◌, Bool, true, not, ◌&&◌, ◌||◌, ◌⊎◌}
 use Rattle.xmp_paths.specs.Plans.{Plan, skip, emit, sequence, branch, loop}
 use Rattle.xmp_spots.specs.declared.touches.Touch.{Touch}
-use Rattle.xmp_spots.specs.Meetings.{Event, Touches, is_sync}
+use Rattle.xmp_spots.specs.declared.events.Event.{Event}
+use Rattle.xmp_spots.specs.declared.events.Event.TheVariants.{Touches}
+use Rattle.xmp_spots.specs.Meetings.{is_sync}
 
 -- whether some path through the plan has no sync
 abbrev pub passes : Plan Event → Bool

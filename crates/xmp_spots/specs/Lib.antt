@@ -11,4 +11,8 @@ pub mod Races
 pub mod Sets
 pub mod Images
 pub mod Variables
-pub mod Footprints
+pub mod Gathered
+pub mod PlanRaces
+pub mod Courses
+pub mod Summaries
+pub mod Writes

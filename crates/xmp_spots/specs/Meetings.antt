@@ -1,15 +1,12 @@
 -- Which accesses may fall in one phase: those that can be reached, from the start of a plan or from one sync in it,
 -- without passing a sync. Source: this project.
 use Rattle.std.specs.Prelude.{ℕ, ◌≡◌, Bool, true, false, not, ◌&&◌, ◌⊎◌, List, [], ◌∷◌, ◌++◌}
-use Rattle.xmp_base.specs.declared.place.Place.{Place}
 use Rattle.xmp_paths.specs.Plans.{Plan, skip, emit, sequence, branch, loop, Path}
 use Rattle.xmp_spots.specs.declared.touches.Touch.{Touch}
+use Rattle.xmp_spots.specs.declared.events.Event.{Event}
+use Rattle.xmp_spots.specs.declared.events.Event.TheVariants.{Touches, Sync, Wrong}
 
--- what happens in a coarray program: an access, the end of a phase, or a rule that breaks at a place
-pub data Event : Type 0 where
-  Touches : Touch → Event
-  Sync : Event
-  Wrong : (rule : ℕ) → (at : Place) → Event
+-- ---- events of a coarray program: an access, the end of a phase, or a rule that breaks at a place
 
 abbrev pub is_sync : Event → Bool
 is_sync (Touches t) = false

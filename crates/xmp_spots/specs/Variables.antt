@@ -43,14 +43,20 @@ abbrev pub declared_in : Stmt → List Declaration
 declared_in = fold-Stmt (List Declaration) (List Declaration) declared_step declared_in_task
 
 -- file scope first, and then main
+abbrev pub file_scope : ProgParts → List Declaration
+file_scope p = map (λ s. record { slot = s.slot; value = s.value }) p.start
+
 abbrev pub declarations : ProgParts → List Declaration
-declarations p = map (λ s. record { slot = s.slot; value = s.value }) p.start ++ declared_in p.body
+declarations p = file_scope p ++ declared_in p.body
 
 -- ---- image variables
 
--- how often a scalar is written: at file scope, and by main's statements, declarations included
+-- the scalars that are written, each as often as it is: at file scope, and by main's statements, declarations included
+abbrev pub written_by : ProgParts → List ℕ
+written_by p = slots_of_starts p ++ scalars_written p.body
+
 abbrev pub times_written : ProgParts → ℕ → ℕ
-times_written p slot = length (filter (λ n. n == slot) (slots_of_starts p ++ scalars_written p.body))
+times_written p slot = length (filter (λ n. n == slot) (written_by p))
 
 -- the values with those of one more declaration: where the initialiser is an image expression with the image variables
 -- so far, and nothing else writes the scalar. It gets them converted to its type. As it has none before, an initialiser

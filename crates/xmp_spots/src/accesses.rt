@@ -1,5 +1,5 @@
 // A set of accesses.
-ghost use Rattle.std.specs.Prelude.{◌≡◌, ◌&&◌, ◌++◌, [], ◌∷◌, OnOk, OnErr};
+ghost use Rattle.std.specs.Prelude.{◌≡◌, ◌&&◌, ◌++◌, [], ◌∷◌, IfOk, OnOk, OnErr};
 ghost use Rattle.xmp_base.specs.First.{IsFirst};
 ghost use Rattle.std.specs.Prelude.{List, filter, reverse};
 ghost use Rattle.std.specs.List.Sorted.{IsPermutation};
@@ -104,6 +104,31 @@ impl Accesses {
                 Err(NoMemory)
             }
         }
+    }
+
+    /// A copy of an access more. Where memory runs out none is left.
+    pub fn add_copy(&mut self, alloc: Global, touch: &Touch) -> Result<(), NoMemory>
+        ensures ok { OnOk result (self.new ≡ self.old ++ touch.now ∷ []) }
+        ensures err { OnErr result (self.new ≡ []) }
+    {
+        match touch.copy(alloc) {
+            Ok(copy) => self.add(alloc, copy),
+            Err(_) => {
+                *self = Accesses::new(alloc);
+                Err(NoMemory)
+            }
+        }
+    }
+
+    /// The same accesses.
+    pub fn copy(&self, alloc: Global) -> Result<Accesses, NoMemory>
+        ensures { IfOk result (λ copy. copy ≡ self.now) }
+    {
+        let mut copy = Accesses::new(alloc);
+        'touches: for touch in self.touches() {
+            copy.add_copy(alloc, touch)?;
+        }
+        Ok(copy)
     }
 
     /// The first place at which an access or one of the set breaks rule 2: the two are of one cell on behalf of two images,

@@ -4,13 +4,14 @@ ghost use Rattle.xmp_num.specs.Arithmetic.{binary_of, wrap};
 ghost use Rattle.xmp_meaning.specs.Expressions.{as_truth};
 ghost use Rattle.xmp_spots.specs.Images.{row_of, is_variable, is_built, given, joined, converted, chosen, value_on, image_values};
 
+use crate::variables::Variables;
 use std::alloc::Global;
-use xmp_base::{NoMemory, Table, Words};
+use xmp_base::{NoMemory, Words};
 use xmp_num::{BinOp, Ty, binary, convert};
 use xmp_prog::Expr;
 
 // Whether a scalar is an image variable.
-fn is_variable(values: &Table, slot: u32) -> bool
+fn is_variable(values: &Variables, slot: u32) -> bool
     ensures { result ≡ is_variable values.now slot }
 {
     match values.row(slot as usize) {
@@ -20,7 +21,7 @@ fn is_variable(values: &Table, slot: u32) -> bool
 }
 
 // Its value on an image, where it is one.
-fn variable_on(values: &Table, slot: u32, image: u32) -> Option<i64>
+fn variable_on(values: &Variables, slot: u32, image: u32) -> Option<i64>
     ensures { result ≡ slice_get (row_of values.now slot) image }
 {
     match values.row(slot as usize) {
@@ -77,7 +78,7 @@ fn chosen(a: Option<i64>, b: Option<i64>, c: Option<i64>) -> Option<i64>
 // Whether an expression has nothing but numbers, the two calls for node numbers, image variables, operators and
 // conversions.
 #[cycle(is_built)]
-fn is_built(values: &Table, e: &Expr) -> bool
+fn is_built(values: &Variables, e: &Expr) -> bool
     ensures { result ≡ is_built values.now e.now }
 {
     match e {
@@ -99,7 +100,7 @@ fn is_built(values: &Table, e: &Expr) -> bool
 
 // The value of such an expression on one of so many images.
 #[cycle(value_on)]
-fn value_on(count: u32, values: &Table, image: u32, e: &Expr) -> Option<i64>
+fn value_on(count: u32, values: &Variables, image: u32, e: &Expr) -> Option<i64>
     ensures { result ≡ value_on count values.now image e.now }
 {
     match e {
@@ -132,11 +133,11 @@ fn value_on(count: u32, values: &Table, image: u32, e: &Expr) -> Option<i64>
 
 /// The values of an image expression on each of so many images, in order, or nothing where the expression is none: it has
 /// something else than numbers, `xmp_node_num()`, `xmp_num_nodes()`, image variables, operators and conversions, or traps
-/// on some image. The table has the values of the image variables by slot, and an empty row for each other scalar.
+/// on some image. The rows have the values of the image variables by slot, and an empty row for each other scalar.
 pub fn image_values(
     alloc: Global,
     count: u32,
-    values: &Table,
+    values: &Variables,
     e: &Expr,
 ) -> Result<Option<Words>, NoMemory>
     ensures { IfOk result (λ found. found ≡ image_values count values.now e.now) }

@@ -8,19 +8,29 @@
 mod accesses;
 mod asking;
 mod entering;
+mod events;
 mod expressions;
+mod gathering;
 mod images;
 mod keys;
 mod laws;
 mod nearest;
 mod order;
+mod summary;
 mod table;
 mod touches;
+mod variables;
+mod verdict;
+mod writes;
 
 pub use accesses::Accesses;
+pub use events::{Course, Event};
 pub use expressions::image_values;
-pub use laws::{meetings, spots_as_one};
+pub use gathering::add_spot;
+pub use laws::{meetings, plans_have_answers, races, spots_as_one};
 pub use touches::{By, Spot, Subscripts, Touch};
+pub use variables::{Variables, image_variables, in_type};
+pub use verdict::judge;
 
 #[cfg(test)]
 mod tests;

@@ -1,6 +1,8 @@
 // Accesses of coarrays, by what they touch.
+ghost use Rattle.std.specs.Prelude.{◌≡◌, IfOk};
 
 use sqlite_items::Items;
+use std::alloc::{AllocError, Global};
 use xmp_base::Place;
 
 /// The images that touch a spot: one, by its number, or several.
@@ -34,4 +36,18 @@ pub struct Touch {
     pub writes: bool,
     pub spots: Items<Spot>,
     pub at: Place,
+}
+
+impl Touch {
+    /// The same access.
+    pub fn copy(&self, alloc: Global) -> Result<Touch, AllocError>
+        ensures { IfOk result (λ copy. copy ≡ self.now) }
+    {
+        Ok(Touch {
+            array: self.array,
+            writes: self.writes,
+            spots: Items::from_slice(alloc, self.spots.as_slice())?,
+            at: self.at,
+        })
+    }
 }

@@ -1,0 +1,12 @@
+pub mod Reversed
+pub mod FirstOwned
+pub mod Along
+pub mod Falls
+pub mod Inputs
+pub mod Replicated
+pub mod Rooms
+pub mod Advanced
+pub mod Planned
+pub mod Stepping
+pub mod ReadBack
+pub mod Outside

@@ -1,0 +1,10 @@
+use Rattle.std.proofs.Common.{◌≡◌, ◌<◌, ◌∙◌, ap, length, replicate, arith, false}
+use Rattle.xmp_code.proofs.Replicated.{replicated}
+use Rattle.xmp_code.proofs.standing.none_told.Goals as goal
+
+pub returns : goal.returns
+returns c =
+    let l = c.nodes.invariant.long in
+    let all = c.nodes-test.false in
+    let e = c.len-count.ensures in
+    replicated c.nodes.told.items false (λ n h. c.nodes.invariant.each n (omega (arith, h, l, all, e))) ∙ ap (λ n. replicate n false) l

@@ -1,0 +1,12 @@
+pub mod Nodes
+pub mod Lists
+pub mod Casting
+pub mod Rows
+pub mod Reflecting
+pub mod Moving
+pub mod Parts
+pub mod Tasks
+pub mod Lockstep
+pub mod Worlds
+pub mod Stands
+pub mod Answers
