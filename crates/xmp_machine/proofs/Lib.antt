@@ -1,0 +1,4 @@
+pub mod Casts
+pub mod Written
+pub mod Parts
+pub mod Reductions

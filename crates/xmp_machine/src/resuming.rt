@@ -1,0 +1,67 @@
+// How a node goes on from a meeting.
+ghost use Rattle.std.specs.Prelude.{◌≡◌, ◌+◌, ◌<◌, ◌^◌};
+ghost use Rattle.xmp_move.specs.Stores.{packed, write_all};
+ghost use Rattle.xmp_instr.specs.Effects.{text_before};
+ghost use Rattle.xmp_instr.specs.Node.{Over};
+ghost use Rattle.xmp_instr.specs.Resumed.{gone_on};
+ghost use Rattle.xmp_code.specs.declared.state.Mode.TheVariants as mode;
+ghost use Rattle.xmp_code.specs.States.{mark_of, node_of};
+ghost use Rattle.xmp_code.specs.Acting.{Keeps};
+ghost use Rattle.xmp_machine.specs.Resuming.{words_by};
+
+use crate::heard::{words_said, write_all};
+use xmp_base::Place;
+use xmp_code::{Mode, State};
+use xmp_instr::CodeParts;
+use xmp_message::Message;
+use xmp_num::TrapKind;
+
+fn mark_of(mode: Mode) -> Option<usize>
+    ensures { result ≡ mark_of mode }
+{
+    match mode {
+        Mode::Meets(_, mark) => mark,
+        _ => None,
+    }
+}
+
+fn cut(out: &mut Vec<u8>, mark: Option<usize>)
+    ensures { out.new.items ≡ text_before mark out.old.items }
+{
+    if let Some(mark) = mark {
+        out.truncate(mark);
+    }
+}
+
+/// Goes on behind the exchange, without the text of the node's task.
+pub fn go_on(state: &mut State)
+    requires { state.old.place + 1 < 2 ^ 64 }
+    ensures node { node_of state.new ≡ gone_on (node_of state.old) (node_of state.old).state }
+    ensures keeps { Keeps state.old state.new }
+    ensures mode { state.new.talk.mode ≡ mode.Going }
+{
+    cut(&mut state.data.out, mark_of(state.talk.mode));
+    state.talk.mode = Mode::Going;
+    state.talk.moving = None;
+    state.place += 1;
+}
+
+/// Is over by a trap that was said.
+pub fn end_over(state: &mut State, kind: TrapKind, at: Place)
+    ensures node { node_of state.new ≡ record (node_of state.old) { stage = Over kind at } }
+    ensures keeps { Keeps state.old state.new }
+    ensures mode { state.new.talk.mode ≡ mode.Over kind at }
+{
+    cut(&mut state.data.out, mark_of(state.talk.mode));
+    state.talk.mode = Mode::Over(kind, at);
+    state.talk.moving = None;
+}
+
+/// Writes the words of a cast into the slots. The node that says them has them there.
+pub fn write_cast(words: &mut [i64], node: u32, heard: &[Option<Message>], slots: &[u32], from: u32)
+    ensures { words.new ≡ write_all words.old slots.now (words_by node (packed words.old slots.now) heard.now from) }
+{
+    if from != node {
+        write_all(words, slots, words_said(heard, from));
+    }
+}
