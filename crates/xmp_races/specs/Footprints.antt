@@ -1,6 +1,7 @@
 -- What an access touches: on which images, and which cells there. Source: this project, after XcalableMP 1.4, coarrays.
-use Rattle.std.specs.Prelude.{ℕ, suc, ◌+◌, ◌-◌, ◌%◌, ◌==◌, Bool, true, false, not, ◌&&◌, ◌||◌, if◌then◌else◌, List, [], ◌∷◌, map, filter, ℤ, pos, ◌-ℤ◌, int_lt, int_le, int_rem, nat_lt, Option, Some, None, unwrap_or, slice_get}
+use Rattle.std.specs.Prelude.{ℕ, suc, ◌+◌, ◌-◌, ◌%◌, ◌==◌, Bool, true, false, not, ◌&&◌, ◌||◌, if◌then◌else◌, List, [], ◌∷◌, map, filter, ℤ, pos, int_lt, int_le, nat_lt, Option, Some, None, unwrap_or, slice_get}
 use Rattle.std.specs.List.{flat_map, list_any, range_with_len}
+use Rattle.std.specs.Int.{int_rem_euclid}
 use Rattle.std.specs.Ordering.{int_eq}
 use Rattle.xmp_num.specs.declared.types.Ty.TheVariants.{Int}
 use Rattle.xmp_num.specs.Arithmetic.{wrap}
@@ -89,13 +90,16 @@ first_on l image = unwrap_or (slice_get l.from image) (pos 0)
 abbrev pub bound_on : LoopImages → (image : ℕ) → ℤ
 bound_on l image = unwrap_or (slice_get l.to image) (pos 0)
 
+-- whether two numbers are so many whole steps apart
+abbrev pub in_step : ℤ → ℤ → (step : ℕ) → Bool
+in_step a b step = int_eq (int_rem_euclid a (pos step)) (int_rem_euclid b (pos step))
+
 -- Whether a number is a value of the index on an image: the first value, or so many steps behind it, inside the bound. A
 -- step is never 0.
 abbrev pub is_turn : LoopImages → (image : ℕ) → ℤ → Bool
 is_turn l image v =
     nat_lt 0 l.step
-    && (int_le (first_on l image) v
-    && (is_inside l.inclusive v (bound_on l image) && int_eq (int_rem (v -ℤ first_on l image) (pos l.step)) (pos 0)))
+    && (int_le (first_on l image) v && (is_inside l.inclusive v (bound_on l image) && in_step v (first_on l image) l.step))
 
 -- whether an image's number is one of so many
 abbrev pub is_image : (count : ℕ) → ℤ → Bool

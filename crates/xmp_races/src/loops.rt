@@ -1,12 +1,11 @@
 // The counted loops round an access whose bounds are image expressions.
-ghost use Rattle.std.specs.Prelude.{◌≡◌, ◌≤◌, ◌&&◌, ◌++◌, pos, nat_lt, int_rem, true, map, OnOk, IfOk};
+ghost use Rattle.std.specs.Prelude.{◌≡◌, ◌≤◌, ◌&&◌, ◌++◌, pos, nat_lt, true, map, OnOk, IfOk};
 ghost use Rattle.std.specs.Option.{option_copied};
-ghost use Rattle.std.specs.Ordering.{int_eq};
 ghost use Rattle.xmp_num.specs.declared.types.Ty.TheVariants.{Int};
 ghost use Rattle.xmp_num.specs.Arithmetic.{wrap};
 ghost use Rattle.xmp_meaning.specs.Expressions.{natural};
 ghost use Rattle.xmp_meaning.specs.Loops.{is_inside};
-ghost use Rattle.xmp_races.specs.Footprints.{beyond, bound_on, first_on, is_image, is_turn, leaves, left_of_step, loop_of, loops_in};
+ghost use Rattle.xmp_races.specs.Footprints.{beyond, bound_on, first_on, in_step, is_image, is_turn, leaves, left_of_step, loop_of, loops_in};
 
 use crate::setting::LoopImages;
 use sqlite_items::Items;
@@ -77,7 +76,7 @@ impl LoopImages {
         self.step > 0
             && (first <= value
                 && (is_inside(self.inclusive, value, i64::from(self.bound_on(image)))
-                    && is_whole(value - first, self.step)))
+                    && in_step(value, first, self.step)))
     }
 
     /// Whether the index has a value on an image that is the number of none of so many images.
@@ -93,12 +92,13 @@ impl LoopImages {
     }
 }
 
-// Whether a distance is a number of whole steps.
-fn is_whole(distance: i64, step: u32) -> bool
+// Whether two numbers are so many whole steps apart.
+fn in_step(a: i64, b: i64, step: u32) -> bool
     requires { nat_lt 0 step ≡ true }
-    ensures { result ≡ int_eq (int_rem distance (pos step)) (pos 0) }
+    ensures { result ≡ in_step a b step }
 {
-    distance % i64::from(step) == 0
+    let step = i64::from(step);
+    a.rem_euclid(step) == b.rem_euclid(step)
 }
 
 // Whether an index is inside a bound.
