@@ -1,5 +1,5 @@
 -- What happens in each form of expression, and that an expression beside it is that expression.
-use Rattle.std.proofs.Common.{◌≡◌, ◌∙◌, sym, ap, refl, subst, ◌∷◌, ◌++◌, [], ℕ, ℤ, Bool, true, false, List, map, Option, Some, None}
+use Rattle.std.proofs.Common.{◌≡◌, ◌∙◌, sym, ap, refl, subst, ◌∷◌, ◌++◌, [], ℕ, ℤ, Bool, true, false, List, map, Option, Some, None, append-nil}
 use Rattle.xmp_base.specs.declared.place.Place.{Place}
 use Rattle.xmp_num.specs.declared.types.Ty.{Ty}
 use Rattle.xmp_num.specs.declared.types.BinOp.{BinOp}
@@ -123,3 +123,26 @@ events_either a b s = ap (λ (r : Evaluated). r.events s) (at_either Evaluated E
 
 pub events_convert : (ty : Ty) (a : Expr) (s : Setting) → events_of (expr.Convert ty a) s ≡ events_of a s
 events_convert ty a s = ap (λ (r : Evaluated). r.events s) (at_convert Evaluated Element expr_step element_step ty a)
+
+-- ---- by what the code has
+
+pub parts_none : (a : Access) (s : Setting) (given : List Expr) (parts : List (Plan Event)) → given ≡ a.subscripts → a.image ≡ None →
+    parts ≡ events_of_all given s → parts ≡ parts_of a s
+parts_none a s given parts g i e =
+    e ∙ (ap (λ l. events_of_all l s) g
+    ∙ (sym (append-nil (events_of_all a.subscripts s)) ∙ sym (parts_are a s ∙ ap (λ o. events_of_all a.subscripts s ++ events_of_option o s) i)))
+
+pub parts_some : (a : Access) (s : Setting) (given : List Expr) (x : Expr) (parts : List (Plan Event)) (image : Plan Event) → given ≡ a.subscripts →
+    a.image ≡ Some x → parts ≡ events_of_all given s → image ≡ events_of x s → parts ++ image ∷ [] ≡ parts_of a s
+parts_some a s given x parts image g i e h =
+    (λ j. (e ∙ ap (λ l. events_of_all l s) g) j ++ h j ∷ [])
+    ∙ sym (parts_are a s ∙ ap (λ o. events_of_all a.subscripts s ++ events_of_option o s) i)
+
+pub choose_by : (s : Setting) (e a b c a1 b1 a2 c1 a3 : Expr) (first left right : Plan Event) → e ≡ expr.Choose a b c →
+    a1 ≡ a → b1 ≡ b → a2 ≡ a → c1 ≡ c → a3 ≡ a → first ≡ events_of a1 s → left ≡ events_of b1 (where_chosen s a2 true) →
+    right ≡ events_of c1 (where_chosen s a3 false) → in_sequence (first ∷ branch left right ∷ []) ≡ events_of e s
+choose_by s e a b c a1 b1 a2 c1 a3 first left right i g h j k l x y z =
+    let u : first ≡ events_of a s = x ∙ ap (λ q. events_of q s) g in
+    let v : left ≡ events_of b (where_chosen s a true) = y ∙ (λ n. events_of (h n) (where_chosen s (j n) true)) in
+    let w : right ≡ events_of c (where_chosen s a false) = z ∙ (λ n. events_of (k n) (where_chosen s (l n) false)) in
+    (λ n. in_sequence (u n ∷ branch (v n) (w n) ∷ [])) ∙ sym (ap (λ q. events_of q s) i ∙ events_choose a b c s)

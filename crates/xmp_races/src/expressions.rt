@@ -96,16 +96,24 @@ fn events_of_cell(alloc: Global, s: &Site<'_>, a: &Access) -> Result<Course, NoM
 pub fn events_of_parts(alloc: Global, s: &Site<'_>, a: &Access) -> Result<Items<Course>, NoMemory>
     ensures { IfOk result (λ parts. map plan_of parts ≡ parts_of a.now (setting_of s.now)) }
 {
-    let mut parts = events_of_each(alloc, s, a.subscripts.as_slice())?;
-    if let Some(e) = &a.image {
-        match events(alloc, s, e.get()) {
-            Ok(image) => parts.push(image)?,
+    let parts = events_of_each(alloc, s, a.subscripts.as_slice())?;
+    match &a.image {
+        None => Ok(parts),
+        Some(e) => match events(alloc, s, e.get()) {
+            Ok(image) => one_more(parts, image),
             Err(e) => {
                 std::mem::drop(parts);
-                return Err(e);
+                Err(e)
             }
-        }
+        },
     }
+}
+
+// Parts, with one more behind them.
+fn one_more(mut parts: Items<Course>, last: Course) -> Result<Items<Course>, NoMemory>
+    ensures { IfOk result (λ all. map plan_of all ≡ map plan_of parts ++ plan_of last ∷ []) }
+{
+    parts.push(last)?;
     Ok(parts)
 }
 

@@ -97,22 +97,34 @@ fn first_on_paths(
     ensures { IfOk result (λ found. IsFirst (BreaksIn (plan_of_program p.now)) found) }
 {
     let course = course_by(alloc, p, values)?;
-    judge(alloc, &course)
+    let found = judge(alloc, &course);
+    std::mem::drop(course);
+    found
+}
+
+// The first of the rules of a program whose image variables are these.
+fn first_by(alloc: Global, p: &ProgParts, values: &Variables) -> Result<Option<Refusal>, NoMemory>
+    requires { values.now ≡ image_variables p.now }
+    ensures { IfOk result (λ found. IsFirst (CoarrayBreaks p.now) found) }
+{
+    let path = first_on_paths(alloc, p, values)?;
+    let stop = first_stop(alloc, p.grid.count(), values, &p.body)?;
+    Ok(earlier(path, stop))
 }
 
 // The first of the rules of a program.
-fn check_parts(alloc: Global, p: &ProgParts) -> Result<Option<Refusal>, NoMemory>
+fn first_of_rules(alloc: Global, p: &ProgParts) -> Result<Option<Refusal>, NoMemory>
     ensures { IfOk result (λ found. IsFirst (CoarrayBreaks p.now) found) }
 {
     let values = image_variables(alloc, p)?;
-    let path = first_on_paths(alloc, p, &values)?;
-    let stop = first_stop(alloc, p.grid.count(), &values, &p.body)?;
-    Ok(earlier(path, stop))
+    let found = first_by(alloc, p, &values);
+    std::mem::drop(values);
+    found
 }
 
 /// The first of the rules C1 to C5 that a coarray program breaks, or none: the least place, and there the least number.
 pub fn check(alloc: Global, p: &Prog) -> Result<Option<Refusal>, NoMemory>
     ensures { IfOk result (λ found. IsFirst (CoarrayBreaks p.now) found) }
 {
-    check_parts(alloc, p.parts())
+    first_of_rules(alloc, p.parts())
 }

@@ -229,16 +229,31 @@ fn declare_program(
     declare_stmt(alloc, p, writes, &p.body, values)
 }
 
+// The image variables of a program that writes its scalars so often.
+fn by_writes(alloc: Global, p: &ProgParts, writes: &Writes) -> Result<Variables, NoMemory>
+    requires { IsCounted p.now writes.now }
+    ensures { IfOk result (λ values. values ≡ image_variables p.now) }
+{
+    let mut values = match Variables::new(alloc, p.scalars.as_slice()) {
+        Ok(values) => values,
+        Err(_) => return Err(NoMemory),
+    };
+    match declare_program(alloc, p, writes, &mut values) {
+        Ok(()) => Ok(values),
+        Err(e) => {
+            std::mem::drop(values);
+            Err(e)
+        }
+    }
+}
+
 /// The image variables of a program: in the order of the declarations, file scope first, each scalar whose initialiser is
 /// an image expression with the image variables so far, and that is written nowhere else.
 pub fn image_variables(alloc: Global, p: &ProgParts) -> Result<Variables, NoMemory>
     ensures { IfOk result (λ values. values ≡ image_variables p.now) }
 {
     let writes = Writes::of_program(alloc, p)?;
-    let mut values = match Variables::new(alloc, p.scalars.as_slice()) {
-        Ok(values) => values,
-        Err(_) => return Err(NoMemory),
-    };
-    declare_program(alloc, p, &writes, &mut values)?;
-    Ok(values)
+    let values = by_writes(alloc, p, &writes);
+    std::mem::drop(writes);
+    values
 }
