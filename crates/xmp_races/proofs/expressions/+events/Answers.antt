@@ -38,8 +38,8 @@ events_of_parts-returns-in-None t c =
     parts_none c.args.a.now (setting_of c.args.s.now) c.as_slice.result.now (map plan_of c.in_ok-parts.parts) c.as_slice.ensures c.in-None.is
     c.in_ok-parts.ensures
 
-pub events_of_parts-returns-in-Ok-in-Some : goal.events_of_parts-returns-in-Ok-in-Some
-events_of_parts-returns-in-Ok-in-Some t c =
+pub events_of_parts-returns-in-Ok : goal.events_of_parts-returns-in-Ok
+events_of_parts-returns-in-Ok t c =
     IfOk-weaker c.one_more.result _ _
     (λ all h. h
     ∙ parts_some c.args.a.now (setting_of c.args.s.now) c.as_slice.result.now c.get.result.now (map plan_of c.in_ok-parts.parts) _
