@@ -1,5 +1,5 @@
 #!/usr/bin/env python3
-"""Runs the texts of LANGUAGE.md, ../examples/forms.md and flow.md: check_language.py [PATH OF xmpc], which is ../crates/xmpc/out/xmpc beside this
+"""Runs the texts of LANGUAGE.md, ERRORS.md, GUIDE.md, and names.md, forms.md and flow.md of ../examples: check_language.py [PATH OF xmpc], which is ../crates/xmpc/out/xmpc beside this
 file where no path is given.
 
 The line above a fenced block, one code span, says what becomes of the text in it:
@@ -12,7 +12,7 @@ The line above a fenced block, one code span, says what becomes of the text in i
 
 A block 'input' behind a serial one is its input. A block of python is an expression whose value is the text. Behind 'text NAME' stands
 a text that such expressions may name; it isn't run. A block with no such line above it is only shown. Each rule that a table of
-LANGUAGE.md lists must be broken by some text of it.
+LANGUAGE.md or a heading of ERRORS.md names must be broken by some text of that page.
 """
 import os
 import re
@@ -20,6 +20,7 @@ import subprocess
 import sys
 import tempfile
 
+PAGES = ("LANGUAGE.md", "ERRORS.md", "GUIDE.md", "../examples/names.md", "../examples/forms.md", "../examples/flow.md")
 HERE = os.path.dirname(os.path.abspath(__file__))
 HEAD = re.compile(r"((?:--\w+=\d+ ?)*)(serial ?)?((?:--\w+=\d+ ?)*)(accepted|refused .*|trapped .*|out of steps|)$")
 STATUS = {"accepted": 0, "refused": 3, "trapped": 1, "out": 2}
@@ -97,7 +98,7 @@ def judge(xmpc, name, folder):
                 wrong += 1
                 print(f"{name}:{it['line']}: {form}: wanted {due}, and got {got}")
     broken = {it["end"].split(" ")[1] for it in all_texts if it["end"].startswith("refused")}
-    listed = set(re.findall(r"^\| ([LESNMFC]\d+) \|", page, re.M))
+    listed = {row or heading for row, heading in re.findall(r"^(?:\| ([LESNMFC]\d+) \||### ([LESNMFC]\d+)$)", page, re.M)}
     if listed and listed != broken:
         wrong += 1
         print(f"{name}: rules without a text that breaks them, or without a row: {' '.join(sorted(listed ^ broken))}")
@@ -110,7 +111,7 @@ def main():
     if not os.access(xmpc, os.X_OK):
         sys.exit(f"check_language: there is no program {xmpc}")
     with tempfile.TemporaryDirectory() as folder:
-        if sum([judge(xmpc, name, folder) for name in ("LANGUAGE.md", "../examples/forms.md", "../examples/flow.md")]):
+        if sum([judge(xmpc, name, folder) for name in PAGES]):
             sys.exit(1)
 
 

@@ -1,10 +1,11 @@
 #!/bin/bash
 # Checks and runs every example: check.sh [PATH OF xmpc], which is ../crates/xmpc/out/xmpc beside this file where no path is given.
 # Each NAME.c has to be accepted, and to print the bytes of NAME.out under serial, with NAME.in as its input where that is there.
+# Where NAME.err is there, serial has to say its line on standard error, and check does so too where it is a refusal.
 # A program over nodes p(*) takes its nodes from the command line: it has to print the same on 1 and on 3 of them.
 folder=$(dirname "$0")
 xmpc=${1:-$folder/../crates/xmpc/out/xmpc}
-printed=$(mktemp) && trap 'rm -f "$printed"' EXIT || exit 1
+printed=$(mktemp) && said=$(mktemp) && trap 'rm -f "$printed" "$said"' EXIT || exit 1
 right=0 wrong=0
 [ -x "$xmpc" ] || { echo "examples: there is no program $xmpc"; exit 1; }
 
@@ -13,25 +14,34 @@ differs() {
   wrong=$((wrong + 1))
 }
 
+# The status that goes with what a program says on standard error: nothing, a refusal, or a trap.
+status_of() {
+  case $1 in '') echo 0 ;; refused*) echo 3 ;; trapped*) echo 1 ;; *) echo 2 ;; esac
+}
+
+# One run of an example: its form and words, what it has to print, and what it has to say on standard error.
+one() {
+  local wanted=$1 line=$2
+  shift 2
+  "$xmpc" "$@" >"$printed" 2>"$said"
+  local status=$?
+  if [ $status -ne "$(status_of "$line")" ] || ! cmp -s "$printed" "$wanted" || [ "$(cat "$said")" != "$line" ]; then
+    differs "$* has status $status, says $(cat "$said") and prints:"
+    cat "$printed"
+    return 1
+  fi
+}
+
 # One example, with options for both forms.
 example() {
-  local file=$1 name=${1%.c} input=()
+  local file=$1 name=${1%.c} input=() line=''
   shift
   [ -f "$name.in" ] && input=("--input=$name.in")
-  "$xmpc" check "$@" "$file" >"$printed" 2>&1
-  local status=$?
-  if [ $status -ne 0 ] || [ "$(cat "$printed")" != accepted ]; then
-    differs "check $* $file has status $status and says $(cat "$printed")"
-    return
-  fi
-  "$xmpc" serial "$@" "${input[@]}" "$file" >"$printed" 2>&1
-  status=$?
-  if [ $status -ne 0 ] || ! cmp -s "$printed" "$name.out"; then
-    differs "serial $* $file has status $status and prints:"
-    cat "$printed"
-    return
-  fi
-  right=$((right + 1))
+  [ -f "$name.err" ] && line=$(cat "$name.err")
+  case $line in
+    refused*) one /dev/null "$line" check "$@" "$file" && one /dev/null "$line" serial "$@" "$file" && right=$((right + 1)) ;;
+    *) one <(echo accepted) '' check "$@" "$file" && one "$name.out" "$line" serial "$@" "${input[@]}" "$file" && right=$((right + 1)) ;;
+  esac
 }
 
 for file in "$folder"/*.c; do

@@ -68,7 +68,7 @@ const SQUARES: &[u8] =
 const STENCIL: &[u8] =
     b"#define N 8\nint a[N], b[N], i, s;\n#pragma xmp nodes p[4]\n#pragma xmp template t[N]\n#pragma xmp distribute t[block] onto p\n#pragma xmp align a[k] with t[k]\n#pragma xmp align b[k] with t[k]\n#pragma xmp shadow a[1]\nint main() {\n#pragma xmp loop (i) on t[i]\n  for (i = 0; i < N; i++) a[i] = i;\n#pragma xmp reflect (a)\n#pragma xmp loop (i) on t[i] reduction(+:s)\n  for (i = 1; i < N - 1; i++) { b[i] = a[i-1] + a[i+1]; s += b[i]; }\n#pragma xmp task on p[0]\n  printf(\"%d\\n\", s);\n}\n";
 
-const VERDICTS: [(&[u8], Option<u32>, Is); 40] = [
+const VERDICTS: [(&[u8], Option<u32>, Is); 50] = [
     // texts that are no program from their start, or whose end comes too early
     (b"", None, Is::Breaks('S', 1, 1, 1)),
     (b"#pragma xmp nodes p[", None, Is::Breaks('S', 1, 1, 21)),
@@ -199,6 +199,57 @@ const VERDICTS: [(&[u8], Option<u32>, Is); 40] = [
         b"int c[4];\nint main() { return xmp_node_num(); }",
         Some(2),
         Is::Breaks('N', 1, 2, 21),
+    ),
+    // reads of copies, and what speaks before them; the least rule at one place
+    (
+        b"#define N 8\nint a[N], b[N], i, s;\n#pragma xmp nodes p[4]\n#pragma xmp template t[N]\n#pragma xmp distribute t[block] onto p\n#pragma xmp align a[k] with t[k]\n#pragma xmp align b[k] with t[k]\n#pragma xmp shadow a[1]\nint main() {\n#pragma xmp loop (i) on t[i]\n  for (i = 0; i < N; i++) a[i] = i;\n#pragma xmp loop (i) on t[i] reduction(+:s)\n  for (i = 1; i < N - 1; i++) { b[i] = a[i-1] + a[i+1]; s += b[i]; }\n#pragma xmp task on p[0]\n  printf(\"%d\\n\", s);\n}\n",
+        None,
+        Is::Breaks('F', 3, 13, 40),
+    ),
+    (
+        b"#define N 8\nint a[N], b[N], i, s;\n#pragma xmp nodes p[4]\n#pragma xmp template t[N]\n#pragma xmp distribute t[block] onto p\n#pragma xmp align a[k] with t[k]\n#pragma xmp align b[k] with t[k]\n#pragma xmp shadow a[1]\nint main() {\n#pragma xmp loop (i) on t[i]\n  for (i = 0; i < N; i++) a[i] = i;\n#pragma xmp reflect (a)\n#pragma xmp loop (i) on t[i] reduction(+:s)\n  for (i = 1; i < N - 1; i++) { a[i] = a[i-1] + 1; s += a[i]; }\n#pragma xmp task on p[0]\n  printf(\"%d\\n\", s);\n}\n",
+        None,
+        Is::Breaks('F', 4, 14, 40),
+    ),
+    (
+        b"#define N 8\nint a[N], b[N], i, s, x;\n#pragma xmp nodes p[4]\n#pragma xmp template t[N]\n#pragma xmp distribute t[block] onto p\n#pragma xmp align a[k] with t[k]\n#pragma xmp align b[k] with t[k]\n#pragma xmp shadow a[1]\nint main() {\n#pragma xmp loop (i) on t[i]\n  for (i = 0; i < N; i++) a[i] = i;\n#pragma xmp reflect (a)\n  for (x = 0; x < 2; x++) {\n#pragma xmp loop (i) on t[i]\n  for (i = 1; i < 7; i++) b[i] = a[i-1];\n#pragma xmp loop (i) on t[i]\n  for (i = 1; i < 7; i++) a[i] = b[i];\n  }\n#pragma xmp task on p[0]\n  printf(\"%d\\n\", s);\n}\n",
+        None,
+        Is::Breaks('F', 3, 15, 34),
+    ),
+    (
+        b"int main() { printf(\"%d\\n\", 7); }",
+        Some(2),
+        Is::Breaks('F', 7, 1, 14),
+    ),
+    (
+        b"#define N 8\nint a[N], b[N], i, s;\n#pragma xmp nodes p[4]\n#pragma xmp template t[N]\n#pragma xmp distribute t[gblock({1, 2})] onto p\n#pragma xmp align a[k] with t[k]\n#pragma xmp align b[k] with t[k]\n#pragma xmp shadow a[1]\nint main() {\n#pragma xmp loop (i) on t[i]\n  for (i = 0; i < N; i++) a[i] = i;\n#pragma xmp loop (i) on t[i] reduction(+:s)\n  for (i = 1; i < N - 1; i++) { b[i] = a[i-1] + a[i+1]; s += b[i]; }\n#pragma xmp task on p[0]\n  printf(\"%d\\n\", s);\n}\n",
+        None,
+        Is::Breaks('M', 4, 5, 13),
+    ),
+    (
+        b"#pragma xmp nodes p[2]\n#pragma xmp template t[8]\n#pragma xmp distribute t[block] onto p\nint i, s;\nint f(int n) { while (n > 1) n -= 1; return n; }\nint main() {\n#pragma xmp loop (i) on t[i]\nfor (i = f(1); i < 8; i++) ;\n}",
+        None,
+        Is::Breaks('F', 9, 8, 10),
+    ),
+    (
+        b"#pragma xmp nodes p[2]\n#pragma xmp template t[8]\n#pragma xmp distribute t[block] onto p\nint i, s;\nint f(int n) { while (n > 1) n -= 1; return n; }\nint main() {\n#define R s, s\n#pragma xmp task on p[0]\ns = 1;\n#pragma xmp loop (i) on t[i] reduction(+:R)\nfor (i = 0; i < 8; i++) s += 1;\n}",
+        None,
+        Is::Breaks('F', 1, 10, 42),
+    ),
+    (
+        b"#pragma xmp nodes p[2]\n#pragma xmp template t[8]\n#pragma xmp distribute t[block] onto p\nint i, s;\nint f(int n) { while (n > 1) n -= 1; return n; }\nint main() {\n#define R s, s\n#pragma xmp loop (i) on t[i] reduction(+:R)\nfor (i = 0; i < 8; i++) s += 1;\n}",
+        None,
+        Is::Breaks('F', 5, 8, 42),
+    ),
+    (
+        b"int main() { printf(\"%d\\n\", 7); }",
+        Some(1),
+        Is::Program(1),
+    ),
+    (
+        b"#define N 8\nint a[N], b[N], i, s, x;\n#pragma xmp nodes p[4]\n#pragma xmp template t[N]\n#pragma xmp distribute t[block] onto p\n#pragma xmp align a[k] with t[k]\n#pragma xmp align b[k] with t[k]\n#pragma xmp shadow a[1]\nint main() {\n#pragma xmp loop (i) on t[i]\n  for (i = 0; i < N; i++) a[i] = i;\n  for (x = 0; x < 2; x++) {\n#pragma xmp reflect (a)\n#pragma xmp loop (i) on t[i]\n  for (i = 1; i < 7; i++) b[i] = a[i-1];\n#pragma xmp loop (i) on t[i]\n  for (i = 1; i < 7; i++) a[i] = b[i];\n  }\n#pragma xmp task on p[0]\n  printf(\"%d\\n\", s);\n}\n",
+        None,
+        Is::Program(4),
     ),
     // numbers of nodes
     (

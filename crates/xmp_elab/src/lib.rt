@@ -2,6 +2,8 @@
 //! none, the first rule of mappings.
 #![tactic(auto)]
 
+#[cfg(test)]
+mod built;
 mod laws;
 #[cfg(test)]
 mod mapping_texts;

@@ -1,5 +1,5 @@
 -- The events of a statement from those of its parts, as the code has them.
-use Rattle.std.proofs.Common.{◌≡◌, ◌∙◌, sym, ap, IfOk, Result, ◌∷◌, [], List, Option, map}
+use Rattle.std.proofs.Common.{◌≡◌, ◌∙◌, sym, ap, IfOk, Result, ◌∷◌, [], List, map}
 use Rattle.std.proofs.lemmas.Result.{IfOk-weaker}
 use Rattle.xmp_base.specs.declared.place.Place.{Place}
 use Rattle.xmp_paths.specs.Plans.{Plan, branch, in_order}
@@ -8,6 +8,7 @@ use Rattle.xmp_paths.specs.declared.event.Event.{Event}
 use Rattle.xmp_paths.specs.declared.event.Flow.{Flow}
 use Rattle.xmp_prog.specs.declared.expressions.Expr.{Expr}
 use Rattle.xmp_prog.specs.declared.statements.LoopDirective.{LoopDirective}
+use Rattle.xmp_prog.specs.declared.statements.LoopHead.{LoopHead}
 use Rattle.xmp_prog.specs.declared.statements.Stmt.{Stmt}
 use Rattle.xmp_prog.specs.declared.statements.Stmt.TheVariants as stmt
 use Rattle.xmp_prog.specs.declared.statements.Task.{Task}
@@ -15,8 +16,8 @@ use Rattle.xmp_flow.specs.Setting.{Setting, in_task, wrong_where}
 use Rattle.xmp_flow.specs.Reads.{reads_of}
 use Rattle.xmp_flow.specs.PlainEvents.{in_form}
 use Rattle.xmp_flow.specs.LoopEvents.{loop_events}
-use Rattle.xmp_flow.specs.Statements.{events_of, if_form}
-use Rattle.xmp_flow.proofs.FormLaws.{events_block, events_if, events_loop, events_tasks}
+use Rattle.xmp_flow.specs.Statements.{counted_events, events_of, if_form, while_events}
+use Rattle.xmp_flow.proofs.FormLaws.{events_block, events_counted, events_if, events_loop, events_tasks, events_while}
 
 module _ {E : Type 0} (s : Setting) (x : Stmt) (result : Result Flow E) where
   -- what is known of the events of a form is known of the statement that has it
@@ -38,14 +39,21 @@ module _ {E : Type 0} (s : Setting) (x : Stmt) (result : Result Flow E) where
       IfOk result (λ flow. plan_of flow ≡ loop_events d given (events_of given) s) → IfOk result (λ flow. plan_of flow ≡ events_of x s)
   from_loop d body given i g = from_form (stmt.Loop d body) _ i (ap (λ y. loop_events d y (events_of y) s) g ∙ sym (events_loop d body s))
 
-  pub from_if : (test : Expr) (a b g h m n : Stmt) (left right : Flow) (form : Option (List Expr)) → x ≡ stmt.If test a b →
-      g ≡ a → h ≡ b → m ≡ a → n ≡ b → plan_of left ≡ events_of g s → plan_of right ≡ events_of h s → form ≡ if_form s test m n →
-      IfOk result (λ flow. plan_of flow ≡ in_form s (in_order (reads_of test s ∷ branch (plan_of left) (plan_of right) ∷ [])) form) →
+  pub from_if : (test : Expr) (a b g h : Stmt) → x ≡ stmt.If test a b → g ≡ a → h ≡ b →
+      IfOk result (λ flow. plan_of flow ≡ in_form s (in_order (reads_of test s ∷ branch (events_of g s) (events_of h s) ∷ [])) (if_form s test g h)) →
       IfOk result (λ flow. plan_of flow ≡ events_of x s)
-  from_if test a b g h m n left right form i ga hb ma nb l r f =
+  from_if test a b g h i ga hb =
       from_form (stmt.If test a b) _ i
-      (ap (λ p. in_form s (in_order (reads_of test s ∷ branch p (plan_of right) ∷ [])) form) (l ∙ ap (λ y. events_of y s) ga)
-      ∙ (ap (λ p. in_form s (in_order (reads_of test s ∷ branch (events_of a s) p ∷ [])) form) (r ∙ ap (λ y. events_of y s) hb)
-      ∙ (ap (λ o. in_form s (in_order (reads_of test s ∷ branch (events_of a s) (events_of b s) ∷ [])) o)
-      (f ∙ (ap (λ y. if_form s test y n) ma ∙ ap (λ y. if_form s test a y) nb))
-      ∙ sym (events_if test a b s))))
+      (ap (λ y. in_form s (in_order (reads_of test s ∷ branch (events_of y s) (events_of h s) ∷ [])) (if_form s test y h)) ga
+      ∙ (ap (λ y. in_form s (in_order (reads_of test s ∷ branch (events_of a s) (events_of y s) ∷ [])) (if_form s test a y)) hb
+      ∙ sym (events_if test a b s)))
+
+  pub from_while : (test : Expr) (body given : Stmt) (at : Place) → x ≡ stmt.While test body at → given ≡ body →
+      IfOk result (λ flow. plan_of flow ≡ while_events test (events_of given) at s) → IfOk result (λ flow. plan_of flow ≡ events_of x s)
+  from_while test body given at i g =
+      from_form (stmt.While test body at) _ i (ap (λ y. while_events test (events_of y) at s) g ∙ sym (events_while test body at s))
+
+  pub from_counted : (head : LoopHead) (body given : Stmt) → x ≡ stmt.Counted head body → given ≡ body →
+      IfOk result (λ flow. plan_of flow ≡ counted_events head (events_of given) s) → IfOk result (λ flow. plan_of flow ≡ events_of x s)
+  from_counted head body given i g =
+      from_form (stmt.Counted head body) _ i (ap (λ y. counted_events head (events_of y) s) g ∙ sym (events_counted head body s))

@@ -1,25 +1,23 @@
 -- The parts of a loop directive's events by the lists and tables of the code are those by the directive and its body.
-use Rattle.std.proofs.Common.{◌≡◌, IfOk, Result, eqb, false, ◌∙◌, refl, ap, ℕ, Bool, true, ◌++◌, ◌∷◌, [], List, map, Some}
+use Rattle.std.proofs.Common.{◌≡◌, sym, IfOk, Result, eqb, false, ◌∙◌, refl, ap, ℕ, Bool, true, ◌++◌, ◌∷◌, [], List, Some}
 use Rattle.std.proofs.Math.Path.{fun_ext}
 use Rattle.std.proofs.lemmas.Result.{IfOk-weaker}
-use Rattle.std.specs.Prelude.{◌==◌, ◌||◌}
-use Rattle.std.specs.List.{filter, find}
+use Rattle.std.specs.Prelude.{◌||◌}
+use Rattle.std.specs.List.{filter}
 use Rattle.xmp_prog.specs.Numbers.{is_in}
-use Rattle.xmp_loops.proofs.RoleLaws.{before_role}
 use Rattle.xmp_flow.specs.Statements.{events_of}
 use Rattle.xmp_paths.specs.Plans.{Plan, loop, in_order}
 use Rattle.xmp_paths.specs.declared.event.Event.{Event}
 use Rattle.xmp_prog.specs.Statements.{indices_of}
 use Rattle.xmp_prog.specs.declared.statements.LoopDirective.{LoopDirective}
 use Rattle.xmp_prog.specs.declared.statements.Stmt.{Stmt}
-use Rattle.xmp_meaning.specs.Writes.{scalars_written, arrays_written}
+use Rattle.xmp_meaning.specs.Writes.{scalars_written}
 use Rattle.xmp_paths.specs.Flows.{plan_of}
 use Rattle.xmp_paths.specs.declared.event.Flow.{Flow}
-use Rattle.std.proofs.lemmas.List.{append_assoc, map-append}
 use Rattle.xmp_loops.specs.Objects.{all_nodes}
 use Rattle.xmp_flow.specs.Setting.{Setting, wrong_where}
 use Rattle.xmp_flow.specs.LoopEvents.{at_bounds, loop_events, nest_events, reduction_events, within}
-use Rattle.xmp_loops.specs.Roles.{before_iterations, is_own, own_scalars, role_by, role_in, scalars_of}
+use Rattle.xmp_loops.specs.Roles.{before_iterations, is_own, own_scalars, role_in, scalars_of}
 use Rattle.xmp_flow.specs.Ready.{IsReady, before_turns, ends_with, turn_of}
 use Rattle.xmp_loops.specs.Tables.{role_at}
 use Rattle.xmp_flow.specs.declared.ready.Ready.{Ready}
@@ -29,11 +27,7 @@ use Rattle.xmp_loops.specs.declared.role.Role.{Role}
 abbrev pub inside_of : Setting → LoopDirective → (ℕ → Role) → (ℕ → Bool) → Setting
 inside_of s d f g = record s { nodes = all_nodes s.program; inside = true; over = Some d; roles = f; written = g }
 
--- a role at the bounds, as the code puts it
-pub bound_role : (d : LoopDirective) (body : Stmt) (n : ℕ) →
-    role_by (find (λ r. r.variable.number == n) d.reductions) (is_in (indices_of d.nest) n) false ≡ before_iterations (role_in d body n)
-bound_role d body n = before_role (find (λ r. r.variable.number == n) d.reductions) (is_in (indices_of d.nest) n) (is_in (scalars_written body) n)
-
+-- a set that nothing was in before
 pub in_either : (a : List ℕ) (m : ℕ) → (is_in a m || is_in [] m) ≡ is_in a m
 in_either [] m = refl
 in_either (k ∷ ks) m = or_nothing (eqb k m || is_in ks m)
@@ -41,26 +35,6 @@ in_either (k ∷ ks) m = or_nothing (eqb k m || is_in ks m)
     or_nothing : (b : Bool) → (b || false) ≡ b
     or_nothing true = refl
     or_nothing false = refl
-
--- what stands ready, by what each call gave
-pub ready_by : (d : LoopDirective) (body : Stmt) (r : Ready) (s a w scalars arrays : List ℕ) → s ≡ [] → a ≡ [] → w ≡ [] →
-    r.scalars ≡ s ++ scalars_written body → r.arrays ≡ a ++ arrays_written body → scalars ≡ r.scalars → arrays ≡ r.arrays →
-    ((n : ℕ) → role_at r.roles n ≡ role_by (find (λ r. r.variable.number == n) d.reductions) (is_in (indices_of d.nest) n) (is_in scalars n)) →
-    ((n : ℕ) → role_at r.before n ≡ role_by (find (λ r. r.variable.number == n) d.reductions) (is_in (indices_of d.nest) n) false) →
-    ((n : ℕ) → is_in r.written n ≡ (is_in arrays n || is_in w n)) → IsReady r d body
-ready_by d body r s a w scalars arrays i j k e f g h x y z =
-    let u : r.scalars ≡ scalars_written body = e ∙ ap (λ l. l ++ scalars_written body) i in
-    let v : r.arrays ≡ arrays_written body = f ∙ ap (λ l. l ++ arrays_written body) j in record {
-      scalars = u;
-      arrays = v;
-      roles = λ n. x n ∙ ap (λ l. role_by (find (λ r. r.variable.number == n) d.reductions) (is_in (indices_of d.nest) n) (is_in l n)) (g ∙ u);
-      before = λ n. y n ∙ bound_role d body n;
-      written = λ n. z n ∙ (ap (λ l. is_in l n || is_in w n) (h ∙ v) ∙ (ap (λ l. is_in (arrays_written body) n || is_in l n) k ∙ in_either (arrays_written body) n));
-    }
-
--- two more parts
-two_more : (parts one two : List Flow) (x y : Flow) → one ≡ parts ++ x ∷ [] → two ≡ one ++ y ∷ [] → map plan_of two ≡ map plan_of parts ++ plan_of x ∷ plan_of y ∷ []
-two_more parts one two x y e f = ap (λ l. map plan_of l) (f ∙ (ap (λ l. l ++ y ∷ []) e ∙ append_assoc parts (x ∷ []) (y ∷ []))) ∙ map-append plan_of parts (x ∷ y ∷ [])
 
 module _ (r : Ready) (d : LoopDirective) (body : Stmt) (q : IsReady r d body) where
   pub own_ready : filter (λ slot. is_own (role_at r.roles slot)) r.scalars ≡ own_scalars d body
@@ -105,18 +79,13 @@ module _ (r : Ready) (d : LoopDirective) (body : Stmt) (q : IsReady r d body) wh
   turn_ready s inner turn i e = ap (λ (t : Plan Event). loop_events d body (λ x. t) s) (e ∙ ap (λ x. events_of body x) i)
 
   -- the events of the directive, by what each call gave
-  pub around_by : (s : Setting) (own again once scalars arrays : List ℕ) (parts one two : List Flow) (turn turns last : Flow) (events flow : Plan Event) →
-      scalars ≡ r.scalars → own ≡ filter (λ slot. is_own (role_at r.roles slot)) scalars → map plan_of parts ≡ before_turns s d body →
-      again ≡ own → plan_of turn ≡ turn_of s again events → plan_of turns ≡ loop (plan_of turn) →
-      once ≡ own → arrays ≡ r.arrays → plan_of last ≡ in_order (ends_with s d once arrays) →
-      one ≡ parts ++ turns ∷ [] → two ≡ one ++ last ∷ [] → flow ≡ in_order (map plan_of two) → flow ≡ loop_events d body (λ x. events) s
-  around_by s own again once scalars arrays parts one two turn turns last events flow c o p a t l b v e x y f =
-      f ∙ (ap in_order (two_more parts one two turns last x y)
-      ∙ (ap (λ u. in_order (map plan_of parts ++ u ∷ plan_of last ∷ [])) l
-      ∙ around_ready s own (map plan_of parts) (plan_of turn) (plan_of last) events
-      (o ∙ ap (λ (k : List ℕ). filter (λ slot. is_own (role_at r.roles slot)) k) c) p
-      (t ∙ ap (λ k. turn_of s k events) a)
-      (e ∙ (ap (λ k. in_order (ends_with s d k arrays)) b ∙ ap (λ k. in_order (ends_with s d own k)) v))))
+  pub around_by : (s : Setting) (own arrays : List ℕ) (parts : List (Plan Event)) (turns events flow : Plan Event) →
+      own ≡ own_scalars d body → parts ≡ before_turns s d body → turns ≡ loop (turn_of s own events) → arrays ≡ r.arrays →
+      flow ≡ in_order (parts ++ turns ∷ in_order (ends_with s d own arrays) ∷ []) → flow ≡ loop_events d body (λ x. events) s
+  around_by s own arrays parts turns events flow o p t a f =
+      f ∙ (ap (λ x. in_order (parts ++ x ∷ in_order (ends_with s d own arrays) ∷ [])) t
+      ∙ (ap (λ l. in_order (parts ++ loop (turn_of s own events) ∷ in_order (ends_with s d own l) ∷ [])) a
+      ∙ around_ready s own parts (turn_of s own events) (in_order (ends_with s d own r.arrays)) events (o ∙ sym own_ready) p refl refl))
 
   -- the events of a directive, from those of its body where the code stands in it
   pub directive_by : {E : Type 0} (s bounds inner : Setting) (turn : Plan Event) (result : Result Flow E) →

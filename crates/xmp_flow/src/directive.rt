@@ -1,5 +1,5 @@
 // The events of a loop directive round its body.
-ghost use Rattle.std.specs.Prelude.{◌≡◌, ◌==◌, ◌||◌, ◌++◌, ◌∷◌, [], ℕ, map, OnOk, IfOk};
+ghost use Rattle.std.specs.Prelude.{◌≡◌, ◌==◌, ◌||◌, ◌++◌, ◌∷◌, [], ℕ, map, not, OnOk, IfOk};
 ghost use Rattle.std.specs.List.{filter};
 ghost use Rattle.xmp_paths.specs.Plans.{emit, in_order};
 ghost use Rattle.xmp_paths.specs.declared.event.Event.TheVariants.{Read};
@@ -9,19 +9,41 @@ ghost use Rattle.xmp_paths.specs.Flows.{plan_of};
 ghost use Rattle.xmp_loops.specs.Objects.{all_nodes, scalar_object};
 ghost use Rattle.xmp_flow.specs.Setting.{current_on_all, stale_on_all, wrong_where};
 ghost use Rattle.xmp_flow.specs.LoopEvents.{head_events, nest_events, reduction_events, shadow_stale};
+ghost use Rattle.xmp_loops.specs.Bounds.{is_bound};
 ghost use Rattle.xmp_loops.specs.Roles.{is_own};
+ghost use Rattle.xmp_flow.specs.Reads.{reads_of};
 ghost use Rattle.xmp_flow.specs.Views.{KnowsAll, setting_of};
 ghost use Rattle.xmp_loops.specs.Tables.{role_at};
 
 use crate::elements::home_of;
-use crate::expressions::reads;
+use crate::expressions::{reads, with};
 use crate::scalars::wrong_where;
 use crate::setting::Around;
 use sqlite_items::Items;
 use std::alloc::{AllocError, Global};
+use xmp_base::Place;
 use xmp_loops::{Numbers, Role, Roles, is_bound};
 use xmp_paths::{Event, Flow};
-use xmp_prog::{Home, LoopHead, Reduction};
+use xmp_prog::{Expr, Home, LoopHead, Reduction};
+
+// A bound of a loop of the nest: what it reads, and that it is built as a bound has to be.
+fn push_bound(
+    alloc: Global,
+    s: &Around,
+    outer: &[u32],
+    written: &Numbers,
+    bound: &Expr,
+    at: Place,
+    parts: &mut Items<Flow>,
+) -> Result<(), AllocError>
+    requires { KnowsAll s.now }
+    ensures { OnOk result (map plan_of parts.new ≡ map plan_of parts.old
+        ++ reads_of bound.now (setting_of s.now) ∷ wrong_where (not (is_bound outer.now written.now bound.now)) 12 at ∷ []) }
+{
+    let reads = reads(alloc, s, bound)?;
+    parts.push(reads)?;
+    parts.push(wrong_where(alloc, !is_bound(outer, written, bound), 12, at))
+}
 
 // The head of a loop of the nest: its bounds, and its index.
 fn head_events(
@@ -35,15 +57,10 @@ fn head_events(
     ensures { IfOk result (λ flow. plan_of flow ≡ head_events (setting_of s.now) outer.now written.now h.now) }
 {
     let mut parts = Items::new(alloc);
-    let from = reads(alloc, s, &h.from)?;
-    parts.push(from)?;
-    parts.push(wrong_where(alloc, !is_bound(outer, written, &h.from), 12, h.from_at))?;
-    let to = reads(alloc, s, &h.to)?;
-    parts.push(to)?;
-    parts.push(wrong_where(alloc, !is_bound(outer, written, &h.to), 12, h.to_at))?;
+    push_bound(alloc, s, outer, written, &h.from, h.from_at, &mut parts)?;
+    push_bound(alloc, s, outer, written, &h.to, h.to_at, &mut parts)?;
     let reduced = matches!(s.roles.at(h.index.number), Role::Reduced(_));
-    parts.push(wrong_where(alloc, reduced, 5, h.index.at))?;
-    Ok(Flow::all(parts))
+    with(parts, wrong_where(alloc, reduced, 5, h.index.at))
 }
 
 // One more head of a nest, with its index among those round the loops in it.

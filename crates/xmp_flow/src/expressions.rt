@@ -27,28 +27,115 @@ pub fn reads(alloc: Global, s: &Around, e: &Expr) -> Result<Flow, AllocError>
         Expr::Const(_, _) | Expr::Node | Expr::Nodes => Ok(Flow::nothing(alloc)),
         Expr::Scalar(slot, at) => Ok(read_scalar(alloc, s, *slot, *at)),
         Expr::Cell(access) => reads_of_cell(alloc, s, access),
-        Expr::Binary(_, _, a, b, _) => {
-            let first = reads(alloc, s, a.get())?;
-            let second = reads(alloc, s, b.get())?;
-            Flow::both(alloc, first, second)
-        }
-        Expr::Both(a, b) | Expr::Either(a, b) => {
-            let first = reads(alloc, s, a.get())?;
-            let second = reads(alloc, s, b.get())?;
-            maybe(alloc, first, second)
-        }
-        Expr::Choose(a, b, c) => {
-            let first = reads(alloc, s, a.get())?;
-            let left = reads(alloc, s, b.get())?;
-            let right = reads(alloc, s, c.get())?;
-            choice(alloc, first, left, right)
-        }
+        Expr::Binary(_, _, a, b, _) => reads_of_both(alloc, s, a.get(), b.get()),
+        Expr::Both(a, b) | Expr::Either(a, b) => reads_with_more(alloc, s, a.get(), b.get()),
+        Expr::Choose(a, b, c) => reads_of_choice(alloc, s, a.get(), b.get(), c.get()),
         Expr::Convert(_, a) => reads(alloc, s, a.get()),
         Expr::Call(function, arguments, at) => {
-            let parts = reads_of_each(alloc, s, arguments.as_slice())?;
-            with_call(alloc, s, parts, *function, *at)
+            reads_of_call(alloc, s, arguments.as_slice(), *function, *at)
         }
     }
+}
+
+// The reads of two expressions.
+#[cycle(reads)]
+fn reads_of_both(alloc: Global, s: &Around, a: &Expr, b: &Expr) -> Result<Flow, AllocError>
+    requires { KnowsAll s.now }
+    ensures { IfOk result (λ flow. plan_of flow ≡ in_order (reads_of a.now (setting_of s.now) ∷ reads_of b.now (setting_of s.now) ∷ [])) }
+{
+    let first = reads(alloc, s, a)?;
+    match reads(alloc, s, b) {
+        Ok(second) => Flow::both(alloc, first, second),
+        Err(e) => {
+            std::mem::drop(first);
+            Err(e)
+        }
+    }
+}
+
+// The reads of either of two expressions.
+#[cycle(reads)]
+fn reads_of_either(alloc: Global, s: &Around, a: &Expr, b: &Expr) -> Result<Flow, AllocError>
+    requires { KnowsAll s.now }
+    ensures { IfOk result (λ flow. plan_of flow ≡ branch (reads_of a.now (setting_of s.now)) (reads_of b.now (setting_of s.now))) }
+{
+    let left = reads(alloc, s, a)?;
+    match reads(alloc, s, b) {
+        Ok(right) => Flow::either(alloc, left, right),
+        Err(e) => {
+            std::mem::drop(left);
+            Err(e)
+        }
+    }
+}
+
+// The reads of an expression, or none.
+#[cycle(reads)]
+fn reads_or_none(alloc: Global, s: &Around, a: &Expr) -> Result<Flow, AllocError>
+    requires { KnowsAll s.now }
+    ensures { IfOk result (λ flow. plan_of flow ≡ branch (reads_of a.now (setting_of s.now)) skip) }
+{
+    let reads = reads(alloc, s, a)?;
+    Flow::either(alloc, reads, Flow::nothing(alloc))
+}
+
+// The reads of an expression, and then those of another or none.
+#[cycle(reads)]
+fn reads_with_more(alloc: Global, s: &Around, a: &Expr, b: &Expr) -> Result<Flow, AllocError>
+    requires { KnowsAll s.now }
+    ensures { IfOk result (λ flow. plan_of flow
+        ≡ in_order (reads_of a.now (setting_of s.now) ∷ branch (reads_of b.now (setting_of s.now)) skip ∷ [])) }
+{
+    let first = reads(alloc, s, a)?;
+    match reads_or_none(alloc, s, b) {
+        Ok(more) => Flow::both(alloc, first, more),
+        Err(e) => {
+            std::mem::drop(first);
+            Err(e)
+        }
+    }
+}
+
+// The reads of a condition, and then those of either of two expressions.
+#[cycle(reads)]
+fn reads_of_choice(
+    alloc: Global,
+    s: &Around,
+    test: &Expr,
+    a: &Expr,
+    b: &Expr,
+) -> Result<Flow, AllocError>
+    requires { KnowsAll s.now }
+    ensures { IfOk result (λ flow. plan_of flow
+        ≡ in_order (reads_of test.now (setting_of s.now) ∷ branch (reads_of a.now (setting_of s.now)) (reads_of b.now (setting_of s.now)) ∷ [])) }
+{
+    let first = reads(alloc, s, test)?;
+    match reads_of_either(alloc, s, a, b) {
+        Ok(either) => Flow::both(alloc, first, either),
+        Err(e) => {
+            std::mem::drop(first);
+            Err(e)
+        }
+    }
+}
+
+// The reads of the arguments of a call, and what is wrong with the call.
+#[cycle(reads)]
+fn reads_of_call(
+    alloc: Global,
+    s: &Around,
+    arguments: &[Expr],
+    function: u32,
+    at: Place,
+) -> Result<Flow, AllocError>
+    requires { KnowsAll s.now }
+    ensures { IfOk result (λ flow. plan_of flow
+        ≡ in_order (reads_of_all arguments.now (setting_of s.now)
+        ++ wrong_where ((setting_of s.now).inside && (setting_of s.now).loops function) 9 at ∷ [])) }
+{
+    let parts = reads_of_each(alloc, s, arguments)?;
+    let wrong = wrong_where(alloc, s.inside && flag(s.loops, function), 9, at);
+    with(parts, wrong)
 }
 
 // The reads of an element: those of its subscripts, and then its own.
@@ -83,34 +170,4 @@ pub fn with(mut parts: Items<Flow>, last: Flow) -> Result<Flow, AllocError>
 {
     parts.push(last)?;
     Ok(Flow::all(parts))
-}
-
-// The arguments of a call, and what is wrong with the call.
-fn with_call(
-    alloc: Global,
-    s: &Around,
-    arguments: Items<Flow>,
-    function: u32,
-    at: Place,
-) -> Result<Flow, AllocError>
-    ensures { IfOk result (λ flow. plan_of flow
-        ≡ in_order (map plan_of arguments ++ wrong_where ((setting_of s.now).inside && (setting_of s.now).loops function) 9 at ∷ [])) }
-{
-    let wrong = wrong_where(alloc, s.inside && flag(s.loops, function), 9, at);
-    with(arguments, wrong)
-}
-
-// One part, and then another or none.
-fn maybe(alloc: Global, first: Flow, second: Flow) -> Result<Flow, AllocError>
-    ensures { IfOk result (λ flow. plan_of flow ≡ in_order (plan_of first ∷ branch (plan_of second) skip ∷ [])) }
-{
-    choice(alloc, first, second, Flow::nothing(alloc))
-}
-
-// One part, and then either of two.
-fn choice(alloc: Global, first: Flow, left: Flow, right: Flow) -> Result<Flow, AllocError>
-    ensures { IfOk result (λ flow. plan_of flow ≡ in_order (plan_of first ∷ branch (plan_of left) (plan_of right) ∷ [])) }
-{
-    let either = Flow::either(alloc, left, right)?;
-    Flow::both(alloc, first, either)
 }

@@ -1,5 +1,5 @@
 // The events of the statements that hold no statement.
-ghost use Rattle.std.specs.Prelude.{◌≡◌, ◌++◌, ◌∷◌, ◌&&◌, ◌||◌, [], map, IfOk, not, is_some, List, Option};
+ghost use Rattle.std.specs.Prelude.{◌≡◌, ◌++◌, ◌∷◌, ◌&&◌, ◌||◌, [], map, IfOk, OnOk, not, is_some, List, Option};
 ghost use Rattle.std.specs.Option.{option_map};
 ghost use Rattle.xmp_paths.specs.Plans.{in_order};
 ghost use Rattle.xmp_paths.specs.Flows.{plan_of};
@@ -62,16 +62,36 @@ pub fn form_reads(alloc: Global, s: &Around, form: Form<'_>) -> Result<Option<Fl
     match form {
         Form::Beside => Ok(None),
         Form::One(e) => {
-            let first = reads(alloc, s, e)?;
-            let mut parts = Items::new(alloc);
-            parts.push(first)?;
-            Ok(Some(Flow::all(parts)))
+            let flow = one_read(alloc, s, e)?;
+            Ok(Some(flow))
         }
         Form::Two(e, x) => {
-            let first = reads(alloc, s, e)?;
-            let second = reads(alloc, s, x)?;
-            let flow = Flow::both(alloc, first, second)?;
+            let flow = two_reads(alloc, s, e, x)?;
             Ok(Some(flow))
+        }
+    }
+}
+
+// The reads of one expression, as a list of one.
+fn one_read(alloc: Global, s: &Around, e: &Expr) -> Result<Flow, AllocError>
+    requires { KnowsAll s.now }
+    ensures { IfOk result (λ flow. plan_of flow ≡ in_order (reads_of e.now (setting_of s.now) ∷ [])) }
+{
+    let first = reads(alloc, s, e)?;
+    with(Items::new(alloc), first)
+}
+
+// The reads of two expressions.
+fn two_reads(alloc: Global, s: &Around, e: &Expr, x: &Expr) -> Result<Flow, AllocError>
+    requires { KnowsAll s.now }
+    ensures { IfOk result (λ flow. plan_of flow ≡ in_order (reads_of e.now (setting_of s.now) ∷ reads_of x.now (setting_of s.now) ∷ [])) }
+{
+    let first = reads(alloc, s, e)?;
+    match reads(alloc, s, x) {
+        Ok(second) => Flow::both(alloc, first, second),
+        Err(e) => {
+            std::mem::drop(first);
+            Err(e)
         }
     }
 }
@@ -173,6 +193,22 @@ fn moved(alloc: Global, s: &Around, to: &MoveSide) -> Flow
     }
 }
 
+// A scalar is assigned, and may not be a reduction variable.
+fn push_assigned(
+    alloc: Global,
+    s: &Around,
+    slot: u32,
+    at: Place,
+    parts: &mut Items<Flow>,
+) -> Result<(), AllocError>
+    requires { KnowsAll s.now }
+    ensures { OnOk result (map plan_of parts.new ≡ map plan_of parts.old ++ scalar_assigned (setting_of s.now) slot at) }
+{
+    let reduced = matches!(s.roles.at(slot), Role::Reduced(_));
+    parts.push(wrong_where(alloc, reduced, 5, at))?;
+    parts.push(assigned(s, slot))
+}
+
 // An assignment to a scalar that isn't a reduction form.
 fn set_events(
     alloc: Global,
@@ -189,9 +225,7 @@ fn set_events(
     parts.push(old_scalar(alloc, s, slot, at, compound))?;
     let part = reads(alloc, s, value)?;
     parts.push(part)?;
-    let reduced = matches!(s.roles.at(slot), Role::Reduced(_));
-    parts.push(wrong_where(alloc, reduced, 5, at))?;
-    parts.push(assigned(s, slot))?;
+    push_assigned(alloc, s, slot, at, &mut parts)?;
     Ok(Flow::all(parts))
 }
 
@@ -216,6 +250,20 @@ fn scalar_events(
     set_events(alloc, s, slot, at, compound, value)
 }
 
+// One more number of a gmove.
+fn push_number(
+    alloc: Global,
+    s: &Around,
+    n: &Number,
+    parts: &mut Items<Flow>,
+) -> Result<(), AllocError>
+    requires { KnowsAll s.now }
+    ensures { OnOk result (map plan_of parts.new ≡ map plan_of parts.old ++ number_events (setting_of s.now) n.now ∷ []) }
+{
+    let number = number_events(alloc, s, n)?;
+    parts.push(number)
+}
+
 // The parts of a side of a gmove.
 fn part_events(alloc: Global, s: &Around, part: &Part) -> Result<Flow, AllocError>
     requires { KnowsAll s.now }
@@ -225,12 +273,9 @@ fn part_events(alloc: Global, s: &Around, part: &Part) -> Result<Flow, AllocErro
         Part::One(n) => number_events(alloc, s, n),
         Part::Many { base, length, step } => {
             let mut parts = Items::new(alloc);
-            let first = number_events(alloc, s, base)?;
-            parts.push(first)?;
-            let second = number_events(alloc, s, length)?;
-            parts.push(second)?;
-            let third = number_events(alloc, s, step)?;
-            parts.push(third)?;
+            push_number(alloc, s, base, &mut parts)?;
+            push_number(alloc, s, length, &mut parts)?;
+            push_number(alloc, s, step, &mut parts)?;
             Ok(Flow::all(parts))
         }
     }
@@ -256,6 +301,20 @@ fn side_events(alloc: Global, s: &Around, side: &MoveSide) -> Result<Flow, Alloc
         MoveSide::Scalar(_) => Ok(Flow::nothing(alloc)),
         MoveSide::Array(_, parts) => parts_events(alloc, s, parts.as_slice()),
     }
+}
+
+// One more side of a gmove.
+fn push_side(
+    alloc: Global,
+    s: &Around,
+    side: &MoveSide,
+    parts: &mut Items<Flow>,
+) -> Result<(), AllocError>
+    requires { KnowsAll s.now }
+    ensures { OnOk result (map plan_of parts.new ≡ map plan_of parts.old ++ side_events (setting_of s.now) side.now ∷ []) }
+{
+    let flow = side_events(alloc, s, side)?;
+    parts.push(flow)
 }
 
 // An assignment to an element: its subscripts, the old element of a compound one, the value, and the element.
@@ -329,13 +388,10 @@ fn gmove_events(
 {
     let mut parts = Items::new(alloc);
     parts.push(wrong_where(alloc, s.inside, 10, at))?;
-    let first = side_events(alloc, s, to)?;
-    parts.push(first)?;
-    let second = side_events(alloc, s, from)?;
-    parts.push(second)?;
+    push_side(alloc, s, to, &mut parts)?;
+    push_side(alloc, s, from, &mut parts)?;
     parts.push(source_events(alloc, s, from))?;
-    parts.push(moved(alloc, s, to))?;
-    Ok(Flow::all(parts))
+    with(parts, moved(alloc, s, to))
 }
 
 fn option_reads(alloc: Global, s: &Around, value: &Option<Expr>) -> Result<Flow, AllocError>
@@ -363,9 +419,7 @@ fn declared(
     let mut parts = Items::new(alloc);
     let part = option_reads(alloc, s, value)?;
     parts.push(part)?;
-    let reduced = matches!(s.roles.at(slot), Role::Reduced(_));
-    parts.push(wrong_where(alloc, reduced, 5, at))?;
-    parts.push(assigned(s, slot))?;
+    push_assigned(alloc, s, slot, at, &mut parts)?;
     Ok(Flow::all(parts))
 }
 
@@ -400,6 +454,22 @@ fn listed(alloc: Global, s: &Around, es: &[Expr], last: Flow) -> Result<Flow, Al
     }
 }
 
+// A scalar that `scanf` sets.
+fn scalar_target(alloc: Global, s: &Around, slot: u32, at: Place) -> Result<Items<Flow>, AllocError>
+    requires { KnowsAll s.now }
+    ensures { IfOk result (λ parts. map plan_of parts ≡ scanned (setting_of s.now) (Target.Scalar slot at)) }
+{
+    let mut parts = Items::new(alloc);
+    let reduced = matches!(s.roles.at(slot), Role::Reduced(_));
+    parts.push(wrong_where(alloc, reduced, 5, at))?;
+    parts.push(Flow::one(Event::Mark {
+        object: 2 * slot as u64,
+        current: 0,
+        stale: s.all ^ s.nodes,
+    }))?;
+    Ok(parts)
+}
+
 // A scalar that `scanf` sets, and what is wrong behind it.
 fn scalar_scanned(
     alloc: Global,
@@ -412,15 +482,13 @@ fn scalar_scanned(
     ensures { IfOk result (λ flow. plan_of flow
         ≡ in_order (scanned (setting_of s.now) (Target.Scalar slot at) ++ plan_of last ∷ [])) }
 {
-    let mut parts = Items::new(alloc);
-    let reduced = matches!(s.roles.at(slot), Role::Reduced(_));
-    parts.push(wrong_where(alloc, reduced, 5, at))?;
-    parts.push(Flow::one(Event::Mark {
-        object: 2 * slot as u64,
-        current: 0,
-        stale: s.all ^ s.nodes,
-    }))?;
-    with(parts, last)
+    match scalar_target(alloc, s, slot, at) {
+        Ok(parts) => with(parts, last),
+        Err(e) => {
+            std::mem::drop(last);
+            Err(e)
+        }
+    }
 }
 
 // An element that `scanf` sets, and what is wrong behind it.

@@ -1,5 +1,5 @@
 // The events of every statement.
-ghost use Rattle.std.specs.Prelude.{◌≡◌, ◌∷◌, [], map, IfOk, Some};
+ghost use Rattle.std.specs.Prelude.{◌≡◌, ◌++◌, ◌∷◌, [], map, IfOk, Some};
 ghost use Rattle.std.specs.Option.{option_map};
 ghost use Rattle.xmp_paths.specs.Plans.{branch, in_order, loop};
 ghost use Rattle.xmp_paths.specs.Flows.{plan_of};
@@ -10,12 +10,13 @@ ghost use Rattle.xmp_flow.specs.Reads.{reads_of};
 ghost use Rattle.xmp_flow.specs.PlainEvents.{in_form};
 ghost use Rattle.xmp_flow.specs.LoopEvents.{loop_events};
 ghost use Rattle.xmp_flow.specs.Statements.{counted_events, events_of, form_of_if, if_form, while_events};
+ghost use Rattle.xmp_flow.specs.Ready.{IsReady};
 ghost use Rattle.xmp_flow.specs.Views.{KnowsAll, setting_of};
 ghost use Rattle.xmp_loops.specs.Views.{read_by};
 
 use crate::expressions::{reads, with};
 use crate::plain::{form_reads, plain_events};
-use crate::ready::{around, make_ready};
+use crate::ready::{Ready, around, make_ready};
 use crate::scalars::{assigned, wrong_where};
 use crate::setting::Around;
 use sqlite_items::Items;
@@ -147,18 +148,47 @@ fn while_events(
     with(parts, last)
 }
 
+// Parts in order, and two more behind them.
+fn with_two(mut parts: Items<Flow>, second: Flow, last: Flow) -> Result<Flow, AllocError>
+    ensures { IfOk result (λ flow. plan_of flow ≡ in_order (map plan_of parts ++ plan_of second ∷ plan_of last ∷ [])) }
+{
+    match parts.push(second) {
+        Ok(()) => with(parts, last),
+        Err(e) => {
+            std::mem::drop(last);
+            Err(e)
+        }
+    }
+}
+
+// Three parts in order.
+fn three(alloc: Global, first: Flow, second: Flow, last: Flow) -> Result<Flow, AllocError>
+    ensures { IfOk result (λ flow. plan_of flow ≡ in_order (plan_of first ∷ plan_of second ∷ plan_of last ∷ [])) }
+{
+    let mut parts = Items::new(alloc);
+    match parts.push(first) {
+        Ok(()) => with_two(parts, second, last),
+        Err(e) => {
+            std::mem::drop(second);
+            std::mem::drop(last);
+            Err(e)
+        }
+    }
+}
+
 // A turn of a counted loop whose body has these events.
 fn counted_turn(alloc: Global, s: &Around, head: &LoopHead, body: Flow) -> Result<Flow, AllocError>
     requires { KnowsAll s.now }
     ensures { IfOk result (λ flow. plan_of flow ≡ in_order (reads_of head.now.to (setting_of s.now)
         ∷ plan_of body ∷ assigned (setting_of s.now) head.now.index.number ∷ [])) }
 {
-    let to = reads(alloc, s, &head.to)?;
-    let mut parts = Items::new(alloc);
-    parts.push(to)?;
-    parts.push(body)?;
-    parts.push(assigned(s, head.index.number))?;
-    Ok(Flow::all(parts))
+    match reads(alloc, s, &head.to) {
+        Ok(to) => three(alloc, to, body, assigned(s, head.index.number)),
+        Err(e) => {
+            std::mem::drop(body);
+            Err(e)
+        }
+    }
 }
 
 // What stands before the turns of a counted loop.
@@ -226,23 +256,67 @@ pub fn events(alloc: Global, s: &Around, x: &Stmt) -> Result<Flow, AllocError>
     match x {
         Stmt::Plain(p) => plain_events(alloc, s, p),
         Stmt::Block(all) => block_events(alloc, s, all.as_slice()),
-        Stmt::If(test, a, b) => {
-            let left = events(alloc, s, a.get())?;
-            let right = events(alloc, s, b.get())?;
-            let form = if_form(s, test, a.get(), b.get());
-            if_events(alloc, s, test, form, left, right)
-        }
-        Stmt::While(test, body, at) => {
-            let turn = events(alloc, s, body.get())?;
-            while_events(alloc, s, test, turn, *at)
-        }
-        Stmt::Counted(head, body) => {
-            let turn = events(alloc, s, body.get())?;
-            counted_events(alloc, s, head, turn)
-        }
+        Stmt::If(test, a, b) => events_of_if(alloc, s, test, a.get(), b.get()),
+        Stmt::While(test, body, at) => events_of_while(alloc, s, test, body.get(), *at),
+        Stmt::Counted(head, body) => events_of_counted(alloc, s, head, body.get()),
         Stmt::Loop(d, body) => directive_events(alloc, s, d, body.get()),
         Stmt::Tasks(all, at) => tasks_events(alloc, s, all.as_slice(), *at),
     }
+}
+
+// The events of an `if`.
+#[cycle(events)]
+fn events_of_if(
+    alloc: Global,
+    s: &Around,
+    test: &Expr,
+    a: &Stmt,
+    b: &Stmt,
+) -> Result<Flow, AllocError>
+    requires { KnowsAll s.now }
+    ensures { IfOk result (λ flow. plan_of flow ≡ in_form (setting_of s.now)
+        (in_order (reads_of test.now (setting_of s.now) ∷ branch (events_of a.now (setting_of s.now)) (events_of b.now (setting_of s.now)) ∷ []))
+        (if_form (setting_of s.now) test.now a.now b.now)) }
+{
+    let left = events(alloc, s, a)?;
+    match events(alloc, s, b) {
+        Ok(right) => if_events(alloc, s, test, if_form(s, test, a, b), left, right),
+        Err(e) => {
+            std::mem::drop(left);
+            Err(e)
+        }
+    }
+}
+
+// The events of an uncounted loop.
+#[cycle(events)]
+fn events_of_while(
+    alloc: Global,
+    s: &Around,
+    test: &Expr,
+    body: &Stmt,
+    at: Place,
+) -> Result<Flow, AllocError>
+    requires { KnowsAll s.now }
+    ensures { IfOk result (λ flow. plan_of flow ≡ while_events test.now (events_of body.now) at (setting_of s.now)) }
+{
+    let turn = events(alloc, s, body)?;
+    while_events(alloc, s, test, turn, at)
+}
+
+// The events of a counted loop.
+#[cycle(events)]
+fn events_of_counted(
+    alloc: Global,
+    s: &Around,
+    head: &LoopHead,
+    body: &Stmt,
+) -> Result<Flow, AllocError>
+    requires { KnowsAll s.now }
+    ensures { IfOk result (λ flow. plan_of flow ≡ counted_events head.now (events_of body.now) (setting_of s.now)) }
+{
+    let turn = events(alloc, s, body)?;
+    counted_events(alloc, s, head, turn)
 }
 
 #[cycle(events)]
@@ -269,6 +343,24 @@ fn directive_events(
     ensures { IfOk result (λ flow. plan_of flow ≡ loop_events d.now body.now (events_of body.now) (setting_of s.now)) }
 {
     let ready = make_ready(alloc, d, body)?;
+    let flow = events_ready(alloc, s, d, body, &ready);
+    std::mem::drop(ready);
+    flow
+}
+
+// The events of a loop directive for whose body this stands ready.
+#[cycle(events)]
+fn events_ready(
+    alloc: Global,
+    s: &Around,
+    d: &LoopDirective,
+    body: &Stmt,
+    ready: &Ready,
+) -> Result<Flow, AllocError>
+    requires here { KnowsAll s.now }
+    requires ready { IsReady ready.now d.now body.now }
+    ensures { IfOk result (λ flow. plan_of flow ≡ loop_events d.now body.now (events_of body.now) (setting_of s.now)) }
+{
     let bounds = Around {
         program: s.program,
         nodes: s.all,
@@ -285,7 +377,7 @@ fn directive_events(
         ..bounds
     };
     let turn = events(alloc, &inner, body)?;
-    around(alloc, s, &bounds, d, &ready, turn)
+    around(alloc, s, &bounds, d, ready, turn)
 }
 
 #[cycle(events)]

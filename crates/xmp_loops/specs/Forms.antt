@@ -113,7 +113,7 @@ value_form p v r here _ = None
 
 -- an assignment to the variable: `v o= x`, for `+` also `v++` and `++v`, or one of these
 abbrev pub assignment_form : ProgParts → ℕ → RedOp → Place → Option Compound → Expr → Option (List Expr)
-assignment_form p v r at (Some c) x = if_apart v (is_operator r c.op) (x ∷ []) x
+assignment_form p v r at (Some c) x = if_apart v (is_operator r c.op && fits_in p v c.ty) (x ∷ []) x
 assignment_form p v r at None e = value_form p v r at (out-Expr e)
 
 -- `if (q) v = x;`

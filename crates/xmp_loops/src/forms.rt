@@ -180,7 +180,7 @@ pub fn assignment_form<'a>(
     ensures { read_by result ≡ assignment_form p.now v r at compound x.now }
 {
     match compound {
-        Some(c) => one_if(v, is_operator(r, c.op), x),
+        Some(c) => one_if(v, is_operator(r, c.op) && fits_in(p, v, c.ty), x),
         None => value_form(p, v, r, at, x),
     }
 }

@@ -1,4 +1,4 @@
-use Rattle.std.proofs.Common.{◌≡◌, ◌∙◌, ap, sym, subst, IfOk, ◌++◌, ◌∷◌, [], ◌&&◌, map}
+use Rattle.std.proofs.Common.{◌≡◌, ◌∙◌, ap, sym, subst, IfOk, ◌++◌, ◌∷◌, [], ◌&&◌}
 use Rattle.xmp_paths.specs.Plans.{Plan, in_order}
 use Rattle.xmp_paths.specs.Flows.{plan_of}
 use Rattle.xmp_paths.specs.declared.event.Event.{Event}
@@ -14,12 +14,11 @@ reads-returns-in-Cell t c =
     (sym (ap (λ e. reads_of e (setting_of c.args.s.now)) c.in-Cell.is ∙ reads-cell c.in-Cell.access (setting_of c.args.s.now)))
     c.reads_of_cell.ensures
 
-pub reads-returns-in_ok-parts-in-Call : goal.reads-returns-in_ok-parts-in-Call
-reads-returns-in_ok-parts-in-Call t c =
-    let e : map plan_of c.in_ok-parts-in-Call.parts ≡ reads_of_all c.in-Call.arguments (setting_of c.args.s.now) =
-    c.in_ok-parts-in-Call.ensures ∙ ap (λ l. reads_of_all l (setting_of c.args.s.now)) c.as_slice.ensures in
-    subst (λ (p : Plan Event). IfOk c.with_call.result (λ flow. plan_of flow ≡ p))
-    (ap (λ l. in_order (l ++ wrong_where ((setting_of c.args.s.now).inside && (setting_of c.args.s.now).loops c.in-Call.function) 9 c.in-Call.at ∷ [])) e
+pub reads-returns-in-Call : goal.reads-returns-in-Call
+reads-returns-in-Call t c =
+    subst (λ (p : Plan Event). IfOk c.reads_of_call.result (λ flow. plan_of flow ≡ p))
+    (ap (λ l. in_order (reads_of_all l (setting_of c.args.s.now)
+    ++ wrong_where ((setting_of c.args.s.now).inside && (setting_of c.args.s.now).loops c.in-Call.function) 9 c.in-Call.at ∷ [])) c.as_slice.ensures
     ∙ sym (ap (λ x. reads_of x (setting_of c.args.s.now)) c.in-Call.is
     ∙ reads-call c.in-Call.function c.in-Call.arguments c.in-Call.at (setting_of c.args.s.now)))
-    c.with_call.ensures
+    c.reads_of_call.ensures

@@ -7,11 +7,11 @@ use Rattle.xmp_flow.proofs.ReadyLaws.{directive_by, inside_of}
 use Rattle.xmp_flow.proofs.EventLaws.{from_block, from_if, from_loop, from_tasks}
 use Rattle.xmp_flow.proofs.statements.+events.Goals as goal
 
-pub directive_events-returns : goal.directive_events-returns
-directive_events-returns t c =
-    directive_by c.in_ok-ready.ready c.args.d.now c.args.body.now c.in_ok-ready.ensures (setting_of c.args.s.now) _ _ (plan_of c.in_ok-turn.turn) c.around.result
-    (ap (λ n. record (inside_of (setting_of c.args.s.now) c.args.d.now (role_at c.in_ok-ready.ready.before) (is_in c.in_ok-ready.ready.written)) { nodes = n }) c.requires)
-    (ap (λ n. record (inside_of (setting_of c.args.s.now) c.args.d.now (role_at c.in_ok-ready.ready.roles) (is_in c.in_ok-ready.ready.written)) { nodes = n }) c.requires)
+pub events_ready-returns : goal.events_ready-returns
+events_ready-returns t c =
+    directive_by c.args.ready.now c.args.d.now c.args.body.now c.requires.ready (setting_of c.args.s.now) _ _ (plan_of c.in_ok-turn.turn) c.around.result
+    (ap (λ n. record (inside_of (setting_of c.args.s.now) c.args.d.now (role_at c.args.ready.now.before) (is_in c.args.ready.now.written)) { nodes = n }) c.requires.here)
+    (ap (λ n. record (inside_of (setting_of c.args.s.now) c.args.d.now (role_at c.args.ready.now.roles) (is_in c.args.ready.now.written)) { nodes = n }) c.requires.here)
     c.in_ok-turn.ensures c.around.ensures
 
 pub events-returns-in-Block : goal.events-returns-in-Block
@@ -26,7 +26,7 @@ pub events-returns-in-Loop : goal.events-returns-in-Loop
 events-returns-in-Loop t c =
     from_loop (setting_of c.args.s.now) c.args.x.now c.directive_events.result c.in-Loop.d c.in-Loop.body _ c.in-Loop.is c.get-in-Loop.ensures c.directive_events.ensures
 
-pub events-returns-in_ok-right-in-If : goal.events-returns-in_ok-right-in-If
-events-returns-in_ok-right-in-If t c =
-    from_if (setting_of c.args.s.now) c.args.x.now c.if_events.result c.in-If.test c.in-If.a c.in-If.b _ _ _ _ c.in_ok-left-in-If.left c.in_ok-right-in-If.right _ c.in-If.is
-    c.get.ensures c.get-in-If.ensures c.get-in-If-2.ensures c.get-in-If-3.ensures c.in_ok-left-in-If.ensures c.in_ok-right-in-If.ensures c.if_form-form.ensures c.if_events.ensures
+pub events-returns-in-If : goal.events-returns-in-If
+events-returns-in-If t c =
+    from_if (setting_of c.args.s.now) c.args.x.now c.events_of_if.result c.in-If.test c.in-If.a c.in-If.b _ _ c.in-If.is
+    c.get.ensures c.get-in-If.ensures c.events_of_if.ensures

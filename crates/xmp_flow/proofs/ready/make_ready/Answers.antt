@@ -1,8 +1,0 @@
-use Rattle.xmp_flow.proofs.ReadyLaws.{ready_by}
-use Rattle.xmp_flow.proofs.ready.make_ready.Goals as goal
-
-pub returns : goal.returns
-returns c =
-    ready_by c.args.d.now c.args.body.now _ _ _ _ _ _ c.new-scalars.ensures c.new-arrays.ensures c.new-written.ensures
-    c.in_ok-scalars_written.ensures c.in_ok-arrays_written.ensures c.as_slice.ensures c.as_slice-2.ensures
-    c.in_ok-roles.ensures c.in_ok-before.ensures c.in_ok-put_all.ensures
