@@ -19,6 +19,7 @@ pub mod Narrowed
 pub mod LegLaws
 pub mod RoundLaws
 pub mod RepeatLaws
+pub mod ApartLaws
 pub mod GatherLaws
 pub mod EndLaws
 pub mod PickLaws

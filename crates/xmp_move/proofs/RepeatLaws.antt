@@ -160,25 +160,8 @@ leg_repeats leg a b many p q needs gives ea eb k =
     ap (λ x. x && reaches leg.gives (at leg.source (k + many))) (ap (λ n. reaches leg.needs (at leg.target (k + n))) ea ∙ walk_repeats leg.needs leg.target a p needs k)
     ∙ ap (λ x. reaches leg.needs (at leg.target k) && x) (ap (λ n. reaches leg.gives (at leg.source (k + n))) eb ∙ walk_repeats leg.gives leg.source b q gives k)
 
--- where one round is some of the other, both repeat after the longer
-pub common_repeats : (leg : Leg) (a b many less more : ℕ) → (a ≡ 0) ⊎ ReachRepeats leg.needs a → (b ≡ 0) ⊎ ReachRepeats leg.gives b
-    → less ≡ min a b → more ≡ max a b → 0 < less → more % less ≡ 0 → (min more many ≡ many) ⊎ Repeats (leg_test leg) (min more many)
-common_repeats leg a b many less more (inl z) gives el em some rest = absurd (omega (arith, z, el, some))
-common_repeats leg a b many less more (inr needs) (inl z) el em some rest = absurd (omega (arith, z, el, some))
-common_repeats leg a b many less more (inr needs) (inr gives) el em some rest =
-    elim (cases_lt more many) as (λ _. (min more many ≡ many) ⊎ Repeats (leg_test leg) (min more many)) [
-      | inr ge ↦ inl (omega (arith, ge))
-      | inl lt ↦ inr (let e : min more many ≡ more = omega (arith, lt) in rw e (elim (cases_lt a b) as (λ _. Repeats (leg_test leg) more) [
-        | inl l ↦ leg_repeats leg a b more (more / less) 1 needs gives (first l) (omega (arith, em, l))
-        | inr ge ↦ leg_repeats leg a b more 1 (more / less) needs gives (omega (arith, em, ge)) (second ge)
-      ]))
-    ]
-  where
-    whole : more ≡ more / less * less
-    whole = omega (arith, rest)
-
-    first : a < b → more ≡ more / less * a
-    first l = let e : less ≡ a = omega (arith, el, l) in whole ∙ ap (λ n. more / less * n) e
-
-    second : b ≤ a → more ≡ more / less * b
-    second ge = let e : less ≡ b = omega (arith, el, ge) in whole ∙ ap (λ n. more / less * n) e
+-- both repeat after so many rounds of one as the other has subscripts
+pub both_repeat : (leg : Leg) (a b : ℕ) → (a ≡ 0) ⊎ ReachRepeats leg.needs a → (b ≡ 0) ⊎ ReachRepeats leg.gives b → (a * b ≡ 0 → ⊥) → Repeats (leg_test leg) (a * b)
+both_repeat leg a b (inl z) gives some = absurd (some (let e : a * b ≡ 0 * b = ap (λ n. n * b) z in omega (arith, e)))
+both_repeat leg a b (inr needs) (inl z) some = absurd (some (let e : a * b ≡ a * 0 = ap (λ n. a * n) z in omega (arith, e)))
+both_repeat leg a b (inr needs) (inr gives) some = leg_repeats leg a b (a * b) b a needs gives (omega arith) refl

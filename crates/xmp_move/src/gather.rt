@@ -1,7 +1,9 @@
 // The slots due between two nodes, gathered dimension by dimension.
-ghost use Rattle.std.specs.Prelude.{◌≡◌, ◌<◌, ◌≤◌, ◌+◌, ◌^◌, [], ◌∷◌, length, map, MatchOption, IfOk, All};
+ghost use Rattle.std.specs.Prelude.{◌≡◌, ◌<◌, ◌≤◌, ◌+◌, ◌^◌, ◌&&◌, ℕ, false, List, [], ◌∷◌, length, map, MatchOption, IfOk, IsTrue, All};
 ghost use Rattle.xmp_base.specs.Limits.{size_limit};
+ghost use Rattle.xmp_move.specs.declared.axis.Axis.{Axis};
 ghost use Rattle.xmp_move.specs.Picks.{counts};
+ghost use Rattle.xmp_move.specs.Reaches.{reaches};
 ghost use Rattle.xmp_move.specs.Axes.{AxesFit, adds, picks, tests};
 ghost use Rattle.xmp_move.specs.Legs.{LegFits, share_of};
 ghost use Rattle.xmp_move.specs.Sums.{due_shares, due_slots, sums};
@@ -14,7 +16,7 @@ use crate::reach::Reach;
 use crate::sums::sums_from;
 use sqlite_items::Items;
 use std::alloc::Global;
-use xmp_base::{NoMemory, SIZE_LIMIT};
+use xmp_base::{NoMemory, SIZE_LIMIT, first_and_rest};
 
 const EACH: Walk = Walk { first: 0, step: 1 };
 
@@ -113,8 +115,55 @@ fn three_legs(target: &[Axis], source: &[Axis], slots: &[Axis]) -> (Leg, Leg, Le
     }
 }
 
-/// The slots of one side that are due, from `base` on, in row-major order of the target's cells.
-pub fn slots_from(
+/// Whether two intervals have no subscript in common.
+fn are_apart(a: &Reach, b: &Reach) -> bool
+    ensures { IsTrue result → (x : ℕ) → (reaches a.now x && reaches b.now x) ≡ false }
+{
+    match (*a, *b) {
+        (
+            Reach::Span { from, to },
+            Reach::Span {
+                from: start,
+                to: end,
+            },
+        ) => { to <= start || end <= from }
+        _ => false,
+    }
+}
+
+/// Whether the first dimensions of two sides name the same subscripts, of which none passes on both: then nothing is due.
+fn never_meet(target: &[Axis], source: &[Axis]) -> bool
+    ensures { IsTrue result → (slots : List Axis)
+        → due_slots (picks target.now) (picks source.now) (picks slots) (tests target.now) (tests source.now) (adds slots) ≡ [] }
+{
+    match (first_and_rest(target), first_and_rest(source)) {
+        (Some((a, _)), Some((b, _))) => match (a.pick, b.pick) {
+            (
+                Pick::Section { first, step, .. },
+                Pick::Section {
+                    first: start,
+                    step: by,
+                    ..
+                },
+            ) => {
+                if first == start {
+                    if step == by {
+                        are_apart(&a.reach, &b.reach)
+                    } else {
+                        false
+                    }
+                } else {
+                    false
+                }
+            }
+            _ => false,
+        },
+        _ => false,
+    }
+}
+
+/// The slots of one side that are due, where both sides may have subscripts in common.
+fn met_slots(
     alloc: Global,
     base: u32,
     target: &[Axis],
@@ -146,4 +195,31 @@ pub fn slots_from(
     let xs = a.share(alloc)?;
     let list = sums_from(alloc, start, &xs, &ys, &zs)?;
     Ok(Items::from_vec(list))
+}
+
+/// The slots of one side that are due, from `base` on, in row-major order of the target's cells.
+pub fn slots_from(
+    alloc: Global,
+    base: u32,
+    target: &[Axis],
+    source: &[Axis],
+    slots: &[Axis],
+) -> Result<Items<u32>, NoMemory>
+    requires target { AxesFit target.now }
+    requires source { AxesFit source.now }
+    requires slots { AxesFit slots.now }
+    requires source_fits { FollowsIt (counts (picks target.now)) (counts (picks source.now)) }
+    requires slots_fit { FollowsIt (counts (picks target.now)) (counts (picks slots.now)) }
+    requires few { length target.now ≤ 3 }
+    requires few_slots { length slots.now ≤ 3 }
+    requires small { All (λ r. base + r < 2 ^ 32)
+        (due_slots (picks target.now) (picks source.now) (picks slots.now) (tests target.now) (tests source.now) (adds slots.now)) }
+    ensures { IfOk result (λ list. list ≡ map (λ r. base + r)
+        (due_slots (picks target.now) (picks source.now) (picks slots.now) (tests target.now) (tests source.now) (adds slots.now))) }
+{
+    if never_meet(target, source) {
+        Ok(Items::new(alloc))
+    } else {
+        met_slots(alloc, base, target, source, slots)
+    }
 }

@@ -32,7 +32,12 @@ impl Walk {
         ensures below { (k : ℕ) → k < result → at self.now k < bound }
         ensures from { (k : ℕ) → result ≤ k → bound ≤ at self.now k }
     {
-        (bound.saturating_sub(self.first) + (self.step - 1)) / self.step
+        let left = bound.saturating_sub(self.first);
+        if self.step == 1 {
+            left
+        } else {
+            (left + (self.step - 1)) / self.step
+        }
     }
 
     /// The places whose subscripts may pass: from the first to before the second.
@@ -124,8 +129,12 @@ impl Leg {
         ensures most { result ≤ to }
         ensures none { (j : ℕ) → k ≤ j → j < result → leg_test self.now j ≡ false }
     {
-        let a = self.target.misses(k, self.count, &self.needs, self.extents.0);
-        let b = self.source.misses(k, self.count, &self.gives, self.extents.1);
+        let a = self
+            .target
+            .misses(k, self.count, &self.needs, self.extents.0);
+        let b = self
+            .source
+            .misses(k, self.count, &self.gives, self.extents.1);
         (k + a.max(b).max(1)).min(to)
     }
 
@@ -149,21 +158,22 @@ impl Leg {
         Ok(out)
     }
 
-    /// After how many places the tests repeat, where that is less than `many`, and `many` else. They do where a round of one
-    /// side's cyclic form is some rounds of the other's.
+    /// After how many places the tests repeat, where that is less than `many`, and `many` else: as many as both sides' cyclic
+    /// forms deal in a round, multiplied.
     fn period(&self, many: u32) -> u32
         requires { LegFits self.now }
         ensures most { result ≤ many }
         ensures some { 1 ≤ many → 1 ≤ result }
         ensures again { (result ≡ many) ⊎ Repeats (leg_test self.now) result }
     {
-        let a = self.needs.round(self.extents.0);
-        let b = self.gives.round(self.extents.1);
-        let (less, more) = (a.min(b), a.max(b));
-        if less == 0 {
+        let a = u64::from(self.needs.round(self.extents.0));
+        let b = u64::from(self.gives.round(self.extents.1));
+        let both = a * b;
+        let most = u64::from(many);
+        if both == 0 {
             many
-        } else if more % less == 0 {
-            more.min(many)
+        } else if both < most {
+            both as u32
         } else {
             many
         }

@@ -19,7 +19,8 @@ mod words;
 pub use faults::move_fault;
 pub use kind::{Fault, MoveKind, Side, SidePart};
 pub use laws::{
-    cells_are_kept, gmoves_are_meant, gmoves_are_whole, gmoves_assign, reflects_are_whole, transfers,
+    cells_are_kept, gmoves_are_meant, gmoves_are_whole, gmoves_assign, reflects_are_whole,
+    transfers,
 };
 pub use plan::{MoveError, Plan, pack, plan_of, unpack};
 pub use words::{pack_slots, unpack_slots};

@@ -1,9 +1,9 @@
-use Rattle.std.proofs.Common.{arith}
-use Rattle.xmp_move.proofs.RepeatLaws.{common_repeats}
+use Rattle.std.proofs.Common.{inr, refl, ◌≡◌, ◌*◌, arith}
+use Rattle.xmp_move.specs.Legs.{Repeats, leg_test}
+use Rattle.xmp_move.proofs.RepeatLaws.{both_repeat}
 use Rattle.xmp_move.proofs.leg.Leg.period.Goals as goal
 
-pub returns-then-more-less-eq0-clause-again : goal.returns-then-more-less-eq0-clause-again
-returns-then-more-less-eq0-clause-again c =
-    rw c.min.ensures
-    (common_repeats c.args.self.now c.round-a.result c.round-b.result c.args.many c.min-less.result c.max-more.result c.round-a.ensures c.round-b.ensures
-    c.min-less.ensures c.max-more.ensures (omega arith) (omega arith))
+pub returns-then-both-most-clause-again : goal.returns-then-both-most-clause-again
+returns-then-both-most-clause-again c =
+    let e : c.from-a.result * c.from-b.result ≡ c.round.result * c.round-2.result = rw (c.from-a.ensures, c.from-b.ensures) refl in
+    inr (rw e (both_repeat c.args.self.now c.round.result c.round-2.result c.round.ensures c.round-2.ensures (λ z. omega (arith, z, e))))

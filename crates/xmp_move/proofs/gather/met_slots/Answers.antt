@@ -3,7 +3,7 @@ use Rattle.std.specs.Prelude.{◌^◌}
 use Rattle.std.proofs.lemmas.Bool.Decides.{nat_tests}
 use Rattle.std.proofs.lemmas.List.{nil_from_length}
 use Rattle.xmp_move.proofs.GatherLaws.{slots_are, no_slots}
-use Rattle.xmp_move.proofs.gather.slots_from.Goals as goal
+use Rattle.xmp_move.proofs.gather.met_slots.Goals as goal
 
 pub returns-then-is_empty : goal.returns-then-is_empty
 returns-then-is_empty c =
