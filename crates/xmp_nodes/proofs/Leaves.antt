@@ -67,7 +67,7 @@ serial_cx p input = main_context p 0 input
 abbrev pub noting : ProgParts → (input : List ℕ) → Stmt → Run Notes Flow
 noting p input x = stmt_of (traced p) (serial_cx p input) x
 
--- ---- the second helper's: parts of programs
+-- ---- parts of programs
 
 abbrev pub BodyFits : Type 0
 BodyFits = (p : ProgParts) → IsGlobal p → PartFits p p.body
@@ -142,7 +142,7 @@ UnwrittenStay = (set : Setting) (node slot : ℕ) (x : Stmt) → AllByRecursion 
     → (way : List Event) → Path (events_of x set) way → (stale : ℕ → Bool) → stale (scalar_object slot) ≡ false
     → left node way stale (scalar_object slot) ≡ false
 
--- ---- the second helper's: one node
+-- ---- one node
 
 abbrev pub ExpressionsCarry : Type 0
 ExpressionsCarry = (a : Stand) → IsSetting a → has a.set.nodes a.node ≡ true → (input : List ℕ) (e : Expr)
@@ -189,7 +189,7 @@ StatementsSkip = (a : Stand) → IsSetting a → has a.set.nodes a.node ≡ fals
     → (input : List ℕ) (x : Stmt) → PartFits a.program x → NoReturn x → NothingWrong (events_of x a.set)
     → Skipped a IsNext (events_of x a.set) (noting a.program input x)
 
--- ---- the third helper's: loop directives
+-- ---- loop directives
 
 abbrev pub LoopsFollow : Type 0
 LoopsFollow = (p : ProgParts) → IsGlobal p → (input : List ℕ) (d : LoopDirective) (body : Stmt) → PartFits p (stmt.Loop d body) → NoReturn body
@@ -198,7 +198,7 @@ LoopsFollow = (p : ProgParts) → IsGlobal p → (input : List ℕ) (d : LoopDir
     ((traced p).loop d (nest (traced p) (serial_cx p input) d.nest) (noting p input body))
     (loop_all p d (lockstep p input body).at)
 
--- ---- the fourth helper's: other directives
+-- ---- other directives
 
 abbrev pub CastsFollow : Type 0
 CastsFollow = (p : ProgParts) → IsGlobal p → (variables : List Name) (from : NodeSet) (at : Place) → PartFits p (stmt.Plain (plain.Cast variables from at))
