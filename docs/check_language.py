@@ -10,10 +10,12 @@ The line above a fenced block, one code span, says what becomes of the text in i
     serial trapped zero at 8:79        the same, and then this line on standard error, status 1
     serial out of steps                the same, status 2
 
-A block 'input' behind a serial one is its input. A block of python is an expression whose value is the text. Behind 'text NAME' stands
-a text that such expressions may name; it isn't run. A block with no such line above it is only shown. Each rule that a table of
+A block 'input' behind a serial one is its input. A block of python makes the text: it is read as strings, names of texts, + and *,
+.replace, "".join over a range and f-strings of numbers, and nothing else is evaluated. Behind 'text NAME' stands a text that such blocks
+may name; it isn't run. A block with no such line above it is only shown. Each rule that a table of
 LANGUAGE.md or a heading of ERRORS.md names must be broken by some text of that page.
 """
+import ast
 import os
 import re
 import subprocess
@@ -42,6 +44,36 @@ def blocks(page):
             lines.append(line)
 
 
+def made(it, named):
+    """The text or number that an expression makes, by the few forms that this program knows."""
+    match it:
+        case ast.Constant(value=str() | int() as value):
+            return value
+        case ast.Name(id=name):
+            return named[name]
+        case ast.BinOp(left=left, op=ast.Add(), right=right):
+            return made(left, named) + made(right, named)
+        case ast.BinOp(left=left, op=ast.Sub(), right=right):
+            return made(left, named) - made(right, named)
+        case ast.BinOp(left=left, op=ast.Mult(), right=right):
+            return made(left, named) * made(right, named)
+        case ast.BinOp(left=left, op=ast.Mod(), right=right):
+            return made(left, named) % made(right, named)
+        case ast.JoinedStr(values=parts):
+            return "".join(str(made(part.value if isinstance(part, ast.FormattedValue) else part, named)) for part in parts)
+        case ast.Call(func=ast.Attribute(value=text, attr="replace"), args=[old, new, *most], keywords=[]):
+            return made(text, named).replace(made(old, named), made(new, named), *[made(many, named) for many in most])
+        case ast.Call(func=ast.Attribute(value=between, attr="join"), args=[ast.GeneratorExp(elt=part, generators=[over])], keywords=[]):
+            bounds = [made(bound, named) for bound in over.iter.args] if over.iter.func.id == "range" and not over.ifs else None
+            return made(between, named).join(made(part, {**named, over.target.id: k}) for k in range(*bounds))
+    sys.exit(f"check_language: no text is made by {ast.unparse(it)}")
+
+
+def text_of(block, language, named):
+    """The text of a block: itself, or what it makes."""
+    return made(ast.parse(block.strip(), mode="eval").body, named) if language == "python" else block
+
+
 def texts(name, page):
     """The texts to be run: line, whether the form is serial, options, what becomes of the text, the text, its output and its input."""
     found, named = [], {}
@@ -49,16 +81,16 @@ def texts(name, page):
         if words in ("output", "input"):
             if not found or not found[-1]["serial"]:
                 sys.exit(f"{name}:{line}: no text to be run stands before this {words}")
-            found[-1][words] = eval(text, dict(named)) if language == "python" else text
+            found[-1][words] = text_of(text, language, named)
         elif words and words.startswith("text "):
-            named[words.split(" ")[1]] = eval(text, dict(named)) if language == "python" else text
+            named[words.split(" ")[1]] = text_of(text, language, named)
         elif words:
             said = HEAD.match(words)
             if not said or not (said[2] or said[4]):
                 sys.exit(f"{name}:{line}: what is '{words}'?")
             found.append({
                 "line": line, "serial": bool(said[2]), "options": (said[1] + said[3]).split(), "end": said[4],
-                "text": eval(text, dict(named)) if language == "python" else text, "output": "", "input": None})
+                "text": text_of(text, language, named), "output": "", "input": None})
     return found
 
 

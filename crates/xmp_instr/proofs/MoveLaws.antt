@@ -33,9 +33,9 @@ reflect_is c a w spread = (
       parts = tt;
       words = (small _ c.words w f.words, tt);
       sections = tt;
-      arrays = tt;
     };
     words = (f.words, tt);
+    arrays = tt;
   },
   λ m. record {
     lies = record { over = m.grids.0; no_image = m.laid_out.no_image.0; maps = m.laid_out.maps.0 };
@@ -64,9 +64,9 @@ gmove_is c t s ty w = (
       parts = (f.2.target_parts, f.2.source_parts);
       words = (small _ c.words w f.0.words, (small _ c.words w f.1.words, tt));
       sections = f.2.sections;
-      arrays = f.2.arrays;
     };
     words = (f.0.words, (f.1.words, tt));
+    arrays = f.2.arrays;
   },
   λ m. (
     record {
@@ -83,6 +83,6 @@ gmove_is c t s ty w = (
       cells = m.laid_out.cells.1.0;
       words = m.words.1.0;
     },
-    record { grid = m.laid_out.grid; target_parts = m.laid_out.parts.0; source_parts = m.laid_out.parts.1; sections = m.laid_out.sections; arrays = m.laid_out.arrays },
+    record { grid = m.laid_out.grid; target_parts = m.laid_out.parts.0; source_parts = m.laid_out.parts.1; sections = m.laid_out.sections; arrays = m.arrays },
   ),
 )

@@ -13,7 +13,7 @@ use Rattle.xmp_prog.specs.Formats.{IsFormat}
 use Rattle.xmp_prog.specs.Numbers.{pairwise, apart}
 use Rattle.xmp_move.specs.declared.kind.MoveKind.{MoveKind}
 use Rattle.xmp_move.specs.Sides.{words_in}
-use Rattle.xmp_move.specs.Laid.{IsLaidOut, sides_of}
+use Rattle.xmp_move.specs.Laid.{ArraysFit, IsLaidOut, sides_of}
 use Rattle.xmp_instr.specs.declared.instr.Instr.{Instr}
 use Rattle.xmp_instr.specs.declared.instr.Instr.TheVariants as i
 use Rattle.xmp_instr.specs.declared.meeting.Meeting.{Meeting}
@@ -55,11 +55,13 @@ pub record AreSets (nodes : ℕ) (sets : List (List ℕ)) : Type 0 where
   pub each : AllByRecursion (λ set. IsTrue (is_set nodes set)) sets
   pub disjoint : IsTrue (pairwise apart sets)
 
--- a transfer is laid out for the node, over grids of all nodes, with its words in the store
+-- a transfer is laid out for the node, over grids of all nodes, with its words in the store, where its sides are one array or
+-- share no word
 pub record MoveFits (c : CodeParts) (kind : MoveKind) : Type 0 where
   pub grids : AllByRecursion (λ s. HomeOver c.nodes s.home) (sides_of kind)
   pub laid_out : IsLaidOut kind c.node
   pub words : AllByRecursion (λ s. s.base + words_in s c.node ≤ c.words) (sides_of kind)
+  pub arrays : ArraysFit kind c.node
 
 -- a slot is below the number of words
 abbrev pub SlotFits : CodeParts → ℕ → Type 0

@@ -71,10 +71,11 @@ pub record IsOneArray (a b : Side) : Type 0 where
   pub extents : a.extents ≡ b.extents
   pub base : a.base ≡ b.base
 
--- or share no word
+-- or share no word of one store
 abbrev pub ShareNoWord : Side → Side → (node : ℕ) → Type 0
 ShareNoWord a b node = (a.base + words_in a node ≤ b.base) ⊎ (b.base + words_in b node ≤ a.base)
 
+-- what a store that holds both sides asks of them; rows of their own ask nothing
 abbrev pub ArraysFit : MoveKind → (node : ℕ) → Type 0
 ArraysFit (Reflect array) node = Unit {0}
 ArraysFit (Gmove target source ty) node = IsOneArray target source ⊎ ShareNoWord target source node
@@ -100,5 +101,3 @@ pub record IsLaidOut (kind : MoveKind) (node : ℕ) : Type 0 where
   pub words : AllByRecursion (λ s. s.base + words_in s node ≤ 2 ^ 32) (sides_of kind)
   -- a source with a section has as many of them as its target
   pub sections : SectionsFit kind
-  -- the sides are one array, or share no word
-  pub arrays : ArraysFit kind node

@@ -1,0 +1,8 @@
+mod SpotLaws
+mod ExprLaws
+mod StmtLaws
+mod StopLaws
+mod GuardLaws
+mod NestLaws
+mod RuleLaws
+mod SiteLaws

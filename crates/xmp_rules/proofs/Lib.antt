@@ -1,0 +1,13 @@
+pub mod Kept
+pub mod Names
+pub mod Standing
+pub mod Expressions
+pub mod Telling
+pub mod Directives
+pub mod Moving
+pub mod Mappings
+pub mod Statements
+pub mod Blocks
+pub mod Programs
+pub mod Hits
+pub mod RuleLaws

@@ -1,0 +1,5 @@
+use Rattle.xmp_rules.proofs.RuleLaws as lemmas
+use Rattle.xmp_rules.proofs.laws.names_outside_functions.Goals as goal
+
+pub returns : goal.returns
+returns c = lemmas.names_outside_functions
