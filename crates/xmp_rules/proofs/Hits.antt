@@ -176,7 +176,7 @@ kept_rules t given =
 
 -- The numbers of the rules that are looked at.
 abbrev pub is_covered : ℕ → Bool
-is_covered n = (n == 1) || ((n == 2) || ((n == 5) || (n == 7)))
+is_covered n = (n == 1) || ((n == 2) || ((n == 4) || ((n == 5) || ((n == 7) || (n == 8)))))
 
 covered_by : (r : Rule) → is_of_names r ≡ true → covered r ≡ is_covered (number_of r)
 covered_by N1 h = refl

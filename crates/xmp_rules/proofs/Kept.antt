@@ -10,8 +10,10 @@ use Rattle.xmp_names.specs.Rules.{unless}
 abbrev pub covered : Rule → Bool
 covered N1 = true
 covered N2 = true
+covered N4 = true
 covered N5 = true
 covered N7 = true
+covered N8 = true
 covered _ = false
 
 abbrev pub kept : List Broken → List Broken

@@ -1,5 +1,6 @@
 pub mod Kept
 pub mod Names
+pub mod Constancy
 pub mod Standing
 pub mod Expressions
 pub mod Telling

@@ -1,31 +1,38 @@
 -- Each rule breaks at a spot, as the checker tests it, exactly where its sentence says so.
-use Rattle.std.proofs.Common.{◌≡◌, ◌∙◌, refl, sym, ap, subst, arith, inl, inr, ⊎_elim, ◌⊎◌, ◌↔◌, ◌++◌, ◌∷◌, [], ℕ, ◌<◌, List, Bool, true, false, cond, not, ◌&&◌, ◌||◌, nat_lt, is_some, Option, Some, None, map, codes, true≢false}
-use Rattle.std.specs.Prelude.{⊤}
-use Rattle.std.specs.List.{list_any, AllByRecursion}
+use Rattle.std.proofs.Common.{◌≡◌, ◌∙◌, refl, sym, ap, subst, arith, inl, inr, ⊎_elim, ◌⊎◌, ◌↔◌, ◌++◌, ◌∷◌, [], ℕ, suc, ◌+◌, ◌<◌, ◌≤◌, ◌==◌, length, length-append, List, Bool, true, false, cond, not, ◌&&◌, ◌||◌, nat_lt, nat_le, is_some, Option, Some, None, map, codes, true≢false}
+use Rattle.std.specs.Prelude.{⊤, ℤ, pos, negsuc}
+use Rattle.std.specs.List.{list_any, list_all, AllByRecursion}
+use Rattle.std.proofs.lemmas.Option.{same_Some, none-some}
 use Rattle.std.specs.Option.{option_or}
 use Rattle.std.proofs.lemmas.Bool.Decides.{nat_tests}
 use Rattle.xmp_base.specs.declared.place.Place.{Place}
 use Rattle.xmp_syntax.specs.declared.parts.Name as named
+use Rattle.xmp_syntax.specs.declared.expression.Expr.{Expr}
 use Rattle.xmp_syntax.specs.declared.program.Tree.{Tree}
 use Rattle.xmp_scopes.specs.Names as scope
 use Rattle.xmp_scopes.specs.Names.{Name, is_same, in_scope, nearest}
 use Rattle.xmp_names.specs.declared.rules.Rule.{Rule}
-use Rattle.xmp_names.specs.declared.rules.Rule.TheVariants.{N1, N2, N5, N7}
+use Rattle.xmp_names.specs.declared.rules.Rule.TheVariants.{N1, N2, N4, N5, N7, N8}
 use Rattle.xmp_names.specs.declared.rules.Broken.{Broken}
 use Rattle.xmp_names.specs.Rules.{unless}
 use Rattle.xmp_syntax.specs.declared.parts.TypeWords.{TypeWords}
 use Rattle.xmp_syntax.specs.declared.parts.TypeWords.TheVariants as words
 use Rattle.xmp_syntax.specs.declared.program.Function as program
-use Rattle.xmp_names.specs.Walk.{is_reserved}
+use Rattle.xmp_names.specs.Expressions.{is_nothing}
+use Rattle.xmp_names.specs.Sizes.{is_extent}
+use Rattle.xmp_names.specs.Walk.{is_reserved, is_known, first_place}
+use Rattle.xmp_walk.specs.Declarations.{extent_right}
 use Rattle.xmp_walk.specs.Program.{parameters_in, is_int_word, no_parameters, is_main_head}
 use Rattle.xmp_parts.specs.Verdict.{number_of, is_of_names}
 use Rattle.xmp_rules.specs.Lists.{AnyOf}
 use Rattle.xmp_rules.specs.Scopes.{Declared, Scalar, Array, Nodes, Template, Function, Part, File, InFunction, InMain, Scope, Context, scopes, innermost, meaning, IsUndeclared}
-use Rattle.xmp_rules.specs.Spots.{Use, Variable, Called, AScalar, AnIndex, AnArray, SomeNodes, ATemplate, ASide, NoDummy, What, Used, Formed, Sides, Declares, Dummy, Directive, Maps, Extents, Constant, Returned, Word, Sync, Printed, Scanned, Returns, Head, spots}
-use Rattle.xmp_rules.specs.Rules.{BreaksAt, Counts, IsIntrinsic, IsGiven, IsUnknown, IsNamed, IsTwice, IsInFunction, IsEarlier, LiesOutside, CallsMain, ReachesOut, IsInt, IsMain, IsMisplaced}
+use Rattle.xmp_rules.specs.Spots.{Use, Variable, Called, AScalar, AnIndex, AnArray, SomeNodes, ATemplate, ASide, NoDummy, What, Used, Formed, Sides, Declares, Dummy, Directive, Maps, Extents, Constant, Returned, Word, Sync, Printed, Scanned, Returns, Head, spots, of_expr}
+use Rattle.xmp_rules.specs.Constants.{outcome, IsConstant}
+use Rattle.xmp_rules.specs.Rules.{IsInconstant, IsOutermost, IsExtent, IsNoExtent, StandsIll, BreaksAt, Counts, IsIntrinsic, IsGiven, IsUnknown, IsNamed, IsTwice, IsInFunction, IsEarlier, LiesOutside, CallsMain, ReachesOut, IsInt, IsMain, IsMisplaced}
 use Rattle.xmp_rules.proofs.Names.{equal_of_same, same_of_equal}
-use Rattle.xmp_rules.proofs.Standing.{in_function, in_main, is_earlier, lies_inside, may, is_given, allowed, used, breaks}
-use Rattle.xmp_rules.proofs.Hits.{Hit, any_same, counted}
+use Rattle.xmp_rules.proofs.Standing.{in_function, in_main, is_earlier, lies_inside, may, is_given, allowed, used, breaks, is_out, extents_right}
+use Rattle.xmp_rules.proofs.Constancy.{expected, value_in}
+use Rattle.xmp_rules.proofs.Hits.{Hit, any_left, any_right, any_either, any_same, counted}
 
 -- ---- a single test
 
@@ -109,6 +116,26 @@ here : (n : Name) (inner : List Scope) (file : Scope) → scope.is_declared_here
 here n [] file = refl
 here n (s ∷ ss) file = refl
 
+-- What is noted of an array breaks N8 twice, and N5.
+last_of : (n : ℕ) (at : Place) (c : Context) (name : named.Name) (xs : List Expr) → (number_of N8 ≡ n → ⊥) →
+    AnyOf (Hit n at) (breaks c (Extents name xs)) ↔ AnyOf (Hit n at) (unless (not (in_function c.part)) N5 name.at)
+last_of n at c name xs k =
+    let b : List Broken = unless (is_out c) N8 name.at in
+    let d : List Broken = unless (not (in_function c.part)) N5 name.at in
+    (λ h. ⊎_elim (λ x. absurd (miss n at (extents_right xs) N8 name.at k x)) (λ y. ⊎_elim (λ x. absurd (miss n at (is_out c) N8 name.at k x)) (λ z. z) (any_either (Hit n at) b d y)) (any_either (Hit n at) (unless (extents_right xs) N8 name.at) (b ++ d) h),
+    λ h. any_right (Hit n at) (unless (extents_right xs) N8 name.at) (b ++ d) (any_right (Hit n at) b d h))
+
+no_array : (n : ℕ) (at : Place) (c : Context) (name : named.Name) (xs : List Expr) → (number_of N8 ≡ n → ⊥) → (number_of N5 ≡ n → ⊥) → AnyOf (Hit n at) (breaks c (Extents name xs)) → ⊥
+no_array n at c name xs k l h = miss n at (not (in_function c.part)) N5 name.at l ((last_of n at c name xs k).0 h)
+
+none_of : {A : Type 0} → (A → ⊥) → A ↔ ⊥
+none_of f = (f, λ h. absurd h)
+
+-- No name in an expression or a directive breaks a rule but N1 and N5.
+no_name : (n : ℕ) (at : Place) (c : Context) (name : named.Name) (u : Use) (d : Option Declared) → (number_of N1 ≡ n → ⊥) → (number_of N5 ≡ n → ⊥) → AnyOf (Hit n at) (used c name u d) → ⊥
+no_name n at c name u None k l h = miss n at (is_given c name.text u) N1 name.at k h
+no_name n at c name u (Some d) k l h = miss n at (allowed name.text u (may c name.text (Some d))) N5 name.at l h
+
 -- ---- N1
 
 given : (c : Context) (n : Name) (u : Use) → (is_given c n u ≡ true) ↔ IsGiven c n u
@@ -129,9 +156,6 @@ unknown_used c n u at None f =
     (λ h. (h.0, (f.0 refl, (false_or_not (is_given c n.text u) (IsGiven c n.text u) (given c n.text u)).0 h.1)), λ h. (h.0, (false_or_not (is_given c n.text u) (IsGiven c n.text u) (given c n.text u)).1 h.1.1))
 unknown_used c n u at (Some d) f = (λ h. absurd (miss 1 at (allowed n.text u (may c n.text (Some d))) N5 n.at (λ e. omega (arith, e)) h), λ h. absurd (true≢false (f.1 h.1.0)))
 
-none_of : {A : Type 0} → (A → ⊥) → A ↔ ⊥
-none_of f = (f, λ h. absurd h)
-
 unknown_spot : (at : Place) (c : Context) (x : What) → AnyOf (Hit 1 at) (breaks c x) ↔ IsUnknown c x at
 unknown_spot at c (Used n u) = unknown_used c n u at (meaning c n.text) (undeclared n.text (scopes c))
 unknown_spot at c (Sync word) = hit 1 at c.coarray N1 word refl refl
@@ -139,12 +163,12 @@ unknown_spot at c (Declares n) = none_of (miss 1 at _ N2 n.at (λ e. omega (arit
 unknown_spot at c (Dummy before n) = none_of (miss 1 at _ N2 n.at (λ e. omega (arith, e)))
 unknown_spot at c (Directive word) = none_of (miss 1 at _ N5 word (λ e. omega (arith, e)))
 unknown_spot at c (Word word) = none_of (miss 1 at _ N5 word (λ e. omega (arith, e)))
-unknown_spot at c (Extents n extents) = none_of (miss 1 at _ N5 n.at (λ e. omega (arith, e)))
+unknown_spot at c (Extents n extents) = none_of (no_array 1 at c n extents (λ e. omega (arith, e)) (λ e. omega (arith, e)))
 unknown_spot at c (Formed n f) = none_of (λ h. h)
 unknown_spot at c (Sides a b) = none_of (λ h. h)
-unknown_spot at c (Maps word) = none_of (λ h. h)
-unknown_spot at c (Constant x) = none_of (λ h. h)
-unknown_spot at c (Returned x) = none_of (λ h. h)
+unknown_spot at c (Maps word) = none_of (miss 1 at _ N8 word (λ e. omega (arith, e)))
+unknown_spot at c (Constant x) = none_of (miss 1 at _ N4 (first_place x) (λ e. omega (arith, e)))
+unknown_spot at c (Returned x) = none_of (miss 1 at _ N4 (first_place x) (λ e. omega (arith, e)))
 unknown_spot at c (Printed f xs) = none_of (λ h. h)
 unknown_spot at c (Scanned f r) = none_of (λ h. h)
 unknown_spot at c (Returns word) = none_of (miss 1 at _ N7 word (λ e. omega (arith, e)))
@@ -164,23 +188,19 @@ twice_declared c n = iff_then (not_false (scope.is_declared_here n (scopes c) ||
     (or_either (scope.is_declared_here n (scopes c)) (is_reserved n) (IsNamed n (innermost c.inner c.file)) (IsIntrinsic n)
     (subst (λ b. (b ≡ true) ↔ IsNamed n (innermost c.inner c.file)) (sym (here n c.inner c.file)) (named_here n (innermost c.inner c.file))) (intrinsic n))
 
-no_use : (at : Place) (c : Context) (n : named.Name) (u : Use) (d : Option Declared) → AnyOf (Hit 2 at) (used c n u d) → ⊥
-no_use at c n u None h = miss 2 at (is_given c n.text u) N1 n.at (λ e. omega (arith, e)) h
-no_use at c n u (Some d) h = miss 2 at (allowed n.text u (may c n.text (Some d))) N5 n.at (λ e. omega (arith, e)) h
-
 twice_spot : (at : Place) (c : Context) (x : What) → AnyOf (Hit 2 at) (breaks c x) ↔ IsTwice c x at
-twice_spot at c (Used n u) = none_of (no_use at c n u (meaning c n.text))
+twice_spot at c (Used n u) = none_of (no_name 2 at c n u (meaning c n.text) (λ e. omega (arith, e)) (λ e. omega (arith, e)))
 twice_spot at c (Sync word) = none_of (miss 2 at c.coarray N1 word (λ e. omega (arith, e)))
 twice_spot at c (Declares n) = iff_then (hit 2 at _ N2 n.at refl refl) (iff_place n.at at (twice_declared c n.text))
 twice_spot at c (Dummy before n) = iff_then (hit 2 at _ N2 n.at refl refl) (iff_place n.at at (iff_then (not_false (list_any (is_same n.text) before)) (dummy_twice n.text before)))
 twice_spot at c (Directive word) = none_of (miss 2 at _ N5 word (λ e. omega (arith, e)))
 twice_spot at c (Word word) = none_of (miss 2 at _ N5 word (λ e. omega (arith, e)))
-twice_spot at c (Extents n extents) = none_of (miss 2 at _ N5 n.at (λ e. omega (arith, e)))
+twice_spot at c (Extents n extents) = none_of (no_array 2 at c n extents (λ e. omega (arith, e)) (λ e. omega (arith, e)))
 twice_spot at c (Formed n f) = none_of (λ h. h)
 twice_spot at c (Sides a b) = none_of (λ h. h)
-twice_spot at c (Maps word) = none_of (λ h. h)
-twice_spot at c (Constant x) = none_of (λ h. h)
-twice_spot at c (Returned x) = none_of (λ h. h)
+twice_spot at c (Maps word) = none_of (miss 2 at _ N8 word (λ e. omega (arith, e)))
+twice_spot at c (Constant x) = none_of (miss 2 at _ N4 (first_place x) (λ e. omega (arith, e)))
+twice_spot at c (Returned x) = none_of (miss 2 at _ N4 (first_place x) (λ e. omega (arith, e)))
 twice_spot at c (Printed f xs) = none_of (λ h. h)
 twice_spot at c (Scanned f r) = none_of (λ h. h)
 twice_spot at c (Returns word) = none_of (miss 2 at _ N7 word (λ e. omega (arith, e)))
@@ -245,15 +265,15 @@ reaching_spot : (at : Place) (c : Context) (x : What) → AnyOf (Hit 5 at) (brea
 reaching_spot at c (Used n u) = reaching at c n u (meaning c n.text)
 reaching_spot at c (Directive word) = iff_then (hit 5 at _ N5 word refl refl) (iff_place word at (in_one c.part))
 reaching_spot at c (Word word) = iff_then (hit 5 at _ N5 word refl refl) (iff_place word at (in_one c.part))
-reaching_spot at c (Extents n extents) = iff_then (hit 5 at _ N5 n.at refl refl) (iff_place n.at at (in_one c.part))
+reaching_spot at c (Extents n extents) = iff_then (last_of 5 at c n extents (λ e. omega (arith, e))) (iff_then (hit 5 at _ N5 n.at refl refl) (iff_place n.at at (in_one c.part)))
 reaching_spot at c (Sync word) = none_of (miss 5 at c.coarray N1 word (λ e. omega (arith, e)))
 reaching_spot at c (Declares n) = none_of (miss 5 at _ N2 n.at (λ e. omega (arith, e)))
 reaching_spot at c (Dummy before n) = none_of (miss 5 at _ N2 n.at (λ e. omega (arith, e)))
 reaching_spot at c (Formed n f) = none_of (λ h. h)
 reaching_spot at c (Sides a b) = none_of (λ h. h)
-reaching_spot at c (Maps word) = none_of (λ h. h)
-reaching_spot at c (Constant x) = none_of (λ h. h)
-reaching_spot at c (Returned x) = none_of (λ h. h)
+reaching_spot at c (Maps word) = none_of (miss 5 at _ N8 word (λ e. omega (arith, e)))
+reaching_spot at c (Constant x) = none_of (miss 5 at _ N4 (first_place x) (λ e. omega (arith, e)))
+reaching_spot at c (Returned x) = none_of (miss 5 at _ N4 (first_place x) (λ e. omega (arith, e)))
 reaching_spot at c (Printed f xs) = none_of (λ h. h)
 reaching_spot at c (Scanned f r) = none_of (λ h. h)
 reaching_spot at c (Returns word) = none_of (miss 5 at _ N7 word (λ e. omega (arith, e)))
@@ -286,27 +306,151 @@ main_head : (f : program.Function) → (is_main_head f ≡ true) ↔ IsMain f
 main_head f = both (is_int_word f.ty) (is_same f.name.text (codes "main") && no_parameters (parameters_in f.parameters.item)) (IsInt f.ty) ((f.name.text ≡ codes "main") × (parameters_in f.parameters.item ≡ [])) (int_word f.ty)
     (both (is_same f.name.text (codes "main")) (no_parameters (parameters_in f.parameters.item)) (f.name.text ≡ codes "main") (parameters_in f.parameters.item ≡ []) (same_name f.name.text (codes "main")) (without_parameters (parameters_in f.parameters.item)))
 
-no_return : (at : Place) (c : Context) (n : named.Name) (u : Use) (d : Option Declared) → AnyOf (Hit 7 at) (used c n u d) → ⊥
-no_return at c n u None h = miss 7 at (is_given c n.text u) N1 n.at (λ e. omega (arith, e)) h
-no_return at c n u (Some d) h = miss 7 at (allowed n.text u (may c n.text (Some d))) N5 n.at (λ e. omega (arith, e)) h
-
 misplaced_spot : (at : Place) (c : Context) (x : What) → AnyOf (Hit 7 at) (breaks c x) ↔ IsMisplaced c x at
 misplaced_spot at c (Returns word) = iff_then (hit 7 at (not (in_main c.part)) N7 word refl refl) (iff_place word at (in_main_part c.part))
 misplaced_spot at c (Head f) = iff_then (hit 7 at (is_main_head f) N7 f.name.at refl refl) (iff_place f.name.at at (false_or_not (is_main_head f) (IsMain f) (main_head f)))
-misplaced_spot at c (Used n u) = none_of (no_return at c n u (meaning c n.text))
+misplaced_spot at c (Used n u) = none_of (no_name 7 at c n u (meaning c n.text) (λ e. omega (arith, e)) (λ e. omega (arith, e)))
 misplaced_spot at c (Sync word) = none_of (miss 7 at c.coarray N1 word (λ e. omega (arith, e)))
 misplaced_spot at c (Declares n) = none_of (miss 7 at _ N2 n.at (λ e. omega (arith, e)))
 misplaced_spot at c (Dummy before n) = none_of (miss 7 at _ N2 n.at (λ e. omega (arith, e)))
 misplaced_spot at c (Directive word) = none_of (miss 7 at _ N5 word (λ e. omega (arith, e)))
 misplaced_spot at c (Word word) = none_of (miss 7 at _ N5 word (λ e. omega (arith, e)))
-misplaced_spot at c (Extents n extents) = none_of (miss 7 at _ N5 n.at (λ e. omega (arith, e)))
+misplaced_spot at c (Extents n extents) = none_of (no_array 7 at c n extents (λ e. omega (arith, e)) (λ e. omega (arith, e)))
 misplaced_spot at c (Formed n f) = none_of (λ h. h)
 misplaced_spot at c (Sides a b) = none_of (λ h. h)
-misplaced_spot at c (Maps word) = none_of (λ h. h)
-misplaced_spot at c (Constant x) = none_of (λ h. h)
-misplaced_spot at c (Returned x) = none_of (λ h. h)
+misplaced_spot at c (Maps word) = none_of (miss 7 at _ N8 word (λ e. omega (arith, e)))
+misplaced_spot at c (Constant x) = none_of (miss 7 at _ N4 (first_place x) (λ e. omega (arith, e)))
+misplaced_spot at c (Returned x) = none_of (miss 7 at _ N4 (first_place x) (λ e. omega (arith, e)))
 misplaced_spot at c (Printed f xs) = none_of (λ h. h)
 misplaced_spot at c (Scanned f r) = none_of (λ h. h)
 
 pub main_and_its_return : (t : Tree) (given : Option ℕ) (at : Place) → Counts t given 7 at ↔ BreaksAt IsMisplaced t at
 main_and_its_return t given at = iff_then (counted t given 7 at refl) (any_same (λ s. AnyOf (Hit 7 at) (breaks s.in s.what)) (λ s. IsMisplaced s.in s.what at) (λ s. misplaced_spot at s.in s.what) (spots t))
+
+-- ---- N4
+
+-- What the checker knows of an expression is a value exactly where it has that value.
+value_known : (plain : Bool) (v : Option ℤ) → (is_known (expected plain v) ≡ true) ↔ ((plain ≡ true) × ((x : ℤ) × (v ≡ Some x)))
+value_known false v = (λ h. absurd (true≢false (sym h)), λ h. absurd (true≢false (sym h.0)))
+value_known true None = (λ h. absurd (true≢false (sym h)), λ h. absurd (none-some h.1.0 h.1.1))
+value_known true (Some x) = (λ h. (refl, (x, refl)), λ h. refl)
+
+nothing_there : {A : Type 0} (xs : List A) → (is_nothing xs ≡ true) ↔ (xs ≡ [])
+nothing_there [] = (λ h. refl, λ h. refl)
+nothing_there (x ∷ xs) = (λ h. absurd (true≢false (sym h)), λ h. absurd (cc h))
+
+constant_known : (x : Expr) → (is_known (value_in x) ≡ true) ↔ IsConstant x
+constant_known x =
+    let k = value_known (is_nothing (of_expr x)) (outcome x).value in
+    let n = nothing_there (of_expr x) in
+    (λ h. ((k.0 h).1.0, record { nameless = n.0 (k.0 h).0; value = (k.0 h).1.1 }), λ h. k.1 (n.1 h.1.nameless, (h.0, h.1.value)))
+
+inconstant : (x : Expr) → (is_known (value_in x) ≡ false) ↔ (IsConstant x → ⊥)
+inconstant x = false_or_not (is_known (value_in x)) (IsConstant x) (constant_known x)
+
+inconstant_spot : (at : Place) (c : Context) (x : What) → AnyOf (Hit 4 at) (breaks c x) ↔ IsInconstant c x at
+inconstant_spot at c (Used n u) = none_of (no_name 4 at c n u (meaning c n.text) (λ e. omega (arith, e)) (λ e. omega (arith, e)))
+inconstant_spot at c (Sync word) = none_of (miss 4 at c.coarray N1 word (λ e. omega (arith, e)))
+inconstant_spot at c (Declares n) = none_of (miss 4 at _ N2 n.at (λ e. omega (arith, e)))
+inconstant_spot at c (Dummy before n) = none_of (miss 4 at _ N2 n.at (λ e. omega (arith, e)))
+inconstant_spot at c (Directive word) = none_of (miss 4 at _ N5 word (λ e. omega (arith, e)))
+inconstant_spot at c (Word word) = none_of (miss 4 at _ N5 word (λ e. omega (arith, e)))
+inconstant_spot at c (Extents n extents) = none_of (no_array 4 at c n extents (λ e. omega (arith, e)) (λ e. omega (arith, e)))
+inconstant_spot at c (Formed n f) = none_of (λ h. h)
+inconstant_spot at c (Sides a b) = none_of (λ h. h)
+inconstant_spot at c (Maps word) = none_of (miss 4 at _ N8 word (λ e. omega (arith, e)))
+inconstant_spot at c (Constant x) = iff_then (hit 4 at _ N4 (first_place x) refl refl) (iff_place (first_place x) at (inconstant x))
+inconstant_spot at c (Returned x) = iff_then (hit 4 at _ N4 (first_place x) refl refl) (iff_place (first_place x) at (or_false (not (in_main c.part)) (is_known (value_in x)) (c.part ≡ InMain) (IsConstant x → ⊥) (in_main_part c.part) (inconstant x)))
+inconstant_spot at c (Printed f xs) = none_of (λ h. h)
+inconstant_spot at c (Scanned f r) = none_of (λ h. h)
+inconstant_spot at c (Returns word) = none_of (miss 4 at _ N7 word (λ e. omega (arith, e)))
+inconstant_spot at c (Head f) = none_of (miss 4 at _ N7 f.name.at (λ e. omega (arith, e)))
+
+pub constant_expressions : (t : Tree) (given : Option ℕ) (at : Place) → Counts t given 4 at ↔ BreaksAt IsInconstant t at
+constant_expressions t given at = iff_then (counted t given 4 at refl) (any_same (λ s. AnyOf (Hit 4 at) (breaks s.in s.what)) (λ s. IsInconstant s.in s.what at) (λ s. inconstant_spot at s.in s.what) (spots t))
+
+-- ---- N8
+
+long_scopes : (k : ℕ) → (nat_lt (suc (suc (k + 1))) 2 ≡ false) × ((suc (suc (k + 1)) == 2) ≡ false)
+long_scopes k = (grind (arith, nat_tests), grind (arith, nat_tests))
+
+out_by : (p : Part) (inner : List Scope) (file : Scope) → ((nat_lt (length (inner ++ file ∷ [])) 2 || (in_main p && (length (inner ++ file ∷ []) == 2))) ≡ true) ↔ IsOutermost p inner
+out_by p [] file = (λ h. tt, λ h. refl)
+out_by File (s ∷ []) file = (λ h. absurd (true≢false (sym h)), λ h. absurd (cc h))
+out_by (InFunction k) (s ∷ []) file = (λ h. absurd (true≢false (sym h)), λ h. absurd (cc h))
+out_by InMain (s ∷ []) file = (λ h. refl, λ h. refl)
+out_by p (s ∷ t ∷ ss) file =
+    let k : ℕ = length (ss ++ file ∷ []) in
+    let e : (nat_lt (suc (suc k)) 2 || (in_main p && (suc (suc k) == 2))) ≡ false = by k (length-append ss (file ∷ [])) in
+    (λ h. absurd (true≢false (sym h ∙ e)), λ h. absurd h)
+  where
+    none : (a b c : Bool) → a ≡ false → c ≡ false → (a || (b && c)) ≡ false
+    none a true c h e = ap (λ x. x || c) h ∙ e
+    none a false c h e = ap (λ x. x || false) h
+
+    by : (k : ℕ) → k ≡ length ss + 1 → (nat_lt (suc (suc k)) 2 || (in_main p && (suc (suc k) == 2))) ≡ false
+    by k h = none (nat_lt (suc (suc k)) 2) (in_main p) (suc (suc k) == 2) (ap (λ n. nat_lt (suc (suc n)) 2) h ∙ (long_scopes (length ss)).0) (ap (λ n. suc (suc n) == 2) h ∙ (long_scopes (length ss)).1)
+
+outside_here : (c : Context) → (is_out c ≡ false) ↔ (IsOutermost c.part c.inner → ⊥)
+outside_here c = false_or_not (is_out c) (IsOutermost c.part c.inner) (out_by c.part c.inner c.file)
+
+extent_is : (v : ℤ) → (is_extent v ≡ true) ↔ IsExtent v
+extent_is (pos n) = (λ h. (n, (refl, inside n h)), λ h. within n (h.0) (cc h.1.0) h.1.1.0 h.1.1.1)
+  where
+    inside : (n : ℕ) → (nat_le 1 n && nat_le n 4194304) ≡ true → (1 ≤ n) × (n ≤ 4194304)
+    inside n h = (grind (arith, nat_tests, h), grind (arith, nat_tests, h))
+
+    within : (n m : ℕ) → n ≡ m → 1 ≤ m → m ≤ 4194304 → (nat_le 1 n && nat_le n 4194304) ≡ true
+    within n m e a b = grind (arith, nat_tests)
+extent_is (negsuc n) = (λ h. absurd (true≢false (sym h)), λ h. absurd (cc h.1.0))
+
+no_extent : (x : Expr) → (extent_right (value_in x) ≡ false) ↔ IsNoExtent x
+no_extent x = by (is_nothing (of_expr x)) (outcome x).value (nothing_there (of_expr x)) refl
+  where
+    by : (plain : Bool) (o : Option ℤ) → (plain ≡ true) ↔ (of_expr x ≡ []) → (outcome x).value ≡ o → (extent_right (expected plain o) ≡ false) ↔ IsNoExtent x
+    by false o n e = (λ h. absurd (true≢false h), λ h. absurd (true≢false (sym (n.1 h.1.0.nameless))))
+    by true None n e = (λ h. absurd (true≢false h), λ h. absurd (none-some h.0 (sym e ∙ h.1.0.value)))
+    by true (Some v) n e =
+        let k = false_or_not (is_extent v) (IsExtent v) (extent_is v) in
+        (λ h. (v, (record { nameless = n.0 refl; value = e }, k.0 h)), λ h. k.1 (subst (λ y. IsExtent y → ⊥) (same_Some (sym h.1.0.value ∙ e)) h.1.1))
+
+some_no_extent : (xs : List Expr) → (list_all (λ x. extent_right (value_in x)) xs ≡ false) ↔ AnyOf IsNoExtent xs
+some_no_extent [] = (λ h. absurd (true≢false h), λ h. absurd h)
+some_no_extent (x ∷ xs) = and_either (extent_right (value_in x)) (list_all (λ x. extent_right (value_in x)) xs) (IsNoExtent x) (AnyOf IsNoExtent xs) (no_extent x) (some_no_extent xs)
+
+too_many : (n : ℕ) → (nat_le n 3 ≡ false) ↔ (3 < n)
+too_many n = (λ h. grind (arith, nat_tests, h), λ h. grind (arith, nat_tests, h))
+
+ill_array : (at : Place) (c : Context) (n : named.Name) (xs : List Expr) → AnyOf (Hit 8 at) (breaks c (Extents n xs)) ↔ StandsIll c (Extents n xs) at
+ill_array at c n xs =
+    let a : List Broken = unless (extents_right xs) N8 n.at in
+    let b : List Broken = unless (is_out c) N8 n.at in
+    let d : List Broken = unless (not (in_function c.part)) N5 n.at in
+    let f = iff_then (hit 8 at (extents_right xs) N8 n.at refl refl) (iff_place n.at at (and_either (list_all (λ x. extent_right (value_in x)) xs) (nat_le (length xs) 3) (AnyOf IsNoExtent xs) (3 < length xs) (some_no_extent xs) (too_many (length xs)))) in
+    let g = iff_then (hit 8 at (is_out c) N8 n.at refl refl) (iff_place n.at at (outside_here c)) in
+    let P : Broken → Type 0 = Hit 8 at in
+    (λ h. ⊎_elim (λ x. let k = f.0 x in (k.0, ⊎_elim (λ y. inl y) (λ y. inr (inl y)) k.1))
+    (λ y. ⊎_elim (λ x. let k = g.0 x in (k.0, inr (inr k.1))) (λ z. absurd (miss 8 at (not (in_function c.part)) N5 n.at (λ e. omega (arith, e)) z)) (any_either P b d y)) (any_either P a (b ++ d) h),
+    λ h. ⊎_elim (λ y. any_left P a (b ++ d) (f.1 (h.0, inl y)))
+    (λ q. ⊎_elim (λ y. any_left P a (b ++ d) (f.1 (h.0, inr y))) (λ y. any_right P a (b ++ d) (any_left P b d (g.1 (h.0, y)))) q) h.1)
+
+ill_spot : (at : Place) (c : Context) (x : What) → AnyOf (Hit 8 at) (breaks c x) ↔ StandsIll c x at
+ill_spot at c (Used n u) = none_of (no_name 8 at c n u (meaning c n.text) (λ e. omega (arith, e)) (λ e. omega (arith, e)))
+ill_spot at c (Sync word) = none_of (miss 8 at c.coarray N1 word (λ e. omega (arith, e)))
+ill_spot at c (Declares n) = none_of (miss 8 at _ N2 n.at (λ e. omega (arith, e)))
+ill_spot at c (Dummy before n) = none_of (miss 8 at _ N2 n.at (λ e. omega (arith, e)))
+ill_spot at c (Directive word) = none_of (miss 8 at _ N5 word (λ e. omega (arith, e)))
+ill_spot at c (Word word) = none_of (miss 8 at _ N5 word (λ e. omega (arith, e)))
+ill_spot at c (Extents n extents) = ill_array at c n extents
+ill_spot at c (Formed n f) = none_of (λ h. h)
+ill_spot at c (Sides a b) = none_of (λ h. h)
+ill_spot at c (Maps word) = iff_then (hit 8 at (is_out c) N8 word refl refl) (iff_place word at (outside_here c))
+ill_spot at c (Constant x) = none_of (miss 8 at _ N4 (first_place x) (λ e. omega (arith, e)))
+ill_spot at c (Returned x) = none_of (miss 8 at _ N4 (first_place x) (λ e. omega (arith, e)))
+ill_spot at c (Printed f xs) = none_of (λ h. h)
+ill_spot at c (Scanned f r) = none_of (λ h. h)
+ill_spot at c (Returns word) = none_of (miss 8 at _ N7 word (λ e. omega (arith, e)))
+ill_spot at c (Head f) = none_of (miss 8 at _ N7 f.name.at (λ e. omega (arith, e)))
+
+pub arrays_and_their_places : (t : Tree) (given : Option ℕ) (at : Place) → Counts t given 8 at ↔ BreaksAt StandsIll t at
+arrays_and_their_places t given at = iff_then (counted t given 8 at refl) (any_same (λ s. AnyOf (Hit 8 at) (breaks s.in s.what)) (λ s. StandsIll s.in s.what at) (λ s. ill_spot at s.in s.what) (spots t))

@@ -1,7 +1,7 @@
 -- An environment of the checker stands for a context: the names mean the same, and the same functions were declared.
-use Rattle.std.proofs.Common.{◌≡◌, ◌∙◌, refl, sym, ap, subst, ◌++◌, ◌∷◌, [], ℕ, suc, ◌+◌, ◌<◌, List, Bool, true, false, cond, not, ◌&&◌, ◌||◌, ◌==◌, nat_lt, Option, Some, None, is_some, length, length-append, flat_map, codes, if◌then◌else◌, arith}
+use Rattle.std.proofs.Common.{◌≡◌, ◌∙◌, refl, sym, ap, subst, ◌++◌, ◌∷◌, [], ℕ, suc, ◌+◌, ◌<◌, List, Bool, true, false, cond, not, ◌&&◌, ◌||◌, ◌==◌, nat_lt, nat_le, Option, Some, None, is_some, length, length-append, flat_map, codes, if◌then◌else◌, arith}
 use Rattle.std.specs.Prelude.{⊤}
-use Rattle.std.specs.List.{list_any}
+use Rattle.std.specs.List.{list_any, list_all}
 use Rattle.std.specs.Option.{option_or}
 use Rattle.std.proofs.lemmas.Option.{same_Some, none-some}
 use Rattle.xmp_base.specs.declared.place.Place.{Place}
@@ -14,13 +14,17 @@ use Rattle.xmp_names.specs.declared.names.Region.TheVariants as region
 use Rattle.xmp_names.specs.declared.names.Meaning.{Meaning}
 use Rattle.xmp_names.specs.declared.names.Meaning.TheVariants as m
 use Rattle.xmp_names.specs.declared.names.Environment.{Environment}
-use Rattle.xmp_names.specs.declared.rules.Rule.TheVariants.{N1, N2, N5, N7}
+use Rattle.xmp_names.specs.declared.rules.Rule.TheVariants.{N1, N2, N4, N5, N7, N8}
 use Rattle.xmp_names.specs.declared.rules.Broken.{Broken}
 use Rattle.xmp_names.specs.Rules.{unless}
 use Rattle.xmp_names.specs.Expressions.{is_function, is_first, is_own, may_name}
-use Rattle.xmp_names.specs.Walk.{is_reserved, is_main}
+use Rattle.xmp_names.specs.declared.world.World.{World}
+use Rattle.xmp_names.specs.Walk.{is_reserved, is_main, is_known, is_outermost, first_place}
+use Rattle.xmp_walk.specs.Declarations.{extent_right}
 use Rattle.xmp_walk.specs.Program.{is_main_head}
 use Rattle.xmp_rules.specs.Scopes.{Declared, Scalar, Array, Nodes, Template, Function, Part, File, InFunction, InMain, Scope, Context, scopes, meaning}
+use Rattle.xmp_syntax.specs.declared.expression.Expr.{Expr}
+use Rattle.xmp_rules.proofs.Constancy.{value_in}
 use Rattle.xmp_rules.specs.Spots.{Use, Called, Variable, AScalar, AnIndex, AnArray, SomeNodes, ATemplate, ASide, NoDummy, What, Used, Formed, Sides, Declares, Dummy, Directive, Maps, Extents, Constant, Returned, Word, Sync, Printed, Scanned, Returns, Head, Spot, all_in}
 
 -- ---- the relation
@@ -261,6 +265,15 @@ main_is e c s = ap is_main s.region ∙ by c.part
     by (InFunction k) = refl
     by InMain = refl
 
+-- Whether this is file scope, or main's own list of statements.
+abbrev pub is_out : Context → Bool
+is_out c = nat_lt (length (scopes c)) 2 || (in_main c.part && (length (scopes c) == 2))
+
+pub out_is : (w : World) (c : Context) → Stands w.names c → is_outermost w ≡ is_out c
+out_is w c s =
+    ap (λ k. nat_lt k 2 || (is_main w.names.region && (k == 2))) (same_length w.names.scopes (scopes c) s.names)
+    ∙ ap (λ t. nat_lt (length (scopes c)) 2 || (t && (length (scopes c) == 2))) (main_is w.names c s)
+
 pub declared_here : (n : Name) (ms : List (List (Name × Meaning))) (bs : List Scope) → SameScopes ms bs → scope.is_declared_here n ms ≡ scope.is_declared_here n bs
 declared_here n [] [] h = refl
 declared_here n [] (b ∷ bs) h = absurd h
@@ -282,6 +295,10 @@ abbrev pub used : Context → named.Name → Use → Option Declared → List Br
 used c n u None = unless (is_given c n.text u) N1 n.at
 used c n u (Some d) = unless (allowed n.text u (may c n.text (Some d))) N5 n.at
 
+-- Whether extents are right, and not too many.
+abbrev pub extents_right : List Expr → Bool
+extents_right xs = list_all (λ x. extent_right (value_in x)) xs && nat_le (length xs) 3
+
 abbrev pub breaks : Context → What → List Broken
 breaks c (Used n u) = used c n u (meaning c n.text)
 breaks c (Sync word) = unless c.coarray N1 word
@@ -289,7 +306,10 @@ breaks c (Declares n) = unless (not (scope.is_declared_here n.text (scopes c) ||
 breaks c (Dummy before n) = unless (not (list_any (is_same n.text) before)) N2 n.at
 breaks c (Directive word) = unless (not (in_function c.part)) N5 word
 breaks c (Word word) = unless (not (in_function c.part)) N5 word
-breaks c (Extents n extents) = unless (not (in_function c.part)) N5 n.at
+breaks c (Extents n extents) = unless (extents_right extents) N8 n.at ++ (unless (is_out c) N8 n.at ++ unless (not (in_function c.part)) N5 n.at)
+breaks c (Maps word) = unless (is_out c) N8 word
+breaks c (Constant x) = unless (is_known (value_in x)) N4 (first_place x)
+breaks c (Returned x) = unless (not (in_main c.part) || is_known (value_in x)) N4 (first_place x)
 breaks c (Returns word) = unless (not (in_main c.part)) N7 word
 breaks c (Head f) = unless (is_main_head f) N7 f.name.at
 breaks c _ = []

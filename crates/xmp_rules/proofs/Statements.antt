@@ -1,5 +1,5 @@
 -- Declarations and statements note what breaks at their spots.
-use Rattle.std.proofs.Common.{◌≡◌, ◌∙◌, refl, sym, ap, subst, ◌++◌, ◌∷◌, [], ℕ, List, Bool, true, false, not, ◌&&◌, ◌||◌, nat_le, Option, Some, None, is_some, length, map, flat_map, drop, append_assoc, append-nil}
+use Rattle.std.proofs.Common.{◌≡◌, ◌∙◌, refl, sym, ap, subst, ◌++◌, ◌∷◌, [], ℕ, List, Bool, true, false, not, ◌&&◌, ◌||◌, ◌==◌, nat_le, nat_lt, Option, Some, None, is_some, length, map, flat_map, drop, append_assoc, append-nil}
 use Rattle.std.proofs.lemmas.Grind.{flat_map-append}
 use Rattle.std.specs.Prelude.{⊤}
 use Rattle.std.specs.List.{list_all, AllZip}
@@ -39,13 +39,15 @@ use Rattle.xmp_syntax.specs.declared.statement.Stmt.TheOpen.{Stmt-F}
 use Rattle.xmp_syntax.specs.declared.statement.Stmt.TheFolds.{fold-roll-Stmt, ind-Stmt, map-Stmt}
 use Rattle.xmp_syntax.specs.declared.statement.Stmt.TheViews.{roll-Stmt}
 use Rattle.xmp_scopes.specs.Names as scope
+use Rattle.xmp_scopes.specs.Names.{Name}
 use Rattle.xmp_names.specs.declared.names.Meaning.{Meaning}
 use Rattle.xmp_names.specs.declared.names.Meaning.TheVariants as m
 use Rattle.xmp_names.specs.declared.rules.Rule.TheVariants.{N1, N2, N3, N4, N5, N6, N7, N8}
 use Rattle.xmp_names.specs.declared.typed.Operand.{Operand}
 use Rattle.xmp_names.specs.declared.world.World.{World}
 use Rattle.xmp_names.specs.Rules.{unless}
-use Rattle.xmp_names.specs.Expressions.{is_function}
+use Rattle.xmp_names.specs.declared.rules.Broken.{Broken}
+use Rattle.xmp_names.specs.Expressions.{is_function, expr_of}
 use Rattle.xmp_names.specs.Formats.{fits_format, is_scan_format}
 use Rattle.xmp_names.specs.Lists.{listed, inner}
 use Rattle.xmp_names.specs.Walk as walk
@@ -61,24 +63,46 @@ use Rattle.xmp_walk.specs.Statements as statements
 use Rattle.xmp_walk.specs.Statements.{set, compound_of, one, call_statement, target_of, target_name, is_scalar_target, index_of, first_part, loop_of}
 use Rattle.xmp_walk.specs.Program as program
 use Rattle.xmp_rules.specs.Scopes as scopes
-use Rattle.xmp_rules.specs.Scopes.{Declared, Context, declare, opened}
+use Rattle.xmp_rules.specs.Scopes.{Declared, Scope, Context, inner_with, file_with, declare, opened}
 use Rattle.xmp_rules.specs.Spots as spots
 use Rattle.xmp_rules.specs.Spots.{Status, What, Formed, Sides, Declares, Directive, Extents, Constant, Returned, Word, Sync, Printed, Scanned, Returns, Spot, all_in, constant, behind, of_expr, of_reference, of_call, of_names, of_set, of_loop, of_task, of_mapping, behind_mapping, behind_declarator, of_declarator, of_declarators, behind_declarators, of_declaration, behind_declaration, of_simple, of_return, of_plain, of_first, behind_first, of_test, of_next, of_for, of_items, of_else, of_stmt}
 use Rattle.xmp_rules.proofs.Kept.{kept, behind_none, behind_all}
-use Rattle.xmp_rules.proofs.Standing.{Stands, breaks, found, all_found, part_is, main_is, or_true}
+use Rattle.xmp_rules.proofs.Constancy.{value_in, value_is, and_true, and_moves}
+use Rattle.xmp_rules.proofs.Standing.{Stands, breaks, found, all_found, found_in, part_is, main_is, in_function, in_main, or_true, is_out, out_is, extents_right}
 use Rattle.xmp_rules.proofs.Telling as telling
-use Rattle.xmp_rules.proofs.Telling.{Ends, ends_then, ends_map, Tells, Telling, skipped_by, unheard_by, judged_by, part_breaks, asked, typed, typed_reference, typed_call, typed_all, typed_constant, each, not_in_function}
+use Rattle.xmp_rules.proofs.Telling.{Ends, ends_then, ends_map, Tells, Telling, skipped_by, unheard_by, judged_by, judged_behind, part_breaks, asked, typed, typed_reference, typed_call, typed_all, typed_constant, each, not_in_function}
 use Rattle.xmp_rules.proofs.Directives.{loop_line_tells, judged_loop_tells, task_tells, reflect_tells, barrier_tells, bcast_tells, gmove_tells}
 use Rattle.xmp_rules.proofs.Mappings.{in_append, mapping_moves}
-use Rattle.xmp_rules.proofs.Moving.{Came, came_none, Moves, moves_then, Moving, ◌>>=◌, ended, pure, known, quiet, quietly, moves_as, declared_stands, declares_found, scalar_declared, closed, IsOpen, closed_stands, Inner, inner_declared, inner_refl, inner_then, scope_opened}
+use Rattle.xmp_rules.proofs.Moving.{Came, came_none, came_then, Moves, moves_then, Moving, ◌>>=◌, ended, pure, known, quiet, quietly, moves_as, declared_stands, declares_found, scalar_declared, closed, IsOpen, closed_stands, Inner, inner_declared, inner_refl, inner_then, scope_opened}
 
 -- ---- arrays
 
+-- A declaration opens no scope.
+same_out : (n : Name) (d : Declared) (c : Context) → is_out (declare n d c) ≡ is_out c
+same_out n d c = ap (λ k. nat_lt k 2 || (in_main c.part && (k == 2))) (by c.inner)
+  where
+    by : (l : List Scope) → length (inner_with n d l ++ file_with n d l c.file ∷ []) ≡ length (l ++ c.file ∷ [])
+    by [] = refl
+    by (s ∷ ss) = refl
+
+-- What is judged of an array behind its declaration.
+array_judged : (v : World) (c : Context) (n : named.Name) (xs : List Expr) (right : Bool) → right ≡ extents_right xs → is_outermost v ≡ is_out c → is_function v.names.region ≡ in_function c.part →
+    kept (((v.broken ++ unless right N8 n.at) ++ unless (is_outermost v) N8 n.at) ++ unless (not (is_function v.names.region)) N5 n.at) ≡ kept v.broken ++ breaks c (Extents n xs)
+array_judged v c n xs right h o p =
+    let a : List Broken = unless right N8 n.at in
+    let b : List Broken = unless (is_outermost v) N8 n.at in
+    let d : List Broken = unless (not (is_function v.names.region)) N5 n.at in
+    behind_all ((v.broken ++ a) ++ b) (not (is_function v.names.region)) N5 n.at refl
+    ∙ (ap (λ l. l ++ d) (behind_all (v.broken ++ a) (is_outermost v) N8 n.at refl ∙ ap (λ l. l ++ b) (behind_all v.broken right N8 n.at refl))
+    ∙ (append_assoc (kept v.broken ++ a) b d ∙ (append_assoc (kept v.broken) a (b ++ d)
+    ∙ ap (λ l. kept v.broken ++ l) (ap (λ t. unless t N8 n.at ++ (b ++ d)) h ∙ (ap (λ t. unless (extents_right xs) N8 n.at ++ (unless t N8 n.at ++ d)) o
+    ∙ ap (λ t. unless (extents_right xs) N8 n.at ++ (unless (is_out c) N8 n.at ++ unless (not t) N5 n.at)) p)))))
+
 -- An array is declared, and then judged: its extents and its place, and that it stands in no function.
-array_end : (ty : Ty) (n : named.Name) (extents : List Expr) (xs : List ℕ) (right : Bool) (dimensions : ℕ) (coarray : Bool) →
+array_end : (ty : Ty) (n : named.Name) (extents : List Expr) (xs : List ℕ) (right : Bool) (dimensions : ℕ) (coarray : Bool) → right ≡ extents_right extents →
     Moves (λ c. all_in c (Declares n ∷ (Extents n extents ∷ []))) (declare n.text (scopes.Array ty dimensions coarray))
     (walk.◌>>=◌ (declarations.new_array ty xs coarray n.at) (λ number. walk.◌>>=◌ (walk.declare n (m.Array number)) (λ _. walk.◌>>=◌ (walk.judge right N8 n.at) (λ _. walk.◌>>=◌ (walk.stands_outermost n.at) (λ _. walk.not_in_function n.at)))))
-array_end ty n extents xs right dimensions coarray = record {
+array_end ty n extents xs right dimensions coarray h = record {
   at = λ w c st.
       let v : World = record w { names = record w.names { scopes = scope.declare n.text (m.Array (length w.names.arrays)) w.names.scopes; arrays = w.names.arrays ++ record { ty = ty; extents = xs; coarray = coarray; at = n.at } ∷ [] }; broken = w.broken ++ unless (not (scope.is_declared_here n.text w.names.scopes || walk.is_reserved n.text)) N2 n.at } in
       let e : Came w v (declare n.text (scopes.Array ty dimensions coarray) c) (all_found (all_in c (Declares n ∷ []))) = record {
@@ -87,10 +111,10 @@ array_end ty n extents xs right dimensions coarray = record {
       } in
       record {
         stands = e.stands;
-        broken = behind_all ((v.broken ++ unless right N8 n.at) ++ unless (is_outermost v) N8 n.at) (not (is_function w.names.region)) N5 n.at refl
-            ∙ (ap (λ l. l ++ unless (not (is_function w.names.region)) N5 n.at) (behind_none (v.broken ++ unless right N8 n.at) (is_outermost v) N8 n.at refl ∙ (behind_none v.broken right N8 n.at refl ∙ e.broken))
-            ∙ (append_assoc (kept w.broken) (all_found (all_in c (Declares n ∷ []))) (unless (not (is_function w.names.region)) N5 n.at)
-            ∙ ap (λ l. kept w.broken ++ l) (ap (λ l. all_found (all_in c (Declares n ∷ [])) ++ l) (ap (λ t. unless (not t) N5 n.at) (part_is w.names c st) ∙ sym (append-nil (breaks c (Extents n extents)))) ∙ sym (flat_map-append (λ x. breaks x.in x.what) (all_in c (Declares n ∷ [])) (all_in c (Extents n extents ∷ []))))));
+        broken = array_judged v c n extents right h (out_is v (declare n.text (scopes.Array ty dimensions coarray) c) e.stands ∙ same_out n.text (scopes.Array ty dimensions coarray) c) (part_is w.names c st)
+            ∙ (ap (λ l. l ++ breaks c (Extents n extents)) e.broken
+            ∙ (append_assoc (kept w.broken) (all_found (all_in c (Declares n ∷ []))) (breaks c (Extents n extents))
+            ∙ ap (λ l. kept w.broken ++ l) (ap (λ l. all_found (all_in c (Declares n ∷ [])) ++ l) (sym (append-nil (breaks c (Extents n extents)))) ∙ sym (flat_map-append (λ x. breaks x.in x.what) (all_in c (Declares n ∷ [])) (all_in c (Extents n extents ∷ []))))));
       };
 }
   where
@@ -100,14 +124,55 @@ array_end ty n extents xs right dimensions coarray = record {
         let d : Stands (record w.names { scopes = scope.declare n.text (m.Array (length w.names.arrays)) w.names.scopes }) (declare n.text (scopes.Array ty dimensions coarray) c) = declared_stands w.names c n.text (m.Array (length w.names.arrays)) (scopes.Array ty dimensions coarray) tt st in
         record { coarray = d.coarray; region = d.region; names = d.names; count = d.count; last = d.last }
 
+-- What follows the extents of an array.
+abbrev array_behind : Ty → named.Name → List Expr → Bool → List Operand → Run ⊤
+array_behind ty n extents coarray ts =
+    walk.◌>>=◌ (declarations.new_array ty (map (λ t. extent_of t.value) ts) coarray n.at) (λ number. walk.◌>>=◌ (walk.declare n (m.Array number)) (λ _. walk.◌>>=◌ (walk.judge (list_all (λ t. extent_right t.value) ts && nat_le (length extents) 3) N8 n.at)
+    (λ _. walk.◌>>=◌ (walk.stands_outermost n.at) (λ _. walk.not_in_function n.at))))
+
+-- Extents, and that their values are right.
+abbrev right_values : List Operand → Bool
+right_values ts = list_all (λ t. extent_right t.value) ts
+
+abbrev right_extents : List Expr → Bool
+right_extents xs = list_all (λ x. extent_right (value_in x)) xs
+
+all_behind : (ts : List Operand) (t : Operand) → right_values (ts ++ t ∷ []) ≡ (right_values ts && extent_right t.value)
+all_behind [] t = and_true (extent_right t.value)
+all_behind (s ∷ ts) t = ap (λ b. extent_right s.value && b) (all_behind ts t) ∙ sym (and_moves (extent_right s.value) (right_values ts) (extent_right t.value))
+
+pub record Sized (w v : World) (c : Context) (xs : List Expr) (b : Bool) (ts : List Operand) : Type 0 where
+  pub added : telling.Added w v (found c (flat_map constant xs))
+  pub values : right_values ts ≡ (b && right_extents xs)
+
+extents_sized : (xs : List Expr) (done : List Operand) (b : Bool) (w : World) (c : Context) → Stands w.names c → right_values done ≡ b → Ends (λ ts v. Sized w v c xs b ts) (walk.each_after walk.typed_constant done xs w)
+extents_sized [] done b w c st h = record { added = telling.added_none w; values = h ∙ sym (and_true b) }
+extents_sized (x ∷ xs) done b w c st h =
+    ends_then (λ (t : Operand) v. telling.Valued w v c x t) (λ ts v. Sized w v c (x ∷ xs) b ts) (walk.typed_constant x w) (λ t. walk.each_after walk.typed_constant (done ++ t ∷ []) xs) (telling.constant_valued x w c st)
+    (λ t v e. ends_map (λ ts u. Sized v u c xs (b && extent_right (value_in x)) ts) (λ ts u. Sized w u c (x ∷ xs) b ts) (walk.each_after walk.typed_constant (done ++ t ∷ []) xs v)
+    (extents_sized xs (done ++ t ∷ []) (b && extent_right (value_in x)) v c (subst (λ n. Stands n c) (sym e.added.names) st)
+    (all_behind done t ∙ (ap (λ r. r && extent_right t.value) h ∙ ap (λ y. b && extent_right y) e.value)))
+    (λ ts u g. record {
+      added = subst (telling.Added w u) (sym (flat_map-append (breaks c) (constant x) (flat_map constant xs))) (telling.added_then e.added g.added);
+      values = g.values ∙ and_moves b (extent_right (value_in x)) (right_extents xs);
+    }))
+
 array_moves : (ty : Ty) (n : named.Name) (extents : List Expr) (dimensions : ℕ) (coarray : Bool) →
     Moves (λ c. all_in c (flat_map constant extents ++ (Declares n ∷ (Extents n extents ∷ [])))) (declare n.text (scopes.Array ty dimensions coarray)) (declarations.declare_array ty n extents coarray)
 array_moves ty n extents dimensions coarray =
     moves_as (λ c. all_in c (flat_map constant extents) ++ all_in c (Declares n ∷ (Extents n extents ∷ []))) (λ c. all_in c (flat_map constant extents ++ (Declares n ∷ (Extents n extents ∷ [])))) _ _ (declarations.declare_array ty n extents coarray)
     (λ c. ap all_found (sym (in_append c (flat_map constant extents) (Declares n ∷ (Extents n extents ∷ []))))) (λ c. refl)
-    (moves_then (λ c. all_in c (flat_map constant extents)) (λ c. all_in c (Declares n ∷ (Extents n extents ∷ []))) (λ c. c) (declare n.text (scopes.Array ty dimensions coarray)) (walk.each walk.typed_constant extents) _
-    (quiet (λ c. flat_map constant extents) (walk.each walk.typed_constant extents) (each constant typed_constant extents).tells)
-    (λ values. array_end ty n extents (map (λ t. extent_of t.value) values) (list_all (λ t. extent_right t.value) values && nat_le (length extents) 3) dimensions coarray))
+    (record {
+      at = λ w c st.
+          let d : Context = declare n.text (scopes.Array ty dimensions coarray) c in
+          let xs : List Spot = all_in c (flat_map constant extents) in
+          let ys : List Spot = all_in c (Declares n ∷ (Extents n extents ∷ [])) in
+          ends_then (λ ts v. Sized w v c extents true ts) (λ (a : ⊤) v. Came w v d (all_found (xs ++ ys))) (walk.each walk.typed_constant extents w) (array_behind ty n extents coarray)
+          (extents_sized extents [] true w c st refl)
+          (λ ts v e. ends_map (λ (a : ⊤) u. Came v u d (all_found ys)) (λ (a : ⊤) u. Came w u d (all_found (xs ++ ys))) (array_behind ty n extents coarray ts v)
+          ((array_end ty n extents (map (λ t. extent_of t.value) ts) (right_values ts && nat_le (length extents) 3) dimensions coarray (ap (λ b. b && nat_le (length extents) 3) e.values)).at v c (subst (λ n. Stands n c) (sym e.added.names) st))
+          (λ a u g. came_then w v u c d xs ys (record { stands = subst (λ n. Stands n c) (sym e.added.names) st; broken = e.added.broken ∙ ap (λ l. kept w.broken ++ l) (sym (found_in c (flat_map constant extents))) }) g));
+    })
 
 -- ---- declarations
 
@@ -164,8 +229,13 @@ simple_tells (simple.Prefix op r) = (telling.ended (typed_reference r) (λ t. se
 simple_tells (simple.Call x) = (telling.ended (typed_call x) (λ t. call_statement t.made)).tells
 
 returned : (x : Expr) → Tells (λ c. of_return x) (statements.returned x)
-returned x = (do_then (asked (λ w. w.names.region)) (λ where_it_is. do_then (typed x) (λ t. telling.ended
-    (telling.known {ws = λ c. Returned x ∷ []} (walk.judge (not (is_main where_it_is) || is_known t.value) N4 (first_place x)) (skipped_by (Returned x) (λ w. not (is_main where_it_is) || is_known t.value) N4 (first_place x) refl (λ c. refl))) (λ _. t)))).tells
+returned x = record {
+  at = λ w c st. record {
+    names = refl;
+    broken = judged_behind w c x (Returned x) (not (is_main w.names.region) || is_known (expr_of w.names x).operand.value) st
+        (ap (λ v. unless (not (is_main w.names.region) || is_known v) N4 (first_place x)) (value_is w.names x) ∙ ap (λ t. unless (not t || is_known (value_in x)) N4 (first_place x)) (main_is w.names c st));
+  };
+}
 
 or_false : (t : Bool) → (t || false) ≡ t
 or_false true = refl

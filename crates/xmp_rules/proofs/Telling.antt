@@ -25,7 +25,8 @@ use Rattle.xmp_names.specs.Walk.{Step, Gave, Run, and_then, is_outermost}
 use Rattle.xmp_rules.specs.Scopes.{Context, meaning}
 use Rattle.xmp_rules.specs.Spots.{Use, Form, What, Used, Formed, Directive, Maps, Word, Constant, of_expr, of_reference, of_call, constant}
 use Rattle.xmp_rules.proofs.Kept.{covered, kept, kept_both, behind_none, behind_all, three}
-use Rattle.xmp_rules.proofs.Standing.{Stands, breaks, found, allowed, is_given, part_is}
+use Rattle.xmp_rules.proofs.Constancy.{value_in, value_is}
+use Rattle.xmp_rules.proofs.Standing.{Stands, breaks, found, allowed, is_given, part_is, is_out, out_is}
 use Rattle.xmp_rules.proofs.Expressions.{expr_found, reference_found, call_is_found, rest_found, name_found}
 
 -- ---- what holds at the end of a step
@@ -140,10 +141,31 @@ typed_all es = record {
   };
 }
 
+-- An expression, and a rule on its value behind it.
+pub judged_behind : (w : World) (c : Context) (x : Expr) (last : What) (test : Bool) → Stands w.names c → unless test N4 (walk.first_place x) ≡ breaks c last →
+    kept ((w.broken ++ (expr_of w.names x).notes.broken) ++ unless test N4 (walk.first_place x)) ≡ kept w.broken ++ found c (of_expr x ++ last ∷ [])
+judged_behind w c x last test s h =
+    behind_all (w.broken ++ (expr_of w.names x).notes.broken) test N4 (walk.first_place x) refl
+    ∙ (ap (λ l. l ++ unless test N4 (walk.first_place x)) (noted_in w c (expr_of w.names x).notes.broken (of_expr x) (expr_found w.names c s x))
+    ∙ (append_assoc (kept w.broken) (found c (of_expr x)) (unless test N4 (walk.first_place x))
+    ∙ ap (λ l. kept w.broken ++ l) (ap (λ l. found c (of_expr x) ++ l) (h ∙ one_found c last) ∙ sym (flat_map-append (breaks c) (of_expr x) (last ∷ [])))))
+
+-- What is noted of a constant, and what is known of its value.
+pub record Valued (w v : World) (c : Context) (x : Expr) (t : Operand) : Type 0 where
+  pub added : Added w v (found c (constant x))
+  pub value : t.value ≡ value_in x
+
+pub constant_valued : (x : Expr) (w : World) (c : Context) → Stands w.names c → Ends (λ t v. Valued w v c x t) (walk.typed_constant x w)
+constant_valued x w c s = record {
+  added = record { names = refl; broken = judged_behind w c x (Constant x) (walk.is_known (expr_of w.names x).operand.value) s (ap (λ v. unless (walk.is_known v) N4 (walk.first_place x)) (value_is w.names x)) };
+  value = value_is w.names x;
+}
+
 abbrev pub typed_constant : (x : Expr) → Telling (λ c. constant x) Operand
-typed_constant x = do
-  t ← typed x
-  ended (known {ws = λ c. Constant x ∷ []} (λ w. walk.judge (walk.is_known t.value) N4 (walk.first_place x) w) (skipped_by (Constant x) (λ w. walk.is_known t.value) N4 (walk.first_place x) refl (λ c. refl))) (λ _. t)
+typed_constant x = record {
+  run = walk.typed_constant x;
+  tells = record { at = λ w c s. ends_map (λ (t : Operand) v. Valued w v c x t) (λ (t : Operand) v. Added w v (found c (constant x))) (walk.typed_constant x w) (constant_valued x w c s) (λ t v e. e.added) };
+}
 
 abbrev pub constant_of : (x : Expr) → Telling (λ c. constant x) ℤ
 constant_of x = ended (typed_constant x) (λ t. walk.value_of t.value)
@@ -197,8 +219,8 @@ directive_at at = record {
   };
 }
 
-abbrev pub stands_outermost : (x : What) (at : Place) → ((c : Context) → breaks c x ≡ []) → Telling (λ c. x ∷ []) ⊤
-stands_outermost x at n = record { run = walk.stands_outermost at; tells = skipped_by x is_outermost N8 at refl n }
+abbrev pub stands_outermost : (x : What) (at : Place) → ((c : Context) → breaks c x ≡ unless (is_out c) N8 at) → Telling (λ c. x ∷ []) ⊤
+stands_outermost x at n = record { run = walk.stands_outermost at; tells = judged_by x is_outermost N8 at refl (λ w c s. ap (λ t. unless t N8 at) (out_is w c s) ∙ sym (n c)) }
 
 abbrev pub not_in_function : (x : What) (at : Place) → ((c : Context) → breaks c x ≡ breaks c (Directive at)) → Telling (λ c. x ∷ []) ⊤
 not_in_function x at n = record {

@@ -1,4 +1,5 @@
 pub mod Lists
 pub mod Scopes
 pub mod Spots
+pub mod Constants
 pub mod Rules

@@ -1,8 +1,9 @@
 -- The rules of names, each by its sentence: it breaks at a place where something of the program that is judged there is wrong.
 -- Source: this project; docs/LANGUAGE.md has the rules with examples.
-use Rattle.std.specs.Prelude.{◌≡◌, ◌⊎◌, ⊤, ℕ, ◌<◌, List, [], ◌∷◌, true, false, Option, Some, None, codes}
+use Rattle.std.specs.Prelude.{◌≡◌, ◌⊎◌, ⊤, ℕ, ◌<◌, ◌≤◌, ℤ, pos, List, length, [], ◌∷◌, true, false, Option, Some, None, codes}
 use Rattle.xmp_base.specs.declared.place.Place.{Place}
 use Rattle.xmp_base.specs.declared.refusal.Phase.TheVariants as phase
+use Rattle.xmp_syntax.specs.declared.expression.Expr.{Expr}
 use Rattle.xmp_syntax.specs.declared.parts.TypeWords.{TypeWords}
 use Rattle.xmp_syntax.specs.declared.parts.TypeWords.TheVariants as words
 use Rattle.xmp_syntax.specs.declared.program.Function.{Function}
@@ -12,8 +13,10 @@ use Rattle.xmp_parts.specs.Verdict.{BreaksNames}
 use Rattle.xmp_rules.specs.Lists.{AnyOf}
 use Rattle.xmp_rules.specs.Scopes as scopes_of
 use Rattle.xmp_rules.specs.Scopes.{Declared, Part, File, InFunction, InMain, Context, Scope, scopes, innermost, meaning, IsUndeclared}
+use Rattle.xmp_names.specs.Walk.{first_place}
 use Rattle.xmp_walk.specs.Program.{parameters_in}
-use Rattle.xmp_rules.specs.Spots.{Use, Called, What, Used, Declares, Dummy, Directive, Extents, Word, Sync, Returns, Head, spots}
+use Rattle.xmp_rules.specs.Spots.{Use, Called, What, Used, Declares, Dummy, Directive, Maps, Extents, Constant, Returned, Word, Sync, Returns, Head, spots}
+use Rattle.xmp_rules.specs.Constants.{HasValue, IsConstant}
 
 -- A rule breaks at a place of a program where it does so at one of its spots.
 abbrev pub BreaksAt : (Context → What → Place → Type 0) → Tree → Place → Type 0
@@ -48,6 +51,13 @@ abbrev pub IsTwice : Context → What → Place → Type 0
 IsTwice c (Declares n) at = (n.at ≡ at) × (IsNamed n.text (innermost c.inner c.file) ⊎ IsIntrinsic n.text)
 IsTwice c (Dummy before n) at = (n.at ≡ at) × AnyOf (λ m. m ≡ n.text) before
 IsTwice c _ at = ⊥
+
+-- ---- N4: an expression isn't constant where it has to be
+
+abbrev pub IsInconstant : Context → What → Place → Type 0
+IsInconstant c (Constant x) at = (first_place x ≡ at) × (IsConstant x → ⊥)
+IsInconstant c (Returned x) at = (first_place x ≡ at) × ((c.part ≡ InMain) × (IsConstant x → ⊥))
+IsInconstant c _ at = ⊥
 
 -- ---- N5: a function other than main reaches outside itself, or has what only main has
 
@@ -95,3 +105,24 @@ abbrev pub IsMisplaced : Context → What → Place → Type 0
 IsMisplaced c (Returns word) at = (word ≡ at) × (c.part ≡ InMain)
 IsMisplaced c (Head f) at = (f.name.at ≡ at) × (IsMain f → ⊥)
 IsMisplaced c _ at = ⊥
+
+-- ---- N8: an array or a mapping stands where none may, or an array is too large
+
+-- At file scope, or directly in main's body.
+abbrev pub IsOutermost : Part → List Scope → Type 0
+IsOutermost part [] = ⊤
+IsOutermost part (s ∷ []) = part ≡ InMain
+IsOutermost part (s ∷ t ∷ ss) = ⊥
+
+-- An extent is 1 to 4,194,304.
+abbrev pub IsExtent : ℤ → Type 0
+IsExtent v = (n : ℕ) × ((v ≡ pos n) × ((1 ≤ n) × (n ≤ 4194304)))
+
+-- A constant that is no extent.
+abbrev pub IsNoExtent : Expr → Type 0
+IsNoExtent x = (v : ℤ) × (HasValue x v × (IsExtent v → ⊥))
+
+abbrev pub StandsIll : Context → What → Place → Type 0
+StandsIll c (Extents n extents) at = (n.at ≡ at) × (AnyOf IsNoExtent extents ⊎ ((3 < length extents) ⊎ (IsOutermost c.part c.inner → ⊥)))
+StandsIll c (Maps word) at = (word ≡ at) × (IsOutermost c.part c.inner → ⊥)
+StandsIll c _ at = ⊥

@@ -2,7 +2,7 @@
 ghost use Rattle.std.specs.Prelude.{◌↔◌, ℕ, Option};
 ghost use Rattle.xmp_base.specs.declared.place.Place.{Place};
 ghost use Rattle.xmp_syntax.specs.declared.program.Tree.{Tree};
-ghost use Rattle.xmp_rules.specs.Rules.{BreaksAt, Counts, IsUnknown, IsTwice, ReachesOut, IsMisplaced};
+ghost use Rattle.xmp_rules.specs.Rules.{BreaksAt, Counts, IsUnknown, IsTwice, ReachesOut, IsMisplaced, IsInconstant, StandsIll};
 
 /// Rule N1 breaks at the names that no scope open at their place declares, and at `xmp_sync_all` in a program without a coarray,
 /// there alone.
@@ -16,6 +16,12 @@ pub fn names_declared_twice()
     ensures { (t : Tree) (given : Option ℕ) (at : Place) → Counts t given 2 at ↔ BreaksAt IsTwice t at }
 {}
 
+/// Rule N4 breaks at the first token of an expression that has to be constant and isn't, and of what main returns where that isn't
+/// constant, there alone.
+pub fn constant_expressions()
+    ensures { (t : Tree) (given : Option ℕ) (at : Place) → Counts t given 4 at ↔ BreaksAt IsInconstant t at }
+{}
+
 /// Rule N5 breaks, in a function other than main, at the names that mean what lies outside it, other than earlier functions, and at what
 /// only main has; and at calls of main; there alone.
 pub fn names_outside_functions()
@@ -26,4 +32,10 @@ pub fn names_outside_functions()
 /// statement, there alone.
 pub fn main_and_its_return()
     ensures { (t : Tree) (given : Option ℕ) (at : Place) → Counts t given 7 at ↔ BreaksAt IsMisplaced t at }
+{}
+
+/// Rule N8 breaks at the name of an array with a constant extent other than 1 to 4,194,304, with more than three dimensions, or that
+/// stands elsewhere than at file scope and directly in main's body, and at the word of a mapping that stands elsewhere, there alone.
+pub fn arrays_and_their_places()
+    ensures { (t : Tree) (given : Option ℕ) (at : Place) → Counts t given 8 at ↔ BreaksAt StandsIll t at }
 {}

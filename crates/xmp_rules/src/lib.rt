@@ -4,4 +4,6 @@
 
 mod laws;
 
-pub use laws::{main_and_its_return, names_declared_twice, names_outside_functions, unknown_names};
+pub use laws::{
+    arrays_and_their_places, constant_expressions, main_and_its_return, names_declared_twice, names_outside_functions, unknown_names,
+};
