@@ -1,7 +1,7 @@
 // What a node makes of its own tasks.
-ghost use Rattle.std.specs.Prelude.{◌≡◌, [], ◌∷◌, MatchOption};
+ghost use Rattle.std.specs.Prelude.{◌≡◌, ◌++◌, [], ◌∷◌, MatchOption, IfOk};
 ghost use Rattle.xmp_meaning.specs.Exchanges.{unprinted};
-ghost use Rattle.xmp_meaning.specs.Runs.{Does};
+ghost use Rattle.xmp_meaning.specs.Runs.{Does, end_of, state_of};
 ghost use Rattle.xmp_stores.specs.Contexts.{context_by};
 ghost use Rattle.xmp_tasks.specs.Members.{left_with, own_of, own_run};
 

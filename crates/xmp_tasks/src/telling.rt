@@ -1,5 +1,5 @@
 // How many words the nodes say to each other at the end of tasks.
-ghost use Rattle.std.specs.Prelude.{◌≡◌, ◌/◌, ◌%◌, length};
+ghost use Rattle.std.specs.Prelude.{◌≡◌, ◌<◌, ◌+◌, ◌/◌, ◌%◌, ℕ, length};
 ghost use Rattle.xmp_meaning.specs.Exchanges.{TasksEnd};
 ghost use Rattle.xmp_meaning.specs.Messages.{message, task_text, task_words, tells};
 ghost use Rattle.xmp_nodes.specs.Nodes.{bounded};
