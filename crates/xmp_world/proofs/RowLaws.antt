@@ -1,0 +1,28 @@
+-- Numbers in rows.
+use Rattle.std.proofs.Common.{◌≡◌, ◌<◌, ◌+◌, ◌*◌, ℕ, zero, suc, List, [], ◌∷◌, length, Some, None, take, drop, refl, sym, ap, ◌∙◌, arith}
+use Rattle.std.specs.Prelude.{slice_get, unwrap_or}
+use Rattle.xmp_world.specs.Counts.{rows_of}
+
+pub rows_long : (n wide : ℕ) (ns : List ℕ) → length (rows_of n wide ns) ≡ n
+rows_long zero wide ns = refl
+rows_long (suc n) wide ns = ap suc (rows_long n wide (drop wide ns))
+
+get_drop : (k : ℕ) (ns : List ℕ) (i : ℕ) → slice_get (drop k ns) i ≡ slice_get ns (k + i)
+get_drop zero ns i = let z : i ≡ 0 + i = omega arith in ap (slice_get ns) z
+get_drop (suc k) [] i = refl
+get_drop (suc k) (n ∷ ns) i = let m : suc (k + i) ≡ suc k + i = omega arith in get_drop k ns i ∙ ap (slice_get (n ∷ ns)) m
+
+get_take : (k : ℕ) (ns : List ℕ) (i : ℕ) → i < k → slice_get (take k ns) i ≡ slice_get ns i
+get_take zero ns i l = absurd (omega (arith, l))
+get_take (suc k) [] i l = refl
+get_take (suc k) (n ∷ ns) zero l = refl
+get_take (suc k) (n ∷ ns) (suc i) l = get_take k ns i (omega (arith, l))
+
+-- the number of a column stands in its row
+pub row_read : (n wide : ℕ) (ns : List ℕ) (from to : ℕ) → from < n → to < wide
+    → slice_get (unwrap_or (slice_get (rows_of n wide ns) from) []) to ≡ slice_get ns (from * wide + to)
+row_read zero wide ns from to l k = absurd (omega (arith, l))
+row_read (suc n) wide ns zero to l k = let z : to ≡ 0 * wide + to = omega arith in get_take wide ns to k ∙ ap (slice_get ns) z
+row_read (suc n) wide ns (suc from) to l k =
+    let here : wide + (from * wide + to) ≡ suc from * wide + to = omega arith in
+    row_read n wide (drop wide ns) from to (omega (arith, l)) k ∙ (get_drop wide ns (from * wide + to) ∙ ap (slice_get ns) here)
