@@ -1,1 +1,4 @@
 pub mod RowLaws
+pub mod ReportLaws
+pub mod Numbered
+pub mod PlaceLaws

@@ -1,6 +1,7 @@
 -- Numbers in rows.
-use Rattle.std.proofs.Common.{◌≡◌, ◌<◌, ◌+◌, ◌*◌, ℕ, zero, suc, List, [], ◌∷◌, length, Some, None, take, drop, refl, sym, ap, ◌∙◌, arith}
+use Rattle.std.proofs.Common.{◌≡◌, ◌<◌, ◌≤◌, ◌+◌, ◌-◌, ◌*◌, ℕ, zero, suc, List, [], ◌∷◌, length, Some, None, take, drop, refl, sym, ap, ◌∙◌, arith}
 use Rattle.std.specs.Prelude.{slice_get, unwrap_or}
+use Rattle.std.specs.List.{AllByRecursion}
 use Rattle.xmp_world.specs.Counts.{rows_of}
 
 pub rows_long : (n wide : ℕ) (ns : List ℕ) → length (rows_of n wide ns) ≡ n
@@ -26,3 +27,21 @@ row_read (suc n) wide ns zero to l k = let z : to ≡ 0 * wide + to = omega arit
 row_read (suc n) wide ns (suc from) to l k =
     let here : wide + (from * wide + to) ≡ suc from * wide + to = omega arith in
     row_read n wide (drop wide ns) from to (omega (arith, l)) k ∙ (get_drop wide ns (from * wide + to) ∙ ap (slice_get ns) here)
+
+-- each has so many numbers
+drop_long : (k : ℕ) (ns : List ℕ) → length (drop k ns) ≡ length ns - k
+drop_long zero ns = let z : length ns ≡ length ns - 0 = omega arith in z
+drop_long (suc k) [] = let z : 0 ≡ 0 - suc k = omega arith in z
+drop_long (suc k) (n ∷ ns) = let r = drop_long k ns in omega (arith, r)
+
+take_long : (k : ℕ) (ns : List ℕ) → k ≤ length ns → length (take k ns) ≡ k
+take_long zero ns l = refl
+take_long (suc k) [] l = absurd (omega (arith, l))
+take_long (suc k) (n ∷ ns) l = ap suc (take_long k ns (omega (arith, l)))
+
+pub rows_wide : (n wide : ℕ) (ns : List ℕ) → length ns ≡ n * wide → AllByRecursion (λ (row : List ℕ). length row ≡ wide) (rows_of n wide ns)
+rows_wide zero wide ns e = tt
+rows_wide (suc n) wide ns e =
+    let all : suc n * wide ≡ wide + n * wide = omega arith in
+    let d = drop_long wide ns in
+    (take_long wide ns (omega (arith, e, all)), rows_wide n wide (drop wide ns) (let r : length (drop wide ns) ≡ n * wide = omega (arith, e, all, d) in r))

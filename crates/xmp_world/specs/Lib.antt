@@ -1,5 +1,5 @@
 pub mod Ends
 pub mod Counts
 pub mod Kept
-pub mod Shapes
 pub mod Reports
+pub mod Gathering

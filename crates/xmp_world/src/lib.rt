@@ -6,9 +6,12 @@
 #![tactic(auto)]
 
 mod ended;
+mod places;
+mod report;
 mod watch;
 mod worlds;
 
 pub use ended::End;
+pub use report::report_of;
 pub use watch::{LastWorld, NoWatch, Watch};
 pub use worlds::World;

@@ -1,5 +1,6 @@
 // What a run of all nodes comes to.
 ghost use Rattle.std.specs.Prelude.{◌≡◌, ◌<◌, ◌*◌, Some, length, slice_get};
+ghost use Rattle.std.specs.List.{AllByRecursion};
 ghost use Rattle.xmp_world.specs.Ends.{early_end};
 ghost use Rattle.xmp_world.specs.Counts.{rows_of, sent_to};
 
@@ -75,12 +76,13 @@ impl World {
     }
 
     /// How many nodes there are.
-    pub fn nodes(&self) -> usize
+    pub fn nodes(&self) -> u32
         ensures stores { result ≡ length self.now.stores }
         ensures turns { result ≡ length self.now.turns }
         ensures sent { result ≡ length self.now.sent }
+        ensures rows { AllByRecursion (λ row. length row ≡ result) self.now.sent }
     {
-        self.turns.len()
+        self.turns.len() as u32
     }
 
     /// The store of a node.
