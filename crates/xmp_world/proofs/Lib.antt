@@ -2,3 +2,4 @@ pub mod RowLaws
 pub mod ReportLaws
 pub mod Numbered
 pub mod PlaceLaws
+pub mod GatherLaws

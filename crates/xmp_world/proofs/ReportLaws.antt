@@ -1,8 +1,8 @@
 -- The lines of a report, one after the other, and sums of words.
-use Rattle.std.proofs.Common.{◌≡◌, ◌<◌, ◌+◌, ◌++◌, ℕ, zero, suc, ℤ, List, [], ◌∷◌, length, take, drop, Option, Some, None, refl, sym, ap, subst, ◌∙◌, arith}
+use Rattle.std.proofs.Common.{◌≡◌, ◌<◌, ◌+◌, ◌++◌, ℕ, zero, suc, ℤ, List, [], ◌∷◌, length, take, drop, get_or, Option, Some, None, refl, sym, ap, subst, ◌∙◌, arith}
 use Rattle.std.specs.Prelude.{slice_get, sum, unwrap_or}
 use Rattle.std.specs.List.{AllByRecursion, sum_by}
-use Rattle.std.proofs.lemmas.Option.{slice_get_within, get_or_from_slice_get, none-some, same_Some}
+use Rattle.std.proofs.lemmas.Option.{slice_get_read, slice_get_within, get_or_from_slice_get, none-some, same_Some}
 use Rattle.std.proofs.lemmas.List.Sums.{sum_by_more}
 use Rattle.xmp_nodes.specs.Nodes.{bounded}
 use Rattle.xmp_nodes.specs.Worlds.{World}
@@ -20,6 +20,10 @@ pub drop_at : {A : Type 0} (xs : List A) (k : ℕ) (x : A) → slice_get xs k �
 drop_at [] k x e = absurd (none-some x e)
 drop_at (y ∷ ys) zero x e = ap (λ z. z ∷ ys) (same_Some y x e)
 drop_at (y ∷ ys) (suc k) x e = let n : suc (k + 1) ≡ suc k + 1 = omega arith in drop_at ys k x e ∙ ap (λ i. x ∷ drop i (y ∷ ys)) n
+
+-- an item that was read
+pub read_there : {A : Type 0} (xs ys : List A) (k : ℕ) (x : A) → xs ≡ ys → k < length xs → x ≡ get_or xs k x → slice_get ys k ≡ Some x
+read_there xs ys k x same l e = ap (λ zs. slice_get zs k) (sym same) ∙ slice_get_read xs (length xs) k x refl l e
 
 pub all_at : {A : Type 0} (P : A → Type 0) (xs : List A) → AllByRecursion P xs → (k : ℕ) (x : A) → slice_get xs k ≡ Some x → P x
 all_at P [] h k x e = absurd (none-some x e)

@@ -5,13 +5,16 @@
 //! each node. A `Watch` is told of worlds; its meaning `kept` is the last one, where the object tells it.
 #![tactic(auto)]
 
+mod bases;
 mod ended;
+mod gather;
 mod places;
 mod report;
 mod watch;
 mod worlds;
 
 pub use ended::End;
+pub use gather::answer_of;
 pub use report::report_of;
 pub use watch::{LastWorld, NoWatch, Watch};
 pub use worlds::World;

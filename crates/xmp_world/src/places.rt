@@ -21,8 +21,7 @@ pub fn extents(m: &ArrayMap) -> [u32; 3]
     ensures pair { slice_index result 0 * slice_index result 1 ≤ cell_limit }
     ensures small { product result ≤ cell_limit }
 {
-    let [first, second, third] = &m.aligned;
-    [first.extent, second.extent, third.extent]
+    [m.aligned[0].extent, m.aligned[1].extent, m.aligned[2].extent]
 }
 
 /// How many cells a box has.
