@@ -1,5 +1,5 @@
 -- The cells of a world, each from the store of its owner.
-use Rattle.std.proofs.Common.{◌≡◌, ◌<◌, ◌+◌, ◌-◌, ◌⊎◌, inl, inr, ◌++◌, if◌then◌else◌, ℕ, zero, suc, ℤ, Bool, true, false, true≢false, List, [], ◌∷◌, map, length, drop, take, get_or, Some, None, refl, sym, subst, ap, ◌∙◌, arith}
+use Rattle.std.proofs.Common.{◌≡◌, ◌<◌, ◌+◌, ◌-◌, ◌⊎◌, inl, inr, ◌++◌, if◌then◌else◌, ℕ, zero, suc, ℤ, Bool, true, false, true≢false, List, [], ◌∷◌, map, length, drop, take, get_or, Some, refl, sym, subst, ap, ◌∙◌, arith}
 use Rattle.std.specs.Prelude.{slice_get, unwrap_or, IsTrue}
 use Rattle.std.specs.List.{range_with_len, sum_by}
 use Rattle.std.proofs.lemmas.Option.{slice_get_within, get_or_from_slice_get}
@@ -21,7 +21,7 @@ use Rattle.xmp_move.specs.Sides.{padded, owns_cell, position}
 use Rattle.xmp_move.specs.Stores.{IsIn, word_at}
 use Rattle.xmp_move.proofs.Boxes.{range_in}
 use Rattle.xmp_nodes.specs.Worlds.{World}
-use Rattle.xmp_nodes.specs.Answers.{owner_among, word_on, gathered_row, gathered}
+use Rattle.xmp_nodes.specs.Answers.{owner_among, gathered_row}
 use Rattle.xmp_nodes.proofs.Each.{ranged_at}
 use Rattle.xmp_nodes.proofs.Standing.{IsGlobal}
 use Rattle.xmp_nodes.proofs.PackedRows.{IsSpreadArray, spread_array, few_dims}

@@ -1,12 +1,9 @@
 -- Numbers in rows.
-use Rattle.std.proofs.Common.{◌≡◌, ◌<◌, ◌≤◌, ◌+◌, ◌-◌, ◌*◌, ℕ, zero, suc, List, [], ◌∷◌, length, Some, None, take, drop, refl, sym, ap, ◌∙◌, arith}
+use Rattle.std.proofs.Common.{◌≡◌, ◌<◌, ◌+◌, ◌*◌, ◌++◌, ℕ, zero, suc, List, [], ◌∷◌, length, take, drop, refl, sym, ap, ◌∙◌, arith}
 use Rattle.std.specs.Prelude.{slice_get, unwrap_or}
-use Rattle.std.specs.List.{AllByRecursion}
+use Rattle.std.specs.List.{AllByRecursion, flat_map}
+use Rattle.std.proofs.lemmas.List.Concat.{flat_map-cons}
 use Rattle.xmp_world.specs.Counts.{rows_of}
-
-pub rows_long : (n wide : ℕ) (ns : List ℕ) → length (rows_of n wide ns) ≡ n
-rows_long zero wide ns = refl
-rows_long (suc n) wide ns = ap suc (rows_long n wide (drop wide ns))
 
 get_drop : (k : ℕ) (ns : List ℕ) (i : ℕ) → slice_get (drop k ns) i ≡ slice_get ns (k + i)
 get_drop zero ns i = let z : i ≡ 0 + i = omega arith in ap (slice_get ns) z
@@ -28,20 +25,20 @@ row_read (suc n) wide ns (suc from) to l k =
     let here : wide + (from * wide + to) ≡ suc from * wide + to = omega arith in
     row_read n wide (drop wide ns) from to (omega (arith, l)) k ∙ (get_drop wide ns (from * wide + to) ∙ ap (slice_get ns) here)
 
--- each has so many numbers
-drop_long : (k : ℕ) (ns : List ℕ) → length (drop k ns) ≡ length ns - k
-drop_long zero ns = let z : length ns ≡ length ns - 0 = omega arith in z
-drop_long (suc k) [] = let z : 0 ≡ 0 - suc k = omega arith in z
-drop_long (suc k) (n ∷ ns) = let r = drop_long k ns in omega (arith, r)
+-- ---- rows laid one behind the other
 
-take_long : (k : ℕ) (ns : List ℕ) → k ≤ length ns → length (take k ns) ≡ k
-take_long zero ns l = refl
-take_long (suc k) [] l = absurd (omega (arith, l))
-take_long (suc k) (n ∷ ns) l = ap suc (take_long k ns (omega (arith, l)))
+take_front : (row rest : List ℕ) → take (length row) (row ++ rest) ≡ row
+take_front [] rest = refl
+take_front (n ∷ row) rest = ap (λ ns. n ∷ ns) (take_front row rest)
 
-pub rows_wide : (n wide : ℕ) (ns : List ℕ) → length ns ≡ n * wide → AllByRecursion (λ (row : List ℕ). length row ≡ wide) (rows_of n wide ns)
-rows_wide zero wide ns e = tt
-rows_wide (suc n) wide ns e =
-    let all : suc n * wide ≡ wide + n * wide = omega arith in
-    let d = drop_long wide ns in
-    (take_long wide ns (omega (arith, e, all)), rows_wide n wide (drop wide ns) (let r : length (drop wide ns) ≡ n * wide = omega (arith, e, all, d) in r))
+drop_front : (row rest : List ℕ) → drop (length row) (row ++ rest) ≡ rest
+drop_front [] rest = refl
+drop_front (n ∷ row) rest = drop_front row rest
+
+pub read_back : (wide : ℕ) (rows : List (List ℕ)) → AllByRecursion (λ (row : List ℕ). length row ≡ wide) rows
+    → rows_of (length rows) wide (flat_map (λ row. row) rows) ≡ rows
+read_back wide [] h = refl
+read_back wide (row ∷ rows) h =
+    ap (λ all. take wide all ∷ rows_of (length rows) wide (drop wide all)) (flat_map-cons (λ (r : List ℕ). r) row rows)
+    ∙ (ap (λ k. take k (row ++ flat_map (λ r. r) rows) ∷ rows_of (length rows) wide (drop k (row ++ flat_map (λ r. r) rows))) (sym h.0)
+    ∙ (λ i. take_front row (flat_map (λ r. r) rows) i ∷ (ap (rows_of (length rows) wide) (drop_front row (flat_map (λ r. r) rows)) ∙ read_back wide rows h.1) i))

@@ -1,7 +1,7 @@
 -- What the gathering of cells goes by: which cells a node holds, by their row-major numbers, and where the arrays begin in its
 -- store (this project).
 use Rattle.std.specs.Prelude.{◌≡◌, ◌<◌, ◌+◌, ℕ, Bool, List, length, map, take, ℤ}
-use Rattle.std.specs.List.{range_with_len, sum_by, AllByRecursion}
+use Rattle.std.specs.List.{range_with_len, sum_by}
 use Rattle.xmp_dist.specs.Count.{count_below}
 use Rattle.xmp_map.specs.declared.array_map.ArrayMap.{ArrayMap}
 use Rattle.xmp_map.specs.RowMajor.{unravel}

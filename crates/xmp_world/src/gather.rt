@@ -66,7 +66,11 @@ impl Gathering<'_> {
         requires node { node < node_count self.now.parts.now }
         ensures { result ≡ word_at (unwrap_or (slice_get self.now.world.now.stores node) []) (array_base self.now.parts.now node array + slot) }
     {
-        word_in(self.world, node, self.base(array, node) as usize + slot as usize)
+        word_in(
+            self.world,
+            node,
+            self.base(array, node) as usize + slot as usize,
+        )
     }
 
     /// The cells of a distributed array in row-major order.
@@ -92,7 +96,13 @@ impl Gathering<'_> {
     }
 
     /// Adds the rows of an array that are told.
-    fn tell(&self, alloc: Global, array: usize, home: &Home, all: &mut Table) -> Result<(), NoMemory>
+    fn tell(
+        &self,
+        alloc: Global,
+        array: usize,
+        home: &Home,
+        all: &mut Table,
+    ) -> Result<(), NoMemory>
         requires view { IsOneView self.now.parts.now }
         requires home { home_of self.now.parts.now array ≡ home.now }
         requires array { array < length self.now.parts.now.arrays }

@@ -8,6 +8,7 @@
 mod bases;
 mod ended;
 mod gather;
+mod laws;
 mod places;
 mod report;
 mod watch;
@@ -15,6 +16,7 @@ mod worlds;
 
 pub use ended::End;
 pub use gather::answer_of;
+pub use laws::{rows_are_read_back, worlds_report};
 pub use report::report_of;
 pub use watch::{LastWorld, NoWatch, Watch};
 pub use worlds::World;

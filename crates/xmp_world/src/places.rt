@@ -21,7 +21,11 @@ pub fn extents(m: &ArrayMap) -> [u32; 3]
     ensures pair { slice_index result 0 * slice_index result 1 ≤ cell_limit }
     ensures small { product result ≤ cell_limit }
 {
-    [m.aligned[0].extent, m.aligned[1].extent, m.aligned[2].extent]
+    [
+        m.aligned[0].extent,
+        m.aligned[1].extent,
+        m.aligned[2].extent,
+    ]
 }
 
 /// How many cells a box has.

@@ -1,8 +1,7 @@
 // The report on a run of all nodes.
-ghost use Rattle.std.specs.Prelude.{[], ◌≡◌, ◌<◌, ◌++◌, IfOk, OnOk, length, slice_get, sum, unwrap_or};
-ghost use Rattle.std.specs.List.{AllByRecursion};
+ghost use Rattle.std.specs.Prelude.{◌≡◌, ◌<◌, ◌++◌, IfOk, OnOk, length};
 ghost use Rattle.xmp_nodes.specs.Nodes.{bounded};
-ghost use Rattle.xmp_world.specs.Reports.{report_line, report_of};
+ghost use Rattle.xmp_world.specs.Reports.{counts_in, line_text, report_of};
 
 use crate::worlds::World;
 use std::alloc::Global;
@@ -12,9 +11,7 @@ use xmp_base::{Bytes, NoMemory};
 fn sent_by(world: &World, node: u32, count: u32) -> u64
     requires node { node < count }
     requires count { count ≡ length world.now.stores }
-    requires rows { AllByRecursion (λ row. length row ≡ count) world.now.sent }
-    requires many { length world.now.sent ≡ count }
-    ensures { result ≡ bounded (sum (unwrap_or (slice_get world.now.sent node) [])) }
+    ensures { result ≡ bounded (counts_in world.now node).sent }
 {
     let mut all = 0u64;
     for to in 0..count {
@@ -32,7 +29,7 @@ fn push_line(
     turns: u64,
     sent: u64,
 ) -> Result<(), NoMemory>
-    ensures { OnOk result (out.new ≡ out.old ++ report_line node words turns sent) }
+    ensures { OnOk result (out.new ≡ out.old ++ line_text node words turns sent) }
 {
     let line = format!(in alloc; "node {node} words {words} turns {turns} sent {sent}\n")?;
     out.push_all(line.as_bytes())
@@ -47,7 +44,14 @@ pub fn report_of(alloc: Global, world: &World) -> Result<Bytes, NoMemory>
     let count = world.nodes();
     for node in 0..count {
         let sent = sent_by(world, node, count);
-        push_line(alloc, &mut out, node, world.store(node).len(), world.turns(node), sent)?;
+        push_line(
+            alloc,
+            &mut out,
+            node,
+            world.store(node).len(),
+            world.turns(node),
+            sent,
+        )?;
     }
     Ok(out)
 }

@@ -1,6 +1,5 @@
 // What a run of all nodes comes to.
 ghost use Rattle.std.specs.Prelude.{◌≡◌, ◌<◌, ◌*◌, Some, length, slice_get};
-ghost use Rattle.std.specs.List.{AllByRecursion};
 ghost use Rattle.xmp_world.specs.Ends.{early_end};
 ghost use Rattle.xmp_world.specs.Counts.{rows_of, sent_to};
 
@@ -29,11 +28,11 @@ impl Model for World {
     ghost Value = { World };
 
     ghost view = { λ w. record {
-        ended = early_end w.end;
-        out = w.out;
-        stores = w.stores;
-        turns = w.turns.items;
-        sent = rows_of (length w.stores) (length w.stores) w.sent.items;
+      ended = early_end w.end;
+      out = w.out;
+      stores = w.stores;
+      turns = w.turns.items;
+      sent = rows_of (length w.stores) (length w.stores) w.sent.items;
     } };
 
     ghost invariant = { λ w. (length w.turns.items ≡ length w.stores) × (length w.sent.items ≡ length w.stores * length w.stores) };
@@ -45,11 +44,11 @@ impl World {
         requires turns { length turns.items ≡ length stores }
         requires sent { length sent.items ≡ length stores * length stores }
         ensures { result ≡ record {
-            ended = early_end end;
-            out = out;
-            stores = stores;
-            turns = turns.items;
-            sent = rows_of (length stores) (length stores) sent.items;
+          ended = early_end end;
+          out = out;
+          stores = stores;
+          turns = turns.items;
+          sent = rows_of (length stores) (length stores) sent.items;
         } }
     {
         World {
@@ -77,10 +76,7 @@ impl World {
 
     /// How many nodes there are.
     pub fn nodes(&self) -> u32
-        ensures stores { result ≡ length self.now.stores }
-        ensures turns { result ≡ length self.now.turns }
-        ensures sent { result ≡ length self.now.sent }
-        ensures rows { AllByRecursion (λ row. length row ≡ result) self.now.sent }
+        ensures { result ≡ length self.now.stores }
     {
         self.turns.len() as u32
     }

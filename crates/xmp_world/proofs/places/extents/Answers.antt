@@ -1,6 +1,4 @@
-use Rattle.std.proofs.Common.{◌≡◌, ◌≤◌, ◌∷◌, [], length, get_or, rules, arith, sym, subst}
-use Rattle.xmp_map.specs.RowMajor.{product}
-use Rattle.xmp_map.specs.Held.{extents}
+use Rattle.std.proofs.Common.{◌≡◌, length, get_or, rules, arith, sym}
 use Rattle.xmp_map.proofs.Three.{three_of, product-three}
 use Rattle.xmp_map.proofs.MapLaws.{blank, dims_fit, extents_are, sides_fit}
 use Rattle.xmp_world.proofs.places.extents.Goals as goal

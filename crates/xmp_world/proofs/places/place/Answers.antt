@@ -1,4 +1,4 @@
-use Rattle.std.proofs.Common.{◌≡◌, ◌≤◌, ◌+◌, length, refl, sym, ap, ◌∙◌, arith}
+use Rattle.std.proofs.Common.{◌≡◌, ◌+◌, refl, sym, ap, ◌∙◌, arith}
 use Rattle.xmp_map.specs.RowMajor.{unravel}
 use Rattle.xmp_map.specs.Held.{slot}
 use Rattle.xmp_world.specs.Gathering.{kept_before}

@@ -1,7 +1,7 @@
-use Rattle.std.proofs.Common.{◌≡◌, ◌++◌, drop}
-use Rattle.xmp_world.specs.Reports.{lines_from, report_of}
+use Rattle.std.proofs.Common.{◌≡◌}
+use Rattle.std.specs.List.{flat_map, range_with_len}
+use Rattle.xmp_world.specs.Reports.{counts_in, report_line}
 use Rattle.xmp_world.proofs.report.report_of.Given as goal
 
 abbrev pub invariant-loop-node : goal.invariant-loop-node
-invariant-loop-node l =
-    report_of l.world ≡ l.out ++ lines_from l.node (drop l.node l.world.stores) (drop l.node l.world.turns) (drop l.node l.world.sent)
+invariant-loop-node l = l.out ≡ flat_map (λ node. report_line node (counts_in l.world node)) (range_with_len 0 l.node)

@@ -1,4 +1,4 @@
-use Rattle.std.proofs.Common.{◌≡◌, ◌+◌, ◌++◌, ◌∷◌, [], ℕ, map, sym, ap, ◌∙◌, arith, refl, rules, w64}
+use Rattle.std.proofs.Common.{◌≡◌, ◌+◌, ◌++◌, ◌∷◌, [], map, sym, ap, ◌∙◌, arith, rules, w64}
 use Rattle.std.specs.Prelude.{FitsSigned, slice_get, unwrap_or}
 use Rattle.std.specs.List.{range_with_len}
 use Rattle.std.proofs.lemmas.Int.{to_z-of_z}
@@ -29,9 +29,11 @@ loop-n-preserved c =
     let cell = cell_is g.parts.now c.requires.view g.world.now c.args.array c.requires.home.0 c.args.map.now c.requires.home.1
     c.extents-sizes.result c.extents-sizes.ensures.extents n c.place-at.result.node (let k = c.cell_count-count.ensures in omega (arith, k, c.loop-n-test.true)) c.place-at.ensures.node c.place-at.ensures.owns c.place-at.ensures.only in
     let slot = ap (λ s. word_at (unwrap_or (slice_get g.world.now.stores c.place-at.result.node) []) (array_base g.parts.now c.place-at.result.node c.args.array + s)) c.place-at.ensures.slot in
-    let word = to_z-of_z w64 c.word.result fit ∙ (c.word.ensures ∙ (slot ∙ sym cell)) in
-    (c.in_ok-push.ensures.items
-    ∙ ((λ i. c.loop-n.invariant.0 i ++ word i ∷ []) ∙ sym (map-range_with_len_more (cell_word g.parts.now g.world.now c.args.array) 0 n n z)), sym c.place-at.ensures.next)
+    let word = to_z-of_z w64 c.word.result fit ∙ (c.word.ensures ∙ (slot ∙ sym cell)) in (
+      c.in_ok-push.ensures.items
+          ∙ ((λ i. c.loop-n.invariant.0 i ++ word i ∷ []) ∙ sym (map-range_with_len_more (cell_word g.parts.now g.world.now c.args.array) 0 n n z)),
+      sym c.place-at.ensures.next,
+    )
 
 pub returns : goal.returns
 returns c =

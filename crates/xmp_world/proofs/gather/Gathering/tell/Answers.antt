@@ -1,4 +1,4 @@
-use Rattle.std.proofs.Common.{◌≡◌, ◌∙◌}
+use Rattle.std.proofs.Common.{◌∙◌}
 use Rattle.xmp_world.proofs.GatherLaws.{never_image}
 use Rattle.xmp_world.proofs.gather.Gathering.tell.Goals as goal
 
