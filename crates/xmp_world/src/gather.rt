@@ -66,11 +66,8 @@ impl Gathering<'_> {
         requires node { node < node_count self.now.parts.now }
         ensures { result ≡ word_at (unwrap_or (slice_get self.now.world.now.stores node) []) (array_base self.now.parts.now node array + slot) }
     {
-        word_in(
-            self.world,
-            node,
-            self.base(array, node) as usize + slot as usize,
-        )
+        let at = self.base(array, node) as usize + slot as usize;
+        word_in(self.world, node, at)
     }
 
     /// The cells of a distributed array in row-major order.
