@@ -1,0 +1,10 @@
+pub mod Jumps
+pub mod Grids
+pub mod Bounds
+pub mod Chosen
+pub mod OwnTurns
+pub mod Pieces
+pub mod Tuples
+pub mod Ends
+pub mod EndWords
+pub mod Whole
