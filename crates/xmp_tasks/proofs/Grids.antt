@@ -1,6 +1,6 @@
 -- Sizes and subscripts of a grid.
 use Rattle.std.proofs.Math.Nat.{mul-le-mul}
-use Rattle.std.proofs.Common.{◌≡◌, ◌∙◌, ℕ, ◌*◌, ◌^◌, ◌+◌, ◌<◌, ◌≤◌, ◌&&◌, nat_le, nat_lt, List, [], ◌∷◌, arith, subst, ap, ap₂, sym, length, get_or, IsTrue, true}
+use Rattle.std.proofs.Common.{◌≡◌, ℕ, ◌*◌, ◌^◌, ◌+◌, ◌<◌, ◌≤◌, List, [], ◌∷◌, arith, subst, ap₂, length, get_or, IsTrue}
 use Rattle.std.proofs.lemmas.Bool.Decides.{nat_tests}
 use Rattle.xmp_map.specs.RowMajor.{product}
 use Rattle.xmp_map.specs.Nodes.{is_grid, in_box}
@@ -29,6 +29,8 @@ box_of first many x y z l k = ap₂ (λ f m. in_box f m (x ∷ y ∷ z ∷ [])) 
 
 pub leader_small : (x y z b c : ℕ) → x < 2 ^ 32 → y < 2 ^ 32 → z < 2 ^ 32 → Sizes b c → (x * b + y) * c + z ≤ 2 ^ 50
 leader_small x y z b c hx hy hz s =
-    let xb : x * b ≤ 2 ^ 32 * 16 = mul-le-mul (omega arith) s.rows in
-    let all : (x * b + y) * c ≤ (2 ^ 32 * 17) * 16 = mul-le-mul (omega arith) s.columns in
+    let xs : x ≤ 2 ^ 32 = omega arith in
+    let xb : x * b ≤ 2 ^ 32 * 16 = mul-le-mul xs s.rows in
+    let ys : x * b + y ≤ 2 ^ 32 * 17 = omega arith in
+    let all : (x * b + y) * c ≤ (2 ^ 32 * 17) * 16 = mul-le-mul ys s.columns in
     omega arith

@@ -61,12 +61,7 @@ impl OwnTasks<'_> {
     }
 
     /// How they end.
-    fn ended(
-        &self,
-        node: u32,
-        at: &Interpreter,
-        state: &mut State,
-    ) -> Result<Option<End>, NoMemory>
+    fn ended(&self, node: u32, at: &Interpreter, state: &mut State) -> Result<Option<End>, NoMemory>
         ensures ended { IfOk result (λ ended. ended ≡ end_of (own_run self.now.program.now node (context_by at.now) self.now.tasks.now state.old)) }
         ensures state { IfOk result (λ _. state.new ≡ state_of (own_run self.now.program.now node (context_by at.now) self.now.tasks.now state.old)) }
     {
@@ -90,7 +85,9 @@ pub fn write(state: &mut State, text: &[u8]) -> Result<(), NoMemory>
 
 impl Share for OwnTasks<'_> {
     type Gives = Own;
+
     ghost gives = { λ d node c s. own_of (own_run d.program.now node c d.tasks.now (unprinted s)) };
+
     ghost leaves = { λ d node c s. left_with s.out (own_run d.program.now node c d.tasks.now (unprinted s)) };
 
     fn run(&self, node: u32, at: &Interpreter, state: &mut State) -> Result<Own, NoMemory> {

@@ -1,4 +1,4 @@
-use Rattle.std.proofs.Common.{◌≡◌, ◌∙◌, arith, ap, sym, length}
+use Rattle.std.proofs.Common.{◌∙◌, arith, ap, sym}
 use Rattle.xmp_map.specs.Nodes.{in_box}
 use Rattle.xmp_map.proofs.Three.{place_of}
 use Rattle.xmp_tasks.proofs.sets.has_node.Goals as goal

@@ -1,4 +1,4 @@
-use Rattle.std.proofs.Common.{◌≡◌, ◌<◌, ◌^◌, arith, sym, get_or, length}
+use Rattle.std.proofs.Common.{arith, sym, get_or}
 use Rattle.xmp_map.proofs.Three.{row_major_of}
 use Rattle.xmp_tasks.proofs.Grids.{leader_small, sizes_of}
 use Rattle.xmp_tasks.proofs.sets.leader.Goals as goal
