@@ -1,5 +1,5 @@
 -- Statements with others inside note what breaks at their spots, and leave what is in scope.
-use Rattle.std.proofs.Common.{◌≡◌, ◌∙◌, refl, sym, ap, subst, ◌++◌, ◌∷◌, [], ℕ, List, Bool, true, false, not, ◌||◌, Option, Some, None, is_some, length, map, flat_map, drop, cond, append_assoc, append-nil}
+use Rattle.std.proofs.Common.{◌≡◌, ◌∙◌, refl, sym, ap, subst, ◌++◌, ◌∷◌, [], List, true, false, not, ◌||◌, Option, Some, None, is_some, length, map, flat_map, cond, append_assoc, append-nil}
 use Rattle.std.proofs.lemmas.Grind.{flat_map-append}
 use Rattle.std.specs.Prelude.{⊤}
 use Rattle.std.specs.List.{AllZip}
@@ -13,7 +13,6 @@ use Rattle.xmp_prog.specs.declared.statements.Stmt.TheVariants as s
 use Rattle.xmp_prog.specs.declared.statements.Plain.TheVariants as p
 use Rattle.xmp_prog.specs.declared.statements.Task.{Task}
 use Rattle.xmp_syntax.specs.declared.parts.Name as named
-use Rattle.xmp_syntax.specs.declared.parts.Inside.{Inside}
 use Rattle.xmp_syntax.specs.declared.parts.Reference.{Reference}
 use Rattle.xmp_syntax.specs.declared.expression.Expr.{Expr}
 use Rattle.xmp_syntax.specs.declared.declaration.Declarator.{Declarator}
@@ -30,15 +29,13 @@ use Rattle.xmp_syntax.specs.declared.statement.ForFirst.TheVariants as for_first
 use Rattle.xmp_syntax.specs.declared.statement.ForHead.{ForHead}
 use Rattle.xmp_syntax.specs.declared.statement.BlockItem.{BlockItem}
 use Rattle.xmp_syntax.specs.declared.statement.BlockItem.TheVariants as b
-use Rattle.xmp_syntax.specs.declared.statement.Stmt.{Stmt, fold-Stmt}
+use Rattle.xmp_syntax.specs.declared.statement.Stmt.{Stmt}
 use Rattle.xmp_syntax.specs.declared.statement.Stmt.TheOpen.{Stmt-F}
 use Rattle.xmp_syntax.specs.declared.statement.Stmt.TheFolds.{fold-roll-Stmt, ind-Stmt, map-Stmt}
 use Rattle.xmp_syntax.specs.declared.statement.Stmt.TheViews.{roll-Stmt}
-use Rattle.xmp_scopes.specs.Names.{Name, is_same, in_scope, nearest}
+use Rattle.xmp_scopes.specs.Names.{Name, in_scope, nearest}
 use Rattle.xmp_rules.proofs.Names.{same_of_equal}
 use Rattle.xmp_names.specs.declared.rules.Rule.TheVariants.{N5}
-use Rattle.xmp_names.specs.declared.rules.Broken.{Broken}
-use Rattle.xmp_names.specs.declared.typed.Operand.{Operand}
 use Rattle.xmp_names.specs.declared.world.World.{World}
 use Rattle.xmp_names.specs.Rules.{unless}
 use Rattle.xmp_names.specs.Lists.{listed}
@@ -49,23 +46,21 @@ use Rattle.xmp_directives.specs.Directives.{nest_of, made_task}
 use Rattle.xmp_directives.specs.MappingLines as lines
 use Rattle.xmp_walk.specs.declared.loops.First.{First}
 use Rattle.xmp_walk.specs.declared.loops.ForParts.{ForParts}
-use Rattle.xmp_walk.specs.Declarations as declarations
 use Rattle.xmp_walk.specs.Declarations.{type_of}
 use Rattle.xmp_walk.specs.Statements as statements
 use Rattle.xmp_walk.specs.Statements.{index_of, first_part, loop_of}
 use Rattle.xmp_walk.specs.Program as program
-use Rattle.xmp_rules.specs.Scopes as scopes
-use Rattle.xmp_rules.specs.Scopes.{Declared, Scalar, Scope, Context, meaning, inner_with, file_with, declare, opened}
+use Rattle.xmp_rules.specs.Scopes.{Declared, Scalar, Scope, Context, inner_with, file_with, declare, opened}
 use Rattle.xmp_rules.specs.Spots as spots
 use Rattle.xmp_rules.specs.Spots.{Variable, What, Used, Declares, Directive, Spot, all_in, of_expr, of_reference, of_loop, of_task, of_mapping, behind_mapping, behind_declarator, behind_declarators, of_declaration, behind_declaration, of_plain, of_first, behind_first, of_simple, of_test, of_next, of_for, of_items, of_else, of_stmt}
 use Rattle.xmp_rules.proofs.Kept.{kept}
-use Rattle.xmp_rules.proofs.Standing.{Stands, in_function, may, used, breaks, found, all_found, found_in, or_true}
+use Rattle.xmp_rules.proofs.Standing.{Stands, in_function, used, breaks, found, all_found, found_in, or_true}
 use Rattle.xmp_rules.proofs.Telling as telling
 use Rattle.xmp_rules.proofs.Telling.{Ends, ends_then, ends_map, Tells, Telling, typed, typed_reference, directive_at}
 use Rattle.xmp_rules.proofs.Directives.{loop_line_tells, judged_loop_tells, task_tells}
-use Rattle.xmp_rules.proofs.Mappings.{in_append, mapping_moves}
+use Rattle.xmp_rules.proofs.Mappings.{mapping_moves}
 use Rattle.xmp_rules.proofs.Statements.{simple_tells, plain_tells, declaration_moves, do_then}
-use Rattle.xmp_rules.proofs.Moving.{Came, came_none, came_then, came_closed, Moves, moves_then, Moving, ◌>>=◌, ended, pure, known, quiet, quietly, moves_as, scalar_declared, opened_stands, closed, IsOpen, Inner, inner_declared, inner_refl, inner_then, scoped}
+use Rattle.xmp_rules.proofs.Moving.{Came, came_none, came_then, came_closed, Moves, moves_then, ◌>>=◌, ended, pure, known, quiet, quietly, moves_as, scalar_declared, opened_stands, IsOpen, Inner, inner_declared, inner_refl, inner_then, scoped}
 
 -- ---- the head of a `for`
 

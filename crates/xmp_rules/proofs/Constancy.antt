@@ -1,5 +1,5 @@
 -- What the checker knows of an expression's value is what the expression comes to, where no name stands in it.
-use Rattle.std.proofs.Common.{◌≡◌, ◌∙◌, refl, sym, ap, subst, ◌++◌, ◌∷◌, [], ℕ, List, Bool, true, false, true≢false, not, ◌&&◌, ◌||◌, if◌then◌else◌, Option, Some, None, is_some, length, map, flat_map, slice_get, option_map, Result, Ok, Err}
+use Rattle.std.proofs.Common.{◌≡◌, ◌∙◌, refl, sym, ap, subst, ◌++◌, ◌∷◌, [], ℕ, List, Bool, true, false, true≢false, ◌&&◌, if◌then◌else◌, Option, Some, None, is_some, length, map, flat_map, slice_get, Result, Ok, Err}
 use Rattle.std.specs.Prelude.{⊤, ℤ, pos, negsuc}
 use Rattle.xmp_base.specs.declared.place.Place.{Place}
 use Rattle.xmp_lex.specs.declared.token.Mark.{Mark}
@@ -12,11 +12,8 @@ use Rattle.xmp_num.specs.declared.types.BinOp.TheVariants as op
 use Rattle.xmp_num.specs.Arithmetic.{binary_of}
 use Rattle.xmp_prog.specs.declared.expressions.Expr as prog
 use Rattle.xmp_syntax.specs.declared.parts.Name as named
-use Rattle.xmp_syntax.specs.declared.parts.Inside.{Inside}
-use Rattle.xmp_syntax.specs.declared.parts.Image.{Image}
-use Rattle.xmp_syntax.specs.declared.parts.CommaList.{CommaList}
 use Rattle.xmp_syntax.specs.declared.parts.Link.{Link}
-use Rattle.xmp_syntax.specs.declared.expression.Expr.{Expr, fold-Expr}
+use Rattle.xmp_syntax.specs.declared.expression.Expr.{Expr}
 use Rattle.xmp_syntax.specs.declared.expression.Expr.TheOpen.{Expr-F}
 use Rattle.xmp_syntax.specs.declared.expression.Expr.TheFolds.{fold-roll-Expr, ind-Expr, map-Expr}
 use Rattle.xmp_syntax.specs.declared.expression.Expr.TheViews.{roll-Expr}
@@ -33,12 +30,12 @@ use Rattle.xmp_names.specs.declared.typed.Value.TheVariants.{Named, Trapping, Kn
 use Rattle.xmp_names.specs.declared.typed.Operand.{Operand}
 use Rattle.xmp_names.specs.declared.typed.Typed.{Typed}
 use Rattle.xmp_names.specs.declared.typed.Parts.{Parts}
+use Rattle.xmp_names.specs.Rules.{joined}
 use Rattle.xmp_names.specs.Typing as typing
 use Rattle.xmp_names.specs.Typing.{joint, value_type, known, binary_value, is_zero, truth_value, both_value, either_value, converted, is_named, picked, chosen_value, number, binary, operator_of, unary, cast, choose}
 use Rattle.xmp_names.specs.Expressions as e_
 use Rattle.xmp_names.specs.Expressions.{is_nothing, cell_of, read_as, read, intrinsic, call_intrinsic, call_of, call_as, judged_call, call, expr_step, expr_of, right_of}
-use Rattle.xmp_names.specs.Walk.{is_known}
-use Rattle.xmp_rules.specs.Spots.{What, Used, step, of_expr, in_image, in_arguments}
+use Rattle.xmp_rules.specs.Spots.{Variable, What, Used, step, of_expr, in_image}
 use Rattle.xmp_rules.specs.Constants as c_
 use Rattle.xmp_rules.specs.Constants.{Outcome, common, without_trap, computed, truth, both, either, in_type, operation, of_int, chosen, outcome_step, outcome}
 
@@ -188,24 +185,24 @@ module _ (a b : Operand) (m n : Bool) (p q : Outcome) (f : Fits a m p) (g : Fits
   }
 
 binary_fits : (k : Mark) (at : Place) (a b : Typed) (m n : Bool) (p q : Outcome) → Fits a.operand m p → Fits b.operand n q → Fits (binary (operator_of k) at a b).operand (m && n) (operation k p q)
-binary_fits mark.Plus at a b m n p q f g = arithmetic_fits a.operand b.operand m n p q f g op.Add at _
-binary_fits mark.Minus at a b m n p q f g = arithmetic_fits a.operand b.operand m n p q f g op.Sub at _
-binary_fits mark.Star at a b m n p q f g = arithmetic_fits a.operand b.operand m n p q f g op.Mul at _
-binary_fits mark.Slash at a b m n p q f g = arithmetic_fits a.operand b.operand m n p q f g op.Div at _
-binary_fits mark.Percent at a b m n p q f g = arithmetic_fits a.operand b.operand m n p q f g op.Rem at _
-binary_fits mark.And at a b m n p q f g = arithmetic_fits a.operand b.operand m n p q f g op.And at _
-binary_fits mark.Or at a b m n p q f g = arithmetic_fits a.operand b.operand m n p q f g op.Or at _
-binary_fits mark.Xor at a b m n p q f g = arithmetic_fits a.operand b.operand m n p q f g op.Xor at _
-binary_fits mark.ShiftLeft at a b m n p q f g = shift_fits a.operand b.operand m n p q f g op.Shl at _
-binary_fits mark.ShiftRight at a b m n p q f g = shift_fits a.operand b.operand m n p q f g op.Shr at _
-binary_fits mark.Less at a b m n p q f g = compare_fits a.operand b.operand m n p q f g op.Less at _
-binary_fits mark.LessEqual at a b m n p q f g = compare_fits a.operand b.operand m n p q f g op.LessEq at _
-binary_fits mark.Greater at a b m n p q f g = compare_fits a.operand b.operand m n p q f g op.Greater at _
-binary_fits mark.GreaterEqual at a b m n p q f g = compare_fits a.operand b.operand m n p q f g op.GreaterEq at _
-binary_fits mark.Equal at a b m n p q f g = compare_fits a.operand b.operand m n p q f g op.Equal at _
-binary_fits mark.Differ at a b m n p q f g = compare_fits a.operand b.operand m n p q f g op.Differ at _
-binary_fits mark.AndAnd at a b m n p q f g = both_fits a.operand b.operand m n p q f g at _
-binary_fits _ at a b m n p q f g = either_fits a.operand b.operand m n p q f g at _
+binary_fits mark.Plus at a b m n p q f g = arithmetic_fits a.operand b.operand m n p q f g op.Add at (joined a.notes b.notes)
+binary_fits mark.Minus at a b m n p q f g = arithmetic_fits a.operand b.operand m n p q f g op.Sub at (joined a.notes b.notes)
+binary_fits mark.Star at a b m n p q f g = arithmetic_fits a.operand b.operand m n p q f g op.Mul at (joined a.notes b.notes)
+binary_fits mark.Slash at a b m n p q f g = arithmetic_fits a.operand b.operand m n p q f g op.Div at (joined a.notes b.notes)
+binary_fits mark.Percent at a b m n p q f g = arithmetic_fits a.operand b.operand m n p q f g op.Rem at (joined a.notes b.notes)
+binary_fits mark.And at a b m n p q f g = arithmetic_fits a.operand b.operand m n p q f g op.And at (joined a.notes b.notes)
+binary_fits mark.Or at a b m n p q f g = arithmetic_fits a.operand b.operand m n p q f g op.Or at (joined a.notes b.notes)
+binary_fits mark.Xor at a b m n p q f g = arithmetic_fits a.operand b.operand m n p q f g op.Xor at (joined a.notes b.notes)
+binary_fits mark.ShiftLeft at a b m n p q f g = shift_fits a.operand b.operand m n p q f g op.Shl at (joined a.notes b.notes)
+binary_fits mark.ShiftRight at a b m n p q f g = shift_fits a.operand b.operand m n p q f g op.Shr at (joined a.notes b.notes)
+binary_fits mark.Less at a b m n p q f g = compare_fits a.operand b.operand m n p q f g op.Less at (joined a.notes b.notes)
+binary_fits mark.LessEqual at a b m n p q f g = compare_fits a.operand b.operand m n p q f g op.LessEq at (joined a.notes b.notes)
+binary_fits mark.Greater at a b m n p q f g = compare_fits a.operand b.operand m n p q f g op.Greater at (joined a.notes b.notes)
+binary_fits mark.GreaterEqual at a b m n p q f g = compare_fits a.operand b.operand m n p q f g op.GreaterEq at (joined a.notes b.notes)
+binary_fits mark.Equal at a b m n p q f g = compare_fits a.operand b.operand m n p q f g op.Equal at (joined a.notes b.notes)
+binary_fits mark.Differ at a b m n p q f g = compare_fits a.operand b.operand m n p q f g op.Differ at (joined a.notes b.notes)
+binary_fits mark.AndAnd at a b m n p q f g = both_fits a.operand b.operand m n p q f g at (joined a.notes b.notes)
+binary_fits _ at a b m n p q f g = either_fits a.operand b.operand m n p q f g at (joined a.notes b.notes)
 
 number_fits : (v : ℤ) (ty : Ty) → Fits (number v ty).operand true (record { ty = ty; value = Some v })
 number_fits v ty = record { value = refl; ty = λ h. refl }
@@ -226,9 +223,9 @@ as_plain : {t : Operand} {m n : Bool} {o : Outcome} → m ≡ n → Fits t m o �
 as_plain {t} {m} {n} {o} h f = subst (λ b. Fits t b o) h f
 
 unary_fits : (k : Mark) (at : Place) (x : Typed) (n : Bool) (q : Outcome) → Fits x.operand n q → Fits (unary k at x).operand n (c_.unary k q)
-unary_fits mark.Minus at x n q f = arithmetic_fits (number (pos 0) Int).operand x.operand true n (of_int (pos 0)) q (number_fits (pos 0) Int) f op.Sub at _
-unary_fits mark.Tilde at x n q f = as_plain (and_true n) (arithmetic_fits x.operand (number (negsuc 0) Int).operand n true q (of_int (negsuc 0)) f (number_fits (negsuc 0) Int) op.Xor at _)
-unary_fits mark.Bang at x n q f = as_plain (and_true n) (compare_fits x.operand (number (pos 0) Int).operand n true q (of_int (pos 0)) f (number_fits (pos 0) Int) op.Equal at _)
+unary_fits mark.Minus at x n q f = arithmetic_fits (number (pos 0) Int).operand x.operand true n (of_int (pos 0)) q (number_fits (pos 0) Int) f op.Sub at (joined (number (pos 0) Int).notes x.notes)
+unary_fits mark.Tilde at x n q f = as_plain (and_true n) (arithmetic_fits x.operand (number (negsuc 0) Int).operand n true q (of_int (negsuc 0)) f (number_fits (negsuc 0) Int) op.Xor at (joined x.notes (number (negsuc 0) Int).notes))
+unary_fits mark.Bang at x n q f = as_plain (and_true n) (compare_fits x.operand (number (pos 0) Int).operand n true q (of_int (pos 0)) f (number_fits (pos 0) Int) op.Equal at (joined x.notes (number (pos 0) Int).notes))
 unary_fits _ at x n q f = f
 
 cast_fits : (ty : Ty) (x : Typed) (n : Bool) (q : Outcome) → Fits x.operand n q → Fits (cast ty x).operand n (record { ty = ty; value = in_type ty q.value })
@@ -291,6 +288,21 @@ something (x ∷ xs) y = refl
 something_behind : {A : Type 0} (xs ys : List A) (y : A) → is_nothing (xs ++ (ys ++ y ∷ [])) ≡ false
 something_behind xs ys y = nothing_in xs (ys ++ y ∷ []) ∙ (ap (λ b. is_nothing xs && b) (something ys y) ∙ and_false (is_nothing xs))
 
+-- A name stands in what is read.
+abbrev IsRead : Expr-F (List What) → Type 0
+IsRead (Expr-F.Read r) = ⊤
+IsRead _ = ⊥
+
+named_step : (y : Expr-F (List What)) → IsRead y → is_nothing (step y) ≡ false
+named_step (Expr-F.Read r) h = something_behind {A = What} (flat_map (λ d. d.item) r.subscripts) (in_image r.image) (Used r.name (Variable (length r.subscripts) (is_some r.image)))
+named_step (Expr-F.Number p v ty) h = absurd h
+named_step (Expr-F.Call c) h = absurd h
+named_step (Expr-F.Parens x) h = absurd h
+named_step (Expr-F.Unary o x) h = absurd h
+named_step (Expr-F.Cast ty x) h = absurd h
+named_step (Expr-F.Chain x ls) h = absurd h
+named_step (Expr-F.Conditional c p a q b) h = absurd h
+
 module _ (e : Environment) where
   abbrev P : Expr → Type 0
   P x = Fits (expr_of e x).operand (is_nothing (of_expr x)) (outcome x)
@@ -321,7 +333,7 @@ module _ (e : Environment) where
       Fits (expr_step e (map-Expr Expr Typed (expr_of e) (map-Expr Fitting Expr (λ z. z.0) y))).operand (is_nothing (step (map-Expr Expr (List What) of_expr (map-Expr Fitting Expr (λ z. z.0) y))))
       (outcome_step (map-Expr Expr Outcome outcome (map-Expr Fitting Expr (λ z. z.0) y)))
   each_step (Expr-F.Number p v ty) = number_fits v ty
-  each_step (Expr-F.Read r) = named_fits _ _ _ (read_named e (nearest r.name.text e.scopes) r.name.at _ _ _) (something_behind _ _ _)
+  each_step (Expr-F.Read r) = named_fits _ _ _ (read_named e (nearest r.name.text e.scopes) r.name.at _ _ _) (named_step (map-Expr Expr (List What) of_expr (map-Expr Fitting Expr (λ z. z.0) (Expr-F.Read r))) tt)
   each_step (Expr-F.Call x) = named_fits _ _ _ (called_named e (nearest x.name.text e.scopes) x.name _) (something _ _)
   each_step (Expr-F.Parens x) = x.item.1
   each_step (Expr-F.Unary o x) = unary_fits o.what o.at (expr_of e x.0) (is_nothing (of_expr x.0)) (outcome x.0) x.1

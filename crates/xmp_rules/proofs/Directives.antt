@@ -1,11 +1,10 @@
 -- The lines of directives note what breaks at their spots.
 use Rattle.std.proofs.Common.{◌≡◌, ◌∙◌, refl, sym, ap, subst, ◌++◌, ◌∷◌, [], ℕ, List, Bool, true, false, not, ◌&&◌, ◌||◌, ◌==◌, Option, Some, None, is_some, length, map, flat_map, drop, slice_get, append_assoc, append-nil}
 use Rattle.std.proofs.lemmas.List.Concat.{flat_map_single}
-use Rattle.std.specs.Prelude.{⊤, ℤ, pos}
+use Rattle.std.specs.Prelude.{ℤ, pos}
 use Rattle.std.specs.List.{list_all}
 use Rattle.std.specs.Option.{unwrap_or}
 use Rattle.xmp_base.specs.declared.place.Place.{Place}
-use Rattle.xmp_num.specs.declared.types.RedOp.{RedOp}
 use Rattle.xmp_map.specs.declared.grid.NodeSet.{NodeSet}
 use Rattle.xmp_prog.specs.declared.statements.Name as made_name
 use Rattle.xmp_prog.specs.declared.statements.Reduction as made_reduction
@@ -15,7 +14,6 @@ use Rattle.xmp_prog.specs.declared.statements.Part.TheVariants as part
 use Rattle.xmp_prog.specs.declared.statements.MoveSide.{MoveSide}
 use Rattle.xmp_prog.specs.declared.statements.MoveSide.TheVariants as side
 use Rattle.xmp_prog.specs.declared.statements.Plain.TheVariants as p
-use Rattle.xmp_prog.specs.declared.statements.Stmt as made
 use Rattle.xmp_prog.specs.declared.statements.Stmt.TheVariants as s
 use Rattle.xmp_prog.specs.Directives.{sections_in}
 use Rattle.xmp_lex.specs.declared.token.Mark.{Mark}
@@ -53,11 +51,11 @@ use Rattle.xmp_directives.specs.Directives as directives
 use Rattle.xmp_directives.specs.Directives.{signed, slot_or_zero, names_or, slots_of_points, operation_of, Nest, loop_right, is_indexed, made_loop, nodes_from, sizes_in, ranges, is_one, ranges_right, box_of, share, unwritten, first_extent, no_side, sections_match, template_takes, nodes_take, lowers_in}
 use Rattle.xmp_rules.specs.Scopes as scopes
 use Rattle.xmp_rules.specs.Scopes.{Declared, Context, meaning}
-use Rattle.xmp_rules.specs.Spots.{Use, AScalar, AnIndex, AnArray, SomeNodes, ATemplate, ASide, Points, Pieces, What, Used, Formed, Sides, Directive, of_expr, constant, behind, of_offset, of_point, of_names, of_loop_names, of_points, of_loop, of_piece, of_set, of_task, of_section, sections_of, of_side}
+use Rattle.xmp_rules.specs.Spots.{Use, AScalar, AnIndex, AnArray, SomeNodes, ATemplate, ASide, Points, Pieces, What, Used, Formed, Sides, Directive, of_expr, constant, behind, of_offset, of_point, of_names, of_loop_names, of_loop, of_piece, of_set, of_task, of_section, sections_of, of_side}
 use Rattle.xmp_rules.proofs.Kept.{kept, behind_none, behind_all, three}
-use Rattle.xmp_rules.proofs.Standing.{Stands, SameOption, same_there, same_meaning, may_is, may, used_is, breaks, found}
+use Rattle.xmp_rules.proofs.Standing.{Stands, SameOption, same_meaning, found}
 use Rattle.xmp_rules.proofs.Expressions.{name_found}
-use Rattle.xmp_rules.proofs.Telling.{Ends, ends_map, ends_then, Added, added_none, added_then, Tells, tells_then, Telling, ◌>>=◌, ended, pure, known, skipped_by, unheard_by, asked, typed, constant_of, each, by_meaning, name_of, directive_at}
+use Rattle.xmp_rules.proofs.Telling.{Ends, ends_map, Added, added_none, Tells, tells_then, Telling, ◌>>=◌, ended, pure, known, skipped_by, unheard_by, asked, typed, constant_of, each, by_meaning, name_of, directive_at}
 
 -- The same spots in another form.
 pub same_tells : {A : Type 0} (xs ys : Context → List What) (run : Run A) → ((c : Context) → xs c ≡ ys c) → Tells xs run → Tells ys run

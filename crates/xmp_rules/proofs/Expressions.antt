@@ -15,7 +15,7 @@ use Rattle.xmp_syntax.specs.declared.parts.Link.{Link}
 use Rattle.xmp_syntax.specs.declared.parts.Image.{Image}
 use Rattle.xmp_syntax.specs.declared.parts.Reference.{Reference}
 use Rattle.xmp_syntax.specs.declared.parts.Call.{Call}
-use Rattle.xmp_syntax.specs.declared.expression.Expr.{Expr, fold-Expr}
+use Rattle.xmp_syntax.specs.declared.expression.Expr.{Expr}
 use Rattle.xmp_syntax.specs.declared.expression.Expr.TheOpen.{Expr-F}
 use Rattle.xmp_syntax.specs.declared.expression.Expr.TheFolds.{fold-roll-Expr, ind-Expr, map-Expr}
 use Rattle.xmp_syntax.specs.declared.expression.Expr.TheViews.{roll-Expr}
@@ -34,11 +34,10 @@ use Rattle.xmp_names.specs.declared.typed.Typed.{Typed}
 use Rattle.xmp_names.specs.declared.typed.Parts.{Parts}
 use Rattle.xmp_names.specs.Rules.{unless, noted, joined}
 use Rattle.xmp_names.specs.Typing.{binary, unary, operator_of}
-use Rattle.xmp_names.specs.Expressions.{no_parts, add, is_nothing, cell_of, read_as, image_notes, read, intrinsic, call_intrinsic, call_of, call_as, may_name, may_call, judged_call, call, chain, each_subscript, each_next, all_of, expr_step, expr_of, inside_of, next_of, right_of, list_of, reference_of, arguments_of}
+use Rattle.xmp_names.specs.Expressions.{no_parts, add, is_nothing, cell_of, read_as, image_notes, read, intrinsic, call_intrinsic, call_of, call_as, may_name, may_call, judged_call, call, chain, each_subscript, each_next, expr_step, expr_of, inside_of, next_of, right_of, reference_of, arguments_of}
 use Rattle.xmp_rules.specs.Scopes.{Declared, Context, meaning}
-use Rattle.xmp_rules.specs.Spots as spots
-use Rattle.xmp_rules.specs.Spots.{Use, Called, Variable, What, Used, in_image, in_arguments, how_many, step, of_expr, of_image, of_reference, of_arguments, of_call}
-use Rattle.xmp_rules.proofs.Kept.{covered, kept, kept_both, kept_none, behind_none, behind_all}
+use Rattle.xmp_rules.specs.Spots.{Use, Called, Variable, What, Used, how_many, step, of_expr, of_image, of_reference, of_arguments, of_call}
+use Rattle.xmp_rules.proofs.Kept.{kept, kept_both, behind_none, behind_all}
 use Rattle.xmp_rules.proofs.Standing.{Stands, SameOption, same_there, same_meaning, may_is, may, is_given, allowed, used, used_is, breaks, found}
 
 -- ---- what an operator notes

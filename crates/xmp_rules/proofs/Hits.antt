@@ -1,5 +1,5 @@
 -- Where a rule of names stands in a list of broken rules, and where in the list of the checker.
-use Rattle.std.proofs.Common.{◌≡◌, ◌∙◌, refl, sym, ap, subst, arith, inl, inr, ⊎_elim, ◌⊎◌, ◌↔◌, ◌++◌, ◌∷◌, [], ℕ, ◌+◌, ◌*◌, zero, suc, List, Bool, if◌then◌else◌, nat_le, length, pos, true, false, cond, not, ◌&&◌, ◌||◌, ◌==◌, is_some, Option, Some, None, map, filter, flat_map, append_assoc, append-nil, true≢false}
+use Rattle.std.proofs.Common.{◌≡◌, ◌∙◌, refl, sym, ap, subst, arith, inl, inr, ⊎_elim, ◌⊎◌, ◌↔◌, ◌++◌, ◌∷◌, [], ℕ, ◌+◌, ◌*◌, zero, suc, List, Bool, if◌then◌else◌, nat_le, length, true, false, cond, not, ◌&&◌, ◌||◌, ◌==◌, is_some, Option, Some, None, filter, flat_map, append-nil, true≢false}
 use Rattle.std.specs.Prelude.{⊤}
 use Rattle.std.specs.List.{list_all, enumerate_from}
 use Rattle.xmp_base.specs.declared.place.Place.{Place}
@@ -26,7 +26,7 @@ use Rattle.xmp_mapping_rules.specs.MappingRules.{one_to_three, distributed, is_f
 use Rattle.xmp_walk.specs.Program.{program_of}
 use Rattle.xmp_parts.specs.Verdict.{number_of, is_of_names, phase_in, refusal_of, IsIn, of_names, world_after, broken_rules}
 use Rattle.xmp_rules.specs.Lists.{AnyOf}
-use Rattle.xmp_rules.specs.Spots.{Spot, spots}
+use Rattle.xmp_rules.specs.Spots.{spots}
 use Rattle.xmp_rules.specs.Rules.{Counts}
 use Rattle.xmp_rules.proofs.Kept.{covered, kept, kept_both, kept_none}
 use Rattle.xmp_rules.proofs.Standing.{breaks, all_found}

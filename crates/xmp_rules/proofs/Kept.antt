@@ -3,7 +3,7 @@ use Rattle.std.proofs.Common.{◌≡◌, ◌∙◌, refl, ap, ◌++◌, ◌∷�
 use Rattle.std.proofs.lemmas.List.Elements.{filter-append}
 use Rattle.xmp_base.specs.declared.place.Place.{Place}
 use Rattle.xmp_names.specs.declared.rules.Rule.{Rule}
-use Rattle.xmp_names.specs.declared.rules.Rule.TheVariants.{N1, N2, N3, N4, N5, N6, N7, N8, N9, N10, M1, M2, M3, M4, M5, M6, M7, M8, M9, M10}
+use Rattle.xmp_names.specs.declared.rules.Rule.TheVariants.{N1, N2, N4, N5, N7, N8}
 use Rattle.xmp_names.specs.declared.rules.Broken.{Broken}
 use Rattle.xmp_names.specs.Rules.{unless}
 

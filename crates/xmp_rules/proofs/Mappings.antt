@@ -29,10 +29,9 @@ use Rattle.xmp_names.specs.declared.mappings.Form.{Form}
 use Rattle.xmp_names.specs.declared.mappings.Form.TheVariants as form
 use Rattle.xmp_names.specs.declared.mappings.AlignPoint.{AlignPoint}
 use Rattle.xmp_names.specs.declared.mappings.AlignPoint.TheVariants as ap_
-use Rattle.xmp_names.specs.declared.rules.Rule.TheVariants.{N1, N2, N3, N5}
+use Rattle.xmp_names.specs.declared.rules.Rule.TheVariants.{N1, N2, N3}
 use Rattle.xmp_names.specs.declared.world.World.{World}
 use Rattle.xmp_names.specs.Rules.{unless}
-use Rattle.xmp_names.specs.Expressions.{may_name}
 use Rattle.xmp_names.specs.Lists.{listed, inner, parts, notation, only, only_notation}
 use Rattle.xmp_names.specs.Sizes.{extents_in}
 use Rattle.xmp_names.specs.Walk as walk
@@ -42,13 +41,12 @@ use Rattle.xmp_directives.specs.MappingLines as lines
 use Rattle.xmp_directives.specs.MappingLines.{Dummies, bounds_of, has_dummy}
 use Rattle.xmp_rules.specs.Scopes as scopes
 use Rattle.xmp_rules.specs.Scopes.{Declared, Context, meaning, declare}
-use Rattle.xmp_rules.specs.Spots.{Use, AnArray, SomeNodes, ATemplate, NoDummy, Points, Dimensions, What, Used, Formed, Declares, Dummy, Directive, Maps, Spot, all_in, constant, behind, of_offset, of_points, of_set, of_range, of_dimensions, count, of_width, of_form, dummy, of_dummy, of_dummies, of_align_point, line_of, of_line, of_mapping, behind_mapping}
+use Rattle.xmp_rules.specs.Spots.{AnArray, SomeNodes, ATemplate, NoDummy, Points, Dimensions, What, Used, Formed, Declares, Dummy, Directive, Maps, all_in, constant, behind, of_offset, of_points, of_set, of_range, of_dimensions, count, of_width, of_form, dummy, of_dummy, of_dummies, of_align_point, line_of, of_line, of_mapping, behind_mapping}
 use Rattle.xmp_rules.proofs.Kept.{kept, behind_none, behind_all, three}
 use Rattle.xmp_rules.proofs.Standing.{Stands, breaks, found, all_found}
 use Rattle.xmp_rules.proofs.Expressions.{name_found}
-use Rattle.xmp_rules.proofs.Telling.{Ends, ends_then, ends_map, Added, added_none, added_then, Tells, tells_then, Telling, ◌>>=◌, ended, pure, known, skipped_by, one_found, typed, constant_of, each, by_meaning, name_of, directive_at, stands_outermost}
+use Rattle.xmp_rules.proofs.Telling.{Ends, ends_then, ends_map, Added, added_none, added_then, Tells, ◌>>=◌, ended, pure, known, skipped_by, one_found, constant_of, each, by_meaning, name_of, directive_at, stands_outermost}
 use Rattle.xmp_rules.proofs.Directives.{same_tells, offset_tells, second_tells, match_any, set_tells}
-use Rattle.xmp_rules.proofs.Moving as moving
 use Rattle.xmp_rules.proofs.Moving.{Moves, moves_then, moves_as, quiet, declared_stands, declares_found}
 
 pub in_append : (c : Context) (xs ys : List What) → all_in c (xs ++ ys) ≡ all_in c xs ++ all_in c ys

@@ -1,9 +1,8 @@
 -- Runs of the walk that note what breaks at the spots of a list, and behind which the names are those of another context; and how such
 -- runs are put together.
-use Rattle.std.proofs.Common.{◌≡◌, ◌∙◌, refl, sym, ap, subst, ◌++◌, ◌∷◌, [], ℕ, List, Bool, true, false, not, ◌||◌, Option, Some, None, drop, length, flat_map, append_assoc, append-nil}
+use Rattle.std.proofs.Common.{◌≡◌, ◌∙◌, refl, sym, ap, subst, ◌++◌, ◌∷◌, [], List, not, ◌||◌, drop, length, append-nil}
 use Rattle.std.proofs.lemmas.Grind.{flat_map-append}
 use Rattle.std.specs.Prelude.{⊤}
-use Rattle.xmp_base.specs.declared.place.Place.{Place}
 use Rattle.xmp_num.specs.declared.types.Ty.{Ty}
 use Rattle.xmp_syntax.specs.declared.parts.Name as named
 use Rattle.xmp_scopes.specs.Names as scope
@@ -20,7 +19,7 @@ use Rattle.xmp_names.specs.Walk.{Gave, Run, is_reserved}
 use Rattle.xmp_rules.specs.Scopes.{Declared, Scalar, Scope, Context, scopes, inner_with, file_with, declare, opened}
 use Rattle.xmp_rules.specs.Spots.{What, Declares, Spot, all_in}
 use Rattle.xmp_rules.proofs.Kept.{kept, behind_all, three}
-use Rattle.xmp_rules.proofs.Standing.{Stands, SameKind, SameScope, SameScopes, breaks, found, all_found, found_in, declared_here}
+use Rattle.xmp_rules.proofs.Standing.{Stands, SameKind, SameScopes, breaks, found, all_found, found_in, declared_here}
 use Rattle.xmp_rules.proofs.Telling.{Ends, ends_then, ends_map, Added, Tells}
 
 -- ---- the relation

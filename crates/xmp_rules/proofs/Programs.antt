@@ -1,13 +1,11 @@
 -- The walk over a program notes what breaks at its spots.
-use Rattle.std.proofs.Common.{◌≡◌, ◌∙◌, refl, sym, ap, subst, ◌++◌, ◌∷◌, [], ℕ, ◌+◌, List, Bool, true, false, not, Option, Some, None, length, map, flat_map, drop, slice_get, slice_set, length-append, length-set, append_assoc, append-nil}
+use Rattle.std.proofs.Common.{◌≡◌, ◌∙◌, refl, sym, ap, subst, ◌++◌, ◌∷◌, [], ℕ, ◌+◌, List, Bool, Option, length, map, drop, slice_get, slice_set, length-append, length-set, append_assoc, append-nil}
 use Rattle.std.proofs.lemmas.Grind.{flat_map-append}
 use Rattle.std.specs.Prelude.{⊤}
 use Rattle.std.specs.List.{AllZip, list_any}
-use Rattle.xmp_base.specs.declared.place.Place.{Place}
 use Rattle.xmp_num.specs.declared.types.Ty.{Ty}
 use Rattle.xmp_prog.specs.declared.statements.Stmt as made
 use Rattle.xmp_prog.specs.declared.statements.Stmt.TheVariants as s
-use Rattle.xmp_prog.specs.declared.parts.Function as made_function
 use Rattle.xmp_syntax.specs.declared.parts.Name as named
 use Rattle.xmp_syntax.specs.declared.parts.TypeWords.{TypeWords}
 use Rattle.xmp_syntax.specs.declared.statement.Plain.TheVariants as plain
@@ -25,7 +23,7 @@ use Rattle.xmp_names.specs.declared.names.Region.{Region}
 use Rattle.xmp_names.specs.declared.names.Region.TheVariants as region
 use Rattle.xmp_names.specs.declared.names.Meaning.{Meaning}
 use Rattle.xmp_names.specs.declared.names.Meaning.TheVariants as m
-use Rattle.xmp_names.specs.declared.rules.Rule.TheVariants.{N2, N7}
+use Rattle.xmp_names.specs.declared.rules.Rule.TheVariants.{N7}
 use Rattle.xmp_names.specs.declared.rules.Broken.{Broken}
 use Rattle.xmp_names.specs.declared.world.World.{World}
 use Rattle.xmp_names.specs.Rules.{deeper}
@@ -41,12 +39,12 @@ use Rattle.xmp_rules.specs.Scopes.{Declared, Scalar, Part, File, InFunction, InM
 use Rattle.xmp_rules.specs.Spots as spots
 use Rattle.xmp_rules.specs.Spots.{What, Declares, Head, Spot, all_in, constant, of_expr, of_return, of_mapping, behind_mapping, of_declaration, behind_declaration, of_items, of_stmt, seen, behind_parameters, of_parameters, declared, inside, deepest, of_body, of_function, behind_function, last_stmt, last_seen, seen_main, of_main, of_top, behind_top, of_last, of_tops, nothing}
 use Rattle.xmp_rules.proofs.Kept.{kept}
-use Rattle.xmp_rules.proofs.Standing.{Stands, SameKind, SameScopes, region_of, IsLast, breaks, found, all_found}
-use Rattle.xmp_rules.proofs.Telling.{Ends, ends_then, ends_map, Tells, judged_by}
+use Rattle.xmp_rules.proofs.Standing.{Stands, SameScopes, region_of, IsLast, breaks, all_found}
+use Rattle.xmp_rules.proofs.Telling.{Ends, ends_then, ends_map, judged_by}
 use Rattle.xmp_rules.proofs.Statements.{last_return_tells, file_declaration_moves}
 use Rattle.xmp_rules.proofs.Mappings.{mapping_moves}
 use Rattle.xmp_rules.proofs.Blocks.{Matches, behind_items, items_move, inner_items, stmt_moves}
-use Rattle.xmp_rules.proofs.Moving.{Came, came_none, came_then, came_closed, Moves, moves_then, Moving, ◌>>=◌, ended, pure, known, quiet, quietly, moves_as, declared_stands, declares_found, scalar_declared, closed, closed_stands, IsOpen, Inner, inner_declared, inner_refl, inner_then}
+use Rattle.xmp_rules.proofs.Moving.{Came, came_then, Moves, moves_then, pure, quiet, declared_stands, declares_found, scalar_declared, closed_stands, IsOpen, Inner, inner_declared, inner_refl, inner_then}
 
 -- ---- the bodies of functions
 

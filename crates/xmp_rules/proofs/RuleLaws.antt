@@ -1,8 +1,8 @@
 -- Each rule breaks at a spot, as the checker tests it, exactly where its sentence says so.
-use Rattle.std.proofs.Common.{◌≡◌, ◌∙◌, refl, sym, ap, subst, arith, inl, inr, ⊎_elim, ◌⊎◌, ◌↔◌, ◌++◌, ◌∷◌, [], ℕ, suc, ◌+◌, ◌<◌, ◌≤◌, ◌==◌, length, length-append, List, Bool, true, false, cond, not, ◌&&◌, ◌||◌, nat_lt, nat_le, is_some, Option, Some, None, map, codes, true≢false}
-use Rattle.std.specs.Prelude.{⊤, ℤ, pos, negsuc}
+use Rattle.std.proofs.Common.{◌≡◌, ◌∙◌, refl, sym, ap, subst, arith, inl, inr, ⊎_elim, ◌⊎◌, ◌↔◌, ◌++◌, ◌∷◌, [], ℕ, suc, ◌+◌, ◌<◌, ◌≤◌, ◌==◌, length, length-append, List, Bool, true, false, cond, not, ◌&&◌, ◌||◌, nat_lt, nat_le, is_some, Option, Some, None, codes, true≢false}
+use Rattle.std.specs.Prelude.{ℤ, pos, negsuc}
 use Rattle.std.specs.List.{list_any, list_all, AllByRecursion}
-use Rattle.std.proofs.lemmas.Option.{same_Some, none-some}
+use Rattle.std.proofs.lemmas.Option.{none-some}
 use Rattle.std.specs.Option.{option_or}
 use Rattle.std.proofs.lemmas.Bool.Decides.{nat_tests}
 use Rattle.xmp_base.specs.declared.place.Place.{Place}
@@ -121,9 +121,10 @@ last_of : (n : ℕ) (at : Place) (c : Context) (name : named.Name) (xs : List Ex
     AnyOf (Hit n at) (breaks c (Extents name xs)) ↔ AnyOf (Hit n at) (unless (not (in_function c.part)) N5 name.at)
 last_of n at c name xs k =
     let b : List Broken = unless (is_out c) N8 name.at in
-    let d : List Broken = unless (not (in_function c.part)) N5 name.at in
-    (λ h. ⊎_elim (λ x. absurd (miss n at (extents_right xs) N8 name.at k x)) (λ y. ⊎_elim (λ x. absurd (miss n at (is_out c) N8 name.at k x)) (λ z. z) (any_either (Hit n at) b d y)) (any_either (Hit n at) (unless (extents_right xs) N8 name.at) (b ++ d) h),
-    λ h. any_right (Hit n at) (unless (extents_right xs) N8 name.at) (b ++ d) (any_right (Hit n at) b d h))
+    let d : List Broken = unless (not (in_function c.part)) N5 name.at in (
+      λ h. ⊎_elim (λ x. absurd (miss n at (extents_right xs) N8 name.at k x)) (λ y. ⊎_elim (λ x. absurd (miss n at (is_out c) N8 name.at k x)) (λ z. z) (any_either (Hit n at) b d y)) (any_either (Hit n at) (unless (extents_right xs) N8 name.at) (b ++ d) h),
+      λ h. any_right (Hit n at) (unless (extents_right xs) N8 name.at) (b ++ d) (any_right (Hit n at) b d h),
+    )
 
 no_array : (n : ℕ) (at : Place) (c : Context) (name : named.Name) (xs : List Expr) → (number_of N8 ≡ n → ⊥) → (number_of N5 ≡ n → ⊥) → AnyOf (Hit n at) (breaks c (Extents name xs)) → ⊥
 no_array n at c name xs k l h = miss n at (not (in_function c.part)) N5 name.at l ((last_of n at c name xs k).0 h)
@@ -412,7 +413,7 @@ no_extent x = by (is_nothing (of_expr x)) (outcome x).value (nothing_there (of_e
     by true None n e = (λ h. absurd (true≢false h), λ h. absurd (none-some h.0 (sym e ∙ h.1.0.value)))
     by true (Some v) n e =
         let k = false_or_not (is_extent v) (IsExtent v) (extent_is v) in
-        (λ h. (v, (record { nameless = n.0 refl; value = e }, k.0 h)), λ h. k.1 (subst (λ y. IsExtent y → ⊥) (same_Some (sym h.1.0.value ∙ e)) h.1.1))
+        (λ h. (v, (record { nameless = n.0 refl; value = e }, k.0 h)), λ h. let q : h.0 ≡ v = cc (sym h.1.0.value ∙ e) in k.1 (subst (λ y. IsExtent y → ⊥) q h.1.1))
 
 some_no_extent : (xs : List Expr) → (list_all (λ x. extent_right (value_in x)) xs ≡ false) ↔ AnyOf IsNoExtent xs
 some_no_extent [] = (λ h. absurd (true≢false h), λ h. absurd h)
@@ -428,11 +429,12 @@ ill_array at c n xs =
     let d : List Broken = unless (not (in_function c.part)) N5 n.at in
     let f = iff_then (hit 8 at (extents_right xs) N8 n.at refl refl) (iff_place n.at at (and_either (list_all (λ x. extent_right (value_in x)) xs) (nat_le (length xs) 3) (AnyOf IsNoExtent xs) (3 < length xs) (some_no_extent xs) (too_many (length xs)))) in
     let g = iff_then (hit 8 at (is_out c) N8 n.at refl refl) (iff_place n.at at (outside_here c)) in
-    let P : Broken → Type 0 = Hit 8 at in
-    (λ h. ⊎_elim (λ x. let k = f.0 x in (k.0, ⊎_elim (λ y. inl y) (λ y. inr (inl y)) k.1))
-    (λ y. ⊎_elim (λ x. let k = g.0 x in (k.0, inr (inr k.1))) (λ z. absurd (miss 8 at (not (in_function c.part)) N5 n.at (λ e. omega (arith, e)) z)) (any_either P b d y)) (any_either P a (b ++ d) h),
-    λ h. ⊎_elim (λ y. any_left P a (b ++ d) (f.1 (h.0, inl y)))
-    (λ q. ⊎_elim (λ y. any_left P a (b ++ d) (f.1 (h.0, inr y))) (λ y. any_right P a (b ++ d) (any_left P b d (g.1 (h.0, y)))) q) h.1)
+    let P : Broken → Type 0 = Hit 8 at in (
+      λ h. ⊎_elim (λ x. let k = f.0 x in (k.0, ⊎_elim (λ y. inl y) (λ y. inr (inl y)) k.1))
+          (λ y. ⊎_elim (λ x. let k = g.0 x in (k.0, inr (inr k.1))) (λ z. absurd (miss 8 at (not (in_function c.part)) N5 n.at (λ e. omega (arith, e)) z)) (any_either P b d y)) (any_either P a (b ++ d) h),
+      λ h. ⊎_elim (λ y. any_left P a (b ++ d) (f.1 (h.0, inl y)))
+          (λ q. ⊎_elim (λ y. any_left P a (b ++ d) (f.1 (h.0, inr y))) (λ y. any_right P a (b ++ d) (any_left P b d (g.1 (h.0, y)))) q) h.1,
+    )
 
 ill_spot : (at : Place) (c : Context) (x : What) → AnyOf (Hit 8 at) (breaks c x) ↔ StandsIll c x at
 ill_spot at c (Used n u) = none_of (no_name 8 at c n u (meaning c n.text) (λ e. omega (arith, e)) (λ e. omega (arith, e)))

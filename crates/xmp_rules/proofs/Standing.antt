@@ -1,12 +1,10 @@
 -- An environment of the checker stands for a context: the names mean the same, and the same functions were declared.
-use Rattle.std.proofs.Common.{◌≡◌, ◌∙◌, refl, sym, ap, subst, ◌++◌, ◌∷◌, [], ℕ, suc, ◌+◌, ◌<◌, List, Bool, true, false, cond, not, ◌&&◌, ◌||◌, ◌==◌, nat_lt, nat_le, Option, Some, None, is_some, length, length-append, flat_map, codes, if◌then◌else◌, arith}
+use Rattle.std.proofs.Common.{◌≡◌, ◌∙◌, refl, sym, ap, subst, ◌++◌, ◌∷◌, [], ℕ, suc, ◌+◌, List, Bool, true, false, cond, not, ◌&&◌, ◌||◌, ◌==◌, nat_lt, nat_le, Option, Some, None, is_some, length, length-append, flat_map, codes, if◌then◌else◌, arith}
 use Rattle.std.specs.Prelude.{⊤}
 use Rattle.std.specs.List.{list_any, list_all}
 use Rattle.std.specs.Option.{option_or}
-use Rattle.std.proofs.lemmas.Option.{same_Some, none-some}
-use Rattle.xmp_base.specs.declared.place.Place.{Place}
+use Rattle.std.proofs.lemmas.Option.{none-some}
 use Rattle.xmp_syntax.specs.declared.parts.Name as named
-use Rattle.xmp_num.specs.declared.types.Ty.{Ty}
 use Rattle.xmp_scopes.specs.Names as scope
 use Rattle.xmp_scopes.specs.Names.{Name, is_same, in_scope, nearest, depth_of}
 use Rattle.xmp_names.specs.declared.names.Region.{Region}
@@ -25,7 +23,7 @@ use Rattle.xmp_walk.specs.Program.{is_main_head}
 use Rattle.xmp_rules.specs.Scopes.{Declared, Scalar, Array, Nodes, Template, Function, Part, File, InFunction, InMain, Scope, Context, scopes, meaning}
 use Rattle.xmp_syntax.specs.declared.expression.Expr.{Expr}
 use Rattle.xmp_rules.proofs.Constancy.{value_in}
-use Rattle.xmp_rules.specs.Spots.{Use, Called, Variable, AScalar, AnIndex, AnArray, SomeNodes, ATemplate, ASide, NoDummy, What, Used, Formed, Sides, Declares, Dummy, Directive, Maps, Extents, Constant, Returned, Word, Sync, Printed, Scanned, Returns, Head, Spot, all_in}
+use Rattle.xmp_rules.specs.Spots.{Use, Called, What, Used, Declares, Dummy, Directive, Maps, Extents, Constant, Returned, Word, Sync, Returns, Head, Spot, all_in}
 
 -- ---- the relation
 

@@ -1,43 +1,25 @@
 -- Declarations and statements note what breaks at their spots.
-use Rattle.std.proofs.Common.{◌≡◌, ◌∙◌, refl, sym, ap, subst, ◌++◌, ◌∷◌, [], ℕ, List, Bool, true, false, not, ◌&&◌, ◌||◌, ◌==◌, nat_le, nat_lt, Option, Some, None, is_some, length, map, flat_map, drop, append_assoc, append-nil}
+use Rattle.std.proofs.Common.{◌≡◌, ◌∙◌, refl, sym, ap, subst, ◌++◌, ◌∷◌, [], ℕ, List, Bool, true, false, not, ◌&&◌, ◌||◌, ◌==◌, nat_le, nat_lt, Option, Some, None, is_some, length, map, flat_map, append_assoc, append-nil}
 use Rattle.std.proofs.lemmas.Grind.{flat_map-append}
 use Rattle.std.specs.Prelude.{⊤}
-use Rattle.std.specs.List.{list_all, AllZip}
+use Rattle.std.specs.List.{list_all}
 use Rattle.xmp_base.specs.declared.place.Place.{Place}
 use Rattle.xmp_num.specs.declared.types.Ty.{Ty}
-use Rattle.xmp_num.specs.declared.types.Ty.TheVariants.{Int}
-use Rattle.xmp_map.specs.declared.grid.NodeSet.{NodeSet}
 use Rattle.xmp_prog.specs.declared.statements.Stmt as made
 use Rattle.xmp_prog.specs.declared.statements.Stmt.TheVariants as s
 use Rattle.xmp_prog.specs.declared.statements.Plain.TheVariants as p
-use Rattle.xmp_prog.specs.declared.statements.Task.{Task}
 use Rattle.xmp_syntax.specs.declared.parts.Name as named
 use Rattle.xmp_syntax.specs.declared.parts.Format.{Format}
-use Rattle.xmp_syntax.specs.declared.parts.Inside.{Inside}
 use Rattle.xmp_syntax.specs.declared.parts.Next.{Next}
 use Rattle.xmp_syntax.specs.declared.parts.Reference.{Reference}
 use Rattle.xmp_syntax.specs.declared.expression.Expr.{Expr}
 use Rattle.xmp_syntax.specs.declared.declaration.Declarator.{Declarator}
 use Rattle.xmp_syntax.specs.declared.declaration.Declarator.TheVariants as declarator
 use Rattle.xmp_syntax.specs.declared.declaration.Declaration.{Declaration}
-use Rattle.xmp_syntax.specs.declared.directive.DirectiveLine.{DirectiveLine}
-use Rattle.xmp_syntax.specs.declared.directive.LoopLine.{LoopLine}
-use Rattle.xmp_syntax.specs.declared.directive.TaskLine.{TaskLine}
-use Rattle.xmp_syntax.specs.declared.directive.Mapping.{Mapping}
-use Rattle.xmp_syntax.specs.declared.directive.Mapping.TheVariants as mapping
 use Rattle.xmp_syntax.specs.declared.statement.Simple.{Simple}
 use Rattle.xmp_syntax.specs.declared.statement.Simple.TheVariants as simple
-use Rattle.xmp_syntax.specs.declared.statement.ForFirst.{ForFirst}
-use Rattle.xmp_syntax.specs.declared.statement.ForFirst.TheVariants as for_first
-use Rattle.xmp_syntax.specs.declared.statement.ForHead.{ForHead}
 use Rattle.xmp_syntax.specs.declared.statement.Plain.{Plain}
 use Rattle.xmp_syntax.specs.declared.statement.Plain.TheVariants as plain
-use Rattle.xmp_syntax.specs.declared.statement.BlockItem.{BlockItem}
-use Rattle.xmp_syntax.specs.declared.statement.BlockItem.TheVariants as b
-use Rattle.xmp_syntax.specs.declared.statement.Stmt.{Stmt, fold-Stmt}
-use Rattle.xmp_syntax.specs.declared.statement.Stmt.TheOpen.{Stmt-F}
-use Rattle.xmp_syntax.specs.declared.statement.Stmt.TheFolds.{fold-roll-Stmt, ind-Stmt, map-Stmt}
-use Rattle.xmp_syntax.specs.declared.statement.Stmt.TheViews.{roll-Stmt}
 use Rattle.xmp_scopes.specs.Names as scope
 use Rattle.xmp_scopes.specs.Names.{Name}
 use Rattle.xmp_names.specs.declared.names.Meaning.{Meaning}
@@ -52,11 +34,6 @@ use Rattle.xmp_names.specs.Formats.{fits_format, is_scan_format}
 use Rattle.xmp_names.specs.Lists.{listed, inner}
 use Rattle.xmp_names.specs.Walk as walk
 use Rattle.xmp_names.specs.Walk.{Gave, Run, first_place, is_known, is_main, is_outermost}
-use Rattle.xmp_directives.specs.Directives as directives
-use Rattle.xmp_directives.specs.Directives.{nest_of, made_task}
-use Rattle.xmp_directives.specs.MappingLines as lines
-use Rattle.xmp_walk.specs.declared.loops.First.{First}
-use Rattle.xmp_walk.specs.declared.loops.ForParts.{ForParts}
 use Rattle.xmp_walk.specs.Declarations as declarations
 use Rattle.xmp_walk.specs.Declarations.{type_of, extent_of, extent_right}
 use Rattle.xmp_walk.specs.Statements as statements
@@ -64,16 +41,15 @@ use Rattle.xmp_walk.specs.Statements.{set, compound_of, one, call_statement, tar
 use Rattle.xmp_walk.specs.Program as program
 use Rattle.xmp_rules.specs.Scopes as scopes
 use Rattle.xmp_rules.specs.Scopes.{Declared, Scope, Context, inner_with, file_with, declare, opened}
-use Rattle.xmp_rules.specs.Spots as spots
-use Rattle.xmp_rules.specs.Spots.{Status, What, Formed, Sides, Declares, Directive, Extents, Constant, Returned, Word, Sync, Printed, Scanned, Returns, Spot, all_in, constant, behind, of_expr, of_reference, of_call, of_names, of_set, of_loop, of_task, of_mapping, behind_mapping, behind_declarator, of_declarator, of_declarators, behind_declarators, of_declaration, behind_declaration, of_simple, of_return, of_plain, of_first, behind_first, of_test, of_next, of_for, of_items, of_else, of_stmt}
-use Rattle.xmp_rules.proofs.Kept.{kept, behind_none, behind_all}
+use Rattle.xmp_rules.specs.Spots.{Status, What, Formed, Declares, Extents, Returned, Word, Sync, Printed, Scanned, Returns, Spot, all_in, constant, behind, of_expr, of_reference, behind_declarator, of_declarator, of_declarators, behind_declarators, of_declaration, behind_declaration, of_simple, of_return, of_plain}
+use Rattle.xmp_rules.proofs.Kept.{kept, behind_all}
 use Rattle.xmp_rules.proofs.Constancy.{value_in, value_is, and_true, and_moves}
 use Rattle.xmp_rules.proofs.Standing.{Stands, breaks, found, all_found, found_in, part_is, main_is, in_function, in_main, or_true, is_out, out_is, extents_right}
 use Rattle.xmp_rules.proofs.Telling as telling
 use Rattle.xmp_rules.proofs.Telling.{Ends, ends_then, ends_map, Tells, Telling, skipped_by, unheard_by, judged_by, judged_behind, part_breaks, asked, typed, typed_reference, typed_call, typed_all, typed_constant, each, not_in_function}
-use Rattle.xmp_rules.proofs.Directives.{loop_line_tells, judged_loop_tells, task_tells, reflect_tells, barrier_tells, bcast_tells, gmove_tells}
-use Rattle.xmp_rules.proofs.Mappings.{in_append, mapping_moves}
-use Rattle.xmp_rules.proofs.Moving.{Came, came_none, came_then, Moves, moves_then, Moving, ◌>>=◌, ended, pure, known, quiet, quietly, moves_as, declared_stands, declares_found, scalar_declared, closed, IsOpen, closed_stands, Inner, inner_declared, inner_refl, inner_then, scope_opened}
+use Rattle.xmp_rules.proofs.Directives.{reflect_tells, barrier_tells, bcast_tells, gmove_tells}
+use Rattle.xmp_rules.proofs.Mappings.{in_append}
+use Rattle.xmp_rules.proofs.Moving.{Came, came_then, Moves, moves_then, ◌>>=◌, ended, pure, known, quietly, moves_as, declared_stands, declares_found, scalar_declared}
 
 -- ---- arrays
 

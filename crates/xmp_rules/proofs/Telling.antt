@@ -1,5 +1,5 @@
 -- Runs of the walk that note what breaks at the spots of a list, in order, and leave the names; and how such runs are put together.
-use Rattle.std.proofs.Common.{◌≡◌, ◌∙◌, refl, sym, ap, subst, ◌++◌, ◌∷◌, [], ℕ, List, Bool, true, false, not, ◌||◌, Option, Some, None, is_some, length, map, flat_map, append_assoc, append-nil}
+use Rattle.std.proofs.Common.{◌≡◌, ◌∙◌, refl, sym, ap, subst, ◌++◌, ◌∷◌, [], List, Bool, true, false, not, Option, Some, None, is_some, map, flat_map, append_assoc, append-nil}
 use Rattle.std.proofs.lemmas.Grind.{flat_map-append}
 use Rattle.std.specs.Prelude.{⊤, ℤ}
 use Rattle.xmp_base.specs.declared.place.Place.{Place}
@@ -9,9 +9,7 @@ use Rattle.xmp_syntax.specs.declared.parts.Next.{Next}
 use Rattle.xmp_syntax.specs.declared.parts.Reference.{Reference}
 use Rattle.xmp_syntax.specs.declared.expression.Expr.{Expr}
 use Rattle.xmp_scopes.specs.Names.{nearest}
-use Rattle.xmp_names.specs.declared.names.Region.{Region}
 use Rattle.xmp_names.specs.declared.names.Meaning.{Meaning}
-use Rattle.xmp_names.specs.declared.names.Environment.{Environment}
 use Rattle.xmp_names.specs.declared.rules.Rule.{Rule}
 use Rattle.xmp_names.specs.declared.rules.Rule.TheVariants.{N1, N3, N4, N5, N8}
 use Rattle.xmp_names.specs.declared.rules.Broken.{Broken}
@@ -22,8 +20,8 @@ use Rattle.xmp_names.specs.Rules.{unless}
 use Rattle.xmp_names.specs.Expressions.{expr_of, reference_of, call, arguments_of, each_next, next_of, no_parts, is_function, may_name}
 use Rattle.xmp_names.specs.Walk as walk
 use Rattle.xmp_names.specs.Walk.{Step, Gave, Run, and_then, is_outermost}
-use Rattle.xmp_rules.specs.Scopes.{Context, meaning}
-use Rattle.xmp_rules.specs.Spots.{Use, Form, What, Used, Formed, Directive, Maps, Word, Constant, of_expr, of_reference, of_call, constant}
+use Rattle.xmp_rules.specs.Scopes.{Context}
+use Rattle.xmp_rules.specs.Spots.{Use, What, Used, Directive, Constant, of_expr, of_reference, of_call, constant}
 use Rattle.xmp_rules.proofs.Kept.{covered, kept, kept_both, behind_none, behind_all, three}
 use Rattle.xmp_rules.proofs.Constancy.{value_in, value_is}
 use Rattle.xmp_rules.proofs.Standing.{Stands, breaks, found, allowed, is_given, part_is, is_out, out_is}

@@ -1,6 +1,6 @@
 -- All that a program has for the rules of names to judge, in the order in which it stands there, each with what is in scope
 -- at its place. Source: this project.
-use Rattle.std.specs.Prelude.{ℕ, ◌+◌, List, [], ◌∷◌, ◌++◌, map, length, Bool, true, false, if◌then◌else◌, Option, Some, None, is_some, max, flat_map}
+use Rattle.std.specs.Prelude.{ℕ, ◌+◌, List, [], ◌∷◌, ◌++◌, map, length, Bool, if◌then◌else◌, Option, Some, None, is_some, max, flat_map}
 use Rattle.std.specs.List.{list_any}
 use Rattle.xmp_lex.specs.declared.token.Mark.{Mark}
 use Rattle.xmp_base.specs.declared.place.Place.{Place}
@@ -11,7 +11,6 @@ use Rattle.xmp_syntax.specs.declared.parts.Format.{Format}
 use Rattle.xmp_syntax.specs.declared.parts.Placed.{Placed}
 use Rattle.xmp_syntax.specs.declared.parts.Inside.{Inside}
 use Rattle.xmp_syntax.specs.declared.parts.CommaList.{CommaList}
-use Rattle.xmp_syntax.specs.declared.parts.Next.{Next}
 use Rattle.xmp_syntax.specs.declared.parts.Image.{Image}
 use Rattle.xmp_syntax.specs.declared.parts.Reference.{Reference}
 use Rattle.xmp_syntax.specs.declared.parts.Call.{Call}
@@ -38,7 +37,6 @@ use Rattle.xmp_syntax.specs.declared.directive.Piece.TheVariants as piece
 use Rattle.xmp_syntax.specs.declared.directive.NodesSet.{NodesSet}
 use Rattle.xmp_syntax.specs.declared.directive.Mapping.{Mapping}
 use Rattle.xmp_syntax.specs.declared.directive.Mapping.TheVariants as mapping
-use Rattle.xmp_syntax.specs.declared.directive.Reduction.{Reduction}
 use Rattle.xmp_syntax.specs.declared.directive.LoopLine.{LoopLine}
 use Rattle.xmp_syntax.specs.declared.directive.TaskLine.{TaskLine}
 use Rattle.xmp_syntax.specs.declared.statement.Simple.{Simple}

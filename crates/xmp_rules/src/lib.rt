@@ -5,5 +5,6 @@
 mod laws;
 
 pub use laws::{
-    arrays_and_their_places, constant_expressions, main_and_its_return, names_declared_twice, names_outside_functions, unknown_names,
+    arrays_and_their_places, constant_expressions, main_and_its_return, names_declared_twice,
+    names_outside_functions, unknown_names,
 };
