@@ -1,0 +1,3 @@
+pub mod OfText
+pub mod Members
+pub mod Ends
