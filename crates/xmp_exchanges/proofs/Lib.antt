@@ -1,0 +1,14 @@
+pub mod SameGrids
+pub mod Lists
+pub mod WrittenWords
+pub mod FlatNumbers
+pub mod Settings
+pub mod SaidWords
+pub mod AllNodes
+pub mod UnpackedRows
+pub mod OneExchange
+pub mod SidesMade
+pub mod AimsFound
+pub mod CastValues
+pub mod GmoveEnds
+pub mod ReflectsDone
