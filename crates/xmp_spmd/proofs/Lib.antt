@@ -1,0 +1,4 @@
+pub mod Rows
+pub mod Turning
+pub mod Unfolding
+pub mod Worlds
