@@ -5,13 +5,15 @@ use Rattle.xmp_base.specs.declared.status.Status.{Status}
 use Rattle.xmp_base.specs.declared.status.Status.TheVariants.{Ended, Trapped, OutOfSteps, Refused, Usage, ReadFault, WriteFault, NoMemory, TooLarge}
 use Rattle.xmp_prog.specs.declared.parts.ProgParts.{ProgParts}
 use Rattle.xmp_drive.specs.Verdict.{IsAccepted, IsRefused}
-use Rattle.xmp_first.specs.Accepts.{Accepts}
+use Rattle.xmp_nodes.specs.Worlds.{World}
+use Rattle.xmp_nodes.specs.Stands.{StandsFor}
+use Rattle.xmp_world.specs.Kept.{noted}
 use Rattle.xmp_base.specs.Limits.{source_limit, input_limit}
-use Rattle.xmp_top.specs.declared.forms.Command.TheVariants.{Check, Serial, Run}
+use Rattle.xmp_top.specs.declared.forms.Command.TheVariants.{Check, Run}
 use Rattle.xmp_top.specs.Forms.{Form, SpellsForm, SpellsNoForm}
 use Rattle.xmp_top.specs.Lines.{line, refused_text}
 use Rattle.xmp_top.specs.Delivery.{Due, SinkCall, SinkFailed, Took, TookNothing, AllWritten, OutFailed, ErrFailed}
-use Rattle.xmp_top.specs.Answer.{FilesCall, IsRead, ReadFailed, IsNone, IsDue, first_refusal, says_usage, says_refused, says_too_large, says_accepted, prints, run_on}
+use Rattle.xmp_top.specs.Answer.{FilesCall, WatchCall, IsRead, ReadFailed, WasPrepared, says_usage, says_refused, says_too_large, says_accepted, steps_in, run_on}
 
 -- ---- what was written
 
@@ -28,11 +30,11 @@ pub record ReadSource (words : List (List ℕ)) (files : FilesCall) (form : Form
   pub read : IsRead files source_limit form.file text
   pub fits : length text ≤ source_limit
 
--- The words are `serial`, and the text of its file is accepted.
+-- The words are `serial` or `run`, and the text of its file is accepted.
 pub record ReadProgram (words : List (List ℕ)) (files : FilesCall) (form : Form) (p : ProgParts) : Type 0 where
   pub text : List ℕ
   pub source : ReadSource words files form text
-  pub serial : form.command ≡ Serial
+  pub runs : form.command ≢ Check
   pub accepted : IsAccepted text form.settings.nodes p
 
 -- what was read as the input: nothing where no file is named
@@ -55,32 +57,43 @@ pub data WasTooLarge (words : List (List ℕ)) (files : FilesCall) : Type 0 wher
   of_input : (form : Form) (p : ProgParts) → ReadProgram words files form p → (name : List ℕ) → form.settings.input ≡ Some name
       → (input : List ℕ) → IsRead files input_limit name input → input_limit < length input → WasTooLarge words files
 
--- The text that was read breaks a rule; under `run` it is none of its programs.
-pub data WasRefused (words : List (List ℕ)) (files : FilesCall) (r : Refusal) : Type 0 where
-  by_rule : (form : Form) (text : List ℕ) → ReadSource words files form text → form.command ≢ Run → IsRefused text form.settings.nodes r → WasRefused words files r
-  by_form : (form : Form) (text : List ℕ) → ReadSource words files form text → form.command ≡ Run → IsNone text → r ≡ first_refusal → WasRefused words files r
+-- The text that was read breaks a rule.
+pub record WasRefused (words : List (List ℕ)) (files : FilesCall) (r : Refusal) : Type 0 where
+  pub form : Form
+  pub text : List ℕ
+  pub source : ReadSource words files form text
+  pub breaks : IsRefused text form.settings.nodes r
 
--- An accepted program was run with its directives erased, on its input, and this is due for what it came to.
-pub record WasRun (words : List (List ℕ)) (files : FilesCall) (due : Due) : Type 0 where
+-- The object that watches was given last a world that stands for the program.
+abbrev pub ToldOf : ProgParts → (input : List ℕ) → (steps : ℕ) → WatchCall → Type 0
+ToldOf p input steps watch = (w : World) × StandsFor p input steps w × (watch.now ≡ noted watch.before w)
+
+-- The object that watches is as it was.
+abbrev pub LeftAlone : WatchCall → Type 0
+LeftAlone watch = watch.now ≡ watch.before
+
+-- An accepted program was run with its directives erased, on its input, and this is due for what it came to; under `run` the
+-- object that watches was told of a world that stands for it.
+pub record WasRun (words : List (List ℕ)) (files : FilesCall) (watch : WatchCall) (due : Due) : Type 0 where
   pub form : Form
   pub p : ProgParts
   pub program : ReadProgram words files form p
   pub input : List ℕ
   pub is_input : IsInput files form.settings.input input
-  pub due_is : due ≡ run_on form.settings p input
+  pub due_is : due ≡ run_on form.command form.settings p input
+  pub told : form.command ≡ Run → ToldOf p input (steps_in form.settings.steps) watch
+  pub alone : form.command ≢ Run → LeftAlone watch
 
 -- The program was accepted by `check`, or run by `serial` or `run`, and this is due for what it came to.
-pub data HasEnded (words : List (List ℕ)) (files : FilesCall) (due : Due) : Type 0 where
+pub data HasEnded (words : List (List ℕ)) (files : FilesCall) (watch : WatchCall) (due : Due) : Type 0 where
   by_check : (form : Form) (text : List ℕ) → ReadSource words files form text → form.command ≡ Check → (p : ProgParts) → IsAccepted text form.settings.nodes p
-      → due ≡ says_accepted → HasEnded words files due
-  by_serial : WasRun words files due → HasEnded words files due
-  by_run : (form : Form) (text : List ℕ) → ReadSource words files form text → form.command ≡ Run → (bytes : List ℕ) → Accepts text bytes → due ≡ prints bytes
-      → HasEnded words files due
+      → due ≡ says_accepted → LeftAlone watch → HasEnded words files watch due
+  by_run : WasRun words files watch due → HasEnded words files watch due
 
 -- Bytes were due on out and it failed at them, or it took them all, a line was due on err, and that failed at it.
-pub record WriteFaulted (words : List (List ℕ)) (files : FilesCall) (out err : SinkCall) (status : Status) : Type 0 where
+pub record WriteFaulted (words : List (List ℕ)) (files : FilesCall) (watch : WatchCall) (out err : SinkCall) (status : Status) : Type 0 where
   pub due : Due
-  pub is_due : IsDue files words due
+  pub prepared : WasPrepared words files watch due
   pub failed : OutFailed due out err status ⊎ ErrFailed due out err status
 
 -- ---- exactly when
@@ -125,51 +138,52 @@ IsEnd Trapped = ⊤
 IsEnd OutOfSteps = ⊤
 IsEnd _ = ⊥
 
-pub record HasCauses (words : List (List ℕ)) (files : FilesCall) (out err : SinkCall) (status : Status) : Type 0 where
+-- no program was run, or nothing is known of a run
+abbrev pub RanNothing : Status → Type 0
+RanNothing Refused = ⊤
+RanNothing Usage = ⊤
+RanNothing ReadFault = ⊤
+RanNothing NoMemory = ⊤
+RanNothing TooLarge = ⊤
+RanNothing _ = ⊥
+
+pub record HasCauses (words : List (List ℕ)) (files : FilesCall) (watch : WatchCall) (out err : SinkCall) (status : Status) : Type 0 where
   -- when each answer comes, and what was written with it
   pub usage : status ≡ Usage → SpellsNoForm words × SaysOnly (codes "usage") out err
   pub read_fault : status ≡ ReadFault → ReadFaulted words files × SaysOnly (codes "read fault") out err
   pub too_large : status ≡ TooLarge → WasTooLarge words files × SaysOnly (codes "too large") out err
   pub refused : status ≡ Refused → (r : Refusal) × WasRefused words files r × SaysOnly (refused_text r) out err
-  pub ended : status ≡ Ended → (due : Due) × HasEnded words files due × AllWritten due out err status
-  pub trapped : status ≡ Trapped → (due : Due) × WasRun words files due × AllWritten due out err status
-  pub out_of_steps : status ≡ OutOfSteps → (due : Due) × WasRun words files due × AllWritten due out err status
-  pub write_fault : status ≡ WriteFault → WriteFaulted words files out err status
+  pub ended : status ≡ Ended → (due : Due) × HasEnded words files watch due × AllWritten due out err status
+  pub trapped : status ≡ Trapped → (due : Due) × WasRun words files watch due × AllWritten due out err status
+  pub out_of_steps : status ≡ OutOfSteps → (due : Due) × WasRun words files watch due × AllWritten due out err status
+  pub write_fault : status ≡ WriteFault → WriteFaulted words files watch out err status
   pub no_memory : status ≡ NoMemory → TookNothing out × TookNothing err
-  -- the headline of `serial`, whatever else failed: a run that came to an end, a trap or the end of its steps wrote exactly the output of the program with its
-  -- directives erased, and the line of its end
-  pub headline : (form : Form) (text : List ℕ) (p : ProgParts) (input : List ℕ) → HasText words files form text → form.command ≡ Serial
-      → IsAccepted text form.settings.nodes p → HasInput files form.settings.input input → IsEnd status → AllWritten (run_on form.settings p input) out err status
-  -- the same of `run`
-  pub run_headline : (form : Form) (text bytes : List ℕ) → HasText words files form text → form.command ≡ Run → Accepts text bytes → IsEnd status
-      → AllWritten (prints bytes) out err status
+  -- with the answers of a call in which no program ran to its answer, the object that watches is as it was
+  pub left_alone : RanNothing status → LeftAlone watch
+  -- the headline of `serial` and `run`, whatever else failed: a run that came to an end, a trap or the end of its steps wrote exactly the output of the
+  -- program with its directives erased, and the line of its end; and behind the output of one that ended by itself the report, where it is asked for
+  pub headline : (form : Form) (text : List ℕ) (p : ProgParts) (input : List ℕ) → HasText words files form text → form.command ≢ Check
+      → IsAccepted text form.settings.nodes p → HasInput files form.settings.input input → IsEnd status → AllWritten (run_on form.command form.settings p input) out err status
   -- the other direction: where no read and no sink failed that the answer needs, it is this, or want of memory. Words of no form:
   pub usage_exactly : SpellsNoForm words
       → SinksHeld says_usage out err → OrNoMemory says_usage out err status
   -- a source that is too large
   pub source_exactly : (form : Form) → SpellsForm form words → HasMore files source_limit form.file
       → ReadHeld files form.file → SinksHeld says_too_large out err → OrNoMemory says_too_large out err status
-  -- `check` and `serial`: a text that breaks a rule
+  -- a text that breaks a rule
   pub refused_exactly : (form : Form) (text : List ℕ) (r : Refusal) → HasText words files form text
-      → form.command ≢ Run → IsRefused text form.settings.nodes r
+      → IsRefused text form.settings.nodes r
       → ReadHeld files form.file → SinksHeld (says_refused r) out err → OrNoMemory (says_refused r) out err status
   -- `check`: a text that is accepted
   pub accepted_exactly : (form : Form) (text : List ℕ) (p : ProgParts) → HasText words files form text
       → form.command ≡ Check → IsAccepted text form.settings.nodes p
       → ReadHeld files form.file → SinksHeld says_accepted out err → OrNoMemory says_accepted out err status
-  -- `serial`: the output and the end of the program with its directives erased
+  -- `serial` and `run`: the output and the end of the program with its directives erased, and the report where it is asked for
   pub run_exactly : (form : Form) (text : List ℕ) (p : ProgParts) (input : List ℕ) → HasText words files form text
-      → form.command ≡ Serial → IsAccepted text form.settings.nodes p → HasInput files form.settings.input input
-      → ReadHeld files form.file → InputHeld files form.settings.input → SinksHeld (run_on form.settings p input) out err
-      → OrNoMemory (run_on form.settings p input) out err status
-  -- `serial`: an input that is too large
+      → form.command ≢ Check → IsAccepted text form.settings.nodes p → HasInput files form.settings.input input
+      → ReadHeld files form.file → InputHeld files form.settings.input → SinksHeld (run_on form.command form.settings p input) out err
+      → OrNoMemory (run_on form.command form.settings p input) out err status
+  -- `serial` and `run`: an input that is too large
   pub input_exactly : (form : Form) (text : List ℕ) (p : ProgParts) (name : List ℕ) → HasText words files form text
-      → form.command ≡ Serial → IsAccepted text form.settings.nodes p → form.settings.input ≡ Some name → HasMore files input_limit name
+      → form.command ≢ Check → IsAccepted text form.settings.nodes p → form.settings.input ≡ Some name → HasMore files input_limit name
       → ReadHeld files form.file → ReadHeld files name → SinksHeld says_too_large out err → OrNoMemory says_too_large out err status
-  -- `run`: what a program of its form prints with its directives erased, and any other text is refused
-  pub printed_exactly : (form : Form) (text bytes : List ℕ) → HasText words files form text
-      → form.command ≡ Run → Accepts text bytes
-      → ReadHeld files form.file → SinksHeld (prints bytes) out err → OrNoMemory (prints bytes) out err status
-  pub no_program_exactly : (form : Form) (text : List ℕ) → HasText words files form text
-      → form.command ≡ Run → IsNone text
-      → ReadHeld files form.file → SinksHeld (says_refused first_refusal) out err → OrNoMemory (says_refused first_refusal) out err status

@@ -17,11 +17,11 @@ word_of Check = codes "check"
 word_of Serial = codes "serial"
 word_of Run = codes "run"
 
--- The options that a command takes: `run` takes none as yet.
+-- The options that a command takes.
 abbrev pub Takes : Command → Settings → Type 0
 Takes Check settings = settings ≡ record unset { nodes = settings.nodes }
 Takes Serial settings = settings ≡ record unset { nodes = settings.nodes; steps = settings.steps; input = settings.input }
-Takes Run settings = settings ≡ unset
+Takes Run settings = settings ≡ record unset { nodes = settings.nodes; steps = settings.steps; input = settings.input; report = settings.report }
 
 -- The words are those of the form: the command, its options in any order, and the file.
 pub record SpellsForm (form : Form) (words : List (List ℕ)) : Type 0 where

@@ -6,5 +6,5 @@ pub mod Lines
 pub mod Answer
 pub mod Causes
 pub use Rattle.xmp_base.specs.Told
-pub use Rattle.xmp_first.specs.Accepts
+pub use Rattle.xmp_world.specs.Kept
 pub use Rattle.xmp_drive.specs.Verdict

@@ -72,7 +72,7 @@ fn options_come_in_any_order_and_once(rt: HostRuntime) -> Result<(), Fail> {
 type Line = (&'static str, Option<u64>, Option<u64>, Option<usize>, usize);
 
 // Words, and the command line that they are, or none where they are of no form.
-const LINES: [(&[&str], Option<Line>); 14] = [
+const LINES: [(&[&str], Option<Line>); 17] = [
     (&["check", "f"], Some(("check", None, None, None, 1))),
     (
         &["check", "--nodes=4", "f.c"],
@@ -95,7 +95,13 @@ const LINES: [(&[&str], Option<Line>); 14] = [
     (&["serial", "--order=1", "f"], None),
     (&["serial", "--report", "f"], None),
     (&["serial", "--node=0", "f"], None),
-    (&["run", "--nodes=1", "f"], None),
+    (&["run", "--node=1", "f"], None),
+    (
+        &["run", "--report", "--nodes=3", "--steps=7", "f"],
+        Some(("run", Some(3), Some(7), None, 1)),
+    ),
+    (&["run", "--order=1", "f"], None),
+    (&["check", "--report", "f"], None),
 ];
 
 fn word_of(command: Command) -> &'static str {

@@ -26,17 +26,14 @@ fn command_of(word: &str) -> Option<Command>
     None
 }
 
-// Whether nothing is set that concerns the order of the nodes, their code or their report.
-fn has_no_more(options: &Options<'_>) -> bool
-    ensures { IsTrue result ↔ ((options.now.order ≡ None) × (options.now.node ≡ None) × (options.now.report ≡ false)) }
+// Whether nothing is set that concerns the order of the nodes or their code.
+fn has_no_order(options: &Options<'_>) -> bool
+    ensures { IsTrue result ↔ ((options.now.order ≡ None) × (options.now.node ≡ None)) }
 {
-    if options.order.is_some() || options.node.is_some() {
-        return false;
-    }
-    !options.report
+    options.order.is_none() && options.node.is_none()
 }
 
-// Whether no budget and no input is set either.
+// Whether no budget and no input is set.
 fn has_no_run(options: &Options<'_>) -> bool
     ensures { IsTrue result ↔ ((options.now.steps ≡ None) × (options.now.input ≡ None)) }
 {
@@ -47,13 +44,13 @@ fn has_no_run(options: &Options<'_>) -> bool
 fn takes(command: Command, options: &Options<'_>) -> bool
     ensures { IsTrue result ↔ Takes command (settings_of options.now) }
 {
-    if !has_no_more(options) {
+    if !has_no_order(options) {
         return false;
     }
     match command {
-        Command::Check => has_no_run(options),
-        Command::Serial => true,
-        Command::Run => has_no_run(options) && options.nodes.is_none(),
+        Command::Check => !options.report && has_no_run(options),
+        Command::Serial => !options.report,
+        Command::Run => true,
     }
 }
 
