@@ -4,6 +4,7 @@ use std::alloc::Global;
 use std::process::Abort;
 use std::test::Fail;
 use xmp_base::{MemFiles, MemSink, Status};
+use xmp_world::LastWorld;
 
 /// What a run of the words gives over a file `f`, of these pieces of text, and a file `g`, which may be an input. The reads and the
 /// writes of these numbers fail, where a number isn't 0, and `out` takes at most so many bytes at once.
@@ -67,8 +68,8 @@ pub(crate) fn files_of(
     Ok(files)
 }
 
-// The files of a case.
-fn case_files(alloc: Global, case: &Case) -> Result<MemFiles, Fail> {
+/// The files of a case.
+pub(crate) fn case_files(alloc: Global, case: &Case) -> Result<MemFiles, Fail> {
     let source = joined(alloc, case.text)?;
     let input = joined(alloc, &[case.input])?;
     files_of(alloc, source, input, case.read_fails)
@@ -85,18 +86,25 @@ fn check_on(
     assert!(rt; case.most >= 1);
     let mut out = MemSink::new(alloc, 100, case.most, vec![in alloc; case.out_fails]?)?;
     let mut err = MemSink::new(alloc, 100, 100, vec![in alloc; case.err_fails]?)?;
-    let status = xmpc(alloc, words, files, &mut out, &mut err);
+    let mut watch = LastWorld::new();
+    let status = xmpc(alloc, words, files, &mut watch, &mut out, &mut err);
     assert_eq!(rt; status, case.status);
     assert_eq!(rt; out.taken(), case.out.as_bytes());
     assert_eq!(rt; err.taken(), case.err.as_bytes());
     Ok(())
 }
 
-/// Asserts that the run gives what the case says.
+/// Asserts that the run gives what the case says; where its command is `serial`, that `run` gives it too.
 pub(crate) fn check(rt: &impl Abort, alloc: Global, case: &Case) -> Result<(), Fail> {
-    let words = words_of(alloc, case.words)?;
+    let mut words = words_of(alloc, case.words)?;
     let mut files = case_files(alloc, case)?;
-    check_on(rt, alloc, case, &words, &mut files)
+    check_on(rt, alloc, case, &words, &mut files)?;
+    if case.words.first() == Some(&"serial") {
+        words[0] = String::from_str(alloc, "run")?;
+        let mut files = case_files(alloc, case)?;
+        check_on(rt, alloc, case, &words, &mut files)?;
+    }
+    Ok(())
 }
 
 /// The same over other files than the case's own.

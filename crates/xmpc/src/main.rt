@@ -90,6 +90,8 @@ fn main(rt: HostRuntime) -> ExitCode {
 #[cfg(test)]
 mod cases;
 #[cfg(test)]
+mod nodes;
+#[cfg(test)]
 mod rows;
 #[cfg(test)]
 mod runs;

@@ -1,4 +1,4 @@
-// Programs, and what becomes of each.
+// Programs, and what becomes of each under `check`, `serial` and `run`.
 use crate::cases::{Case, ROW, check};
 use std::test::Fail;
 use xmp_base::Status;
@@ -9,25 +9,25 @@ const GIVEN: &[&str] = &["serial", "--input=g", "f"];
 
 // The sum of squares, in five pieces: its declarations, the loop that fills the array, the head and the body of the loop that adds
 // the cells, and its end.
-const TOP: &str = "int a[10], i, s;\n#pragma xmp nodes p[4]\n#pragma xmp template t[10]\n\
+pub(crate) const TOP: &str = "int a[10], i, s;\n#pragma xmp nodes p[4]\n#pragma xmp template t[10]\n\
 #pragma xmp distribute t[block] onto p\n#pragma xmp align a[k] with t[k]\nint main(void) {\n";
 
-const FILL: &str = "#pragma xmp loop (i) on t[i]\n  for (i = 0; i < 10; i++) a[i] = i * i;\n";
+pub(crate) const FILL: &str = "#pragma xmp loop (i) on t[i]\n  for (i = 0; i < 10; i++) a[i] = i * i;\n";
 
-const SUM: &str = "#pragma xmp loop (i) on t[i] reduction(+:s)\n";
+pub(crate) const SUM: &str = "#pragma xmp loop (i) on t[i] reduction(+:s)\n";
 
-const ADD: &str = "  for (i = 0; i < 10; i++) s += a[i];\n";
+pub(crate) const ADD: &str = "  for (i = 0; i < 10; i++) s += a[i];\n";
 
-const END: &str = "#pragma xmp task on p[0]\n  printf(\"%d\\n\", s);\n  return 0;\n}\n";
+pub(crate) const END: &str = "#pragma xmp task on p[0]\n  printf(\"%d\\n\", s);\n  return 0;\n}\n";
 
 // The sum of neighbours, in three pieces: what stands before the form of its distribution, that form, and the rest.
-const BEFORE: &str =
+pub(crate) const BEFORE: &str =
     "#define N 8\nint a[N], b[N], i, s;\n#pragma xmp nodes p[4]\n#pragma xmp template t[N]\n\
 #pragma xmp distribute t";
 
-const BLOCK: &str = "[block]";
+pub(crate) const BLOCK: &str = "[block]";
 
-const BEHIND: &str = " onto p\n#pragma xmp align a[k] with t[k]\n#pragma xmp align b[k] with t[k]\n\
+pub(crate) const BEHIND: &str = " onto p\n#pragma xmp align a[k] with t[k]\n#pragma xmp align b[k] with t[k]\n\
 #pragma xmp shadow a[1]\nint main() {\n#pragma xmp loop (i) on t[i]\n  for (i = 0; i < N; i++) a[i] = i;\n\
 #pragma xmp reflect (a)\n#pragma xmp loop (i) on t[i] reduction(+:s)\n\
   for (i = 1; i < N - 1; i++) { b[i] = a[i-1] + a[i+1]; s += b[i]; }\n\
@@ -45,7 +45,7 @@ const TASKS: &str =
 { printf(\"A\"); z = 1 / z; }\n#pragma xmp task on p[0]\nprintf(\"B\");\n}\n}\n";
 
 // A number that one node reads and another prints.
-const READS: &str =
+pub(crate) const READS: &str =
     "int n;\n#pragma xmp nodes p[2]\nint main() {\n#pragma xmp task on p[0]\nscanf(\"%d\", &n);\n\
 #pragma xmp bcast (n) from p[0]\n#pragma xmp task on p[1]\nprintf(\"%d\\n\", n);\n}\n";
 
@@ -64,7 +64,7 @@ const BARRIERS: &str =
 const TURNS: &str = "int i;\nint main() { while (i < 10) i++; printf(\"%d\\n\", i); }\n";
 
 // A grid with its corners, in two pieces round the set of the node that prints.
-const GRID: &str =
+pub(crate) const GRID: &str =
     "int a[4][4], i, j, s;\n#pragma xmp nodes p[2][2]\n#pragma xmp template t[4][4]\n\
 #pragma xmp distribute t[block][block] onto p\n#pragma xmp align a[x][y] with t[x][y]\n\
 #pragma xmp shadow a[1][1]\nint main() {\n#pragma xmp loop (i, j) on t[i][j]\n\
@@ -72,14 +72,14 @@ for (i = 0; i < 4; i++) for (j = 0; j < 4; j++) a[i][j] = 4 * i + j;\n#pragma xm
 #pragma xmp loop (i, j) on t[i][j] reduction(+:s)\n\
 for (i = 0; i < 3; i++) for (j = 0; j < 3; j++) s += a[i+1][j+1];\n#pragma xmp task on ";
 
-const PRINTS: &str = "\nprintf(\"%d\\n\", s);\n}\n";
+pub(crate) const PRINTS: &str = "\nprintf(\"%d\\n\", s);\n}\n";
 
 // A move of a section of an array onto another of it, in two pieces round the section that is read.
-const MOVES: &str = "int a[8], i, s;\n#pragma xmp nodes p[3]\n#pragma xmp template t[8]\n\
+pub(crate) const MOVES: &str = "int a[8], i, s;\n#pragma xmp nodes p[3]\n#pragma xmp template t[8]\n\
 #pragma xmp distribute t[block] onto p\n#pragma xmp align a[k] with t[k]\nint main(void) {\n\
 #pragma xmp loop (i) on t[i]\n  for (i = 0; i < 8; i++) a[i] = i;\n#pragma xmp gmove\n  a[1:7] = ";
 
-const MOVED: &str =
+pub(crate) const MOVED: &str =
     ";\n#pragma xmp loop (i) on t[i] reduction(+:s)\n  for (i = 0; i < 8; i++) s += a[i];\n";
 
 // A sum that leaves the range of its type.
@@ -271,7 +271,7 @@ const REFUSED: Case = Case {
 };
 
 // Texts under `check`, and some that the other forms refuse too.
-const CHECKED: [Case; 15] = [
+const CHECKED: [Case; 14] = [
     Case {
         words: CHECK,
         text: &[BEFORE, BLOCK, BEHIND],
@@ -352,13 +352,6 @@ const CHECKED: [Case; 15] = [
         words: &["serial", "--steps=0", "--input=h", "f"],
         text: &["int main() { printf(\"%d\", 1); x = 1; }"],
         err: "refused N1 at 1:31\n",
-        ..REFUSED
-    },
-    // `run` takes one form of programs as yet
-    Case {
-        words: &["run", "f"],
-        text: &["int main() {}"],
-        err: "refused S1 at 1:1\n",
         ..REFUSED
     },
 ];

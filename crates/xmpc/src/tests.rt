@@ -5,133 +5,13 @@ use std::process::Abort;
 use std::test::Fail;
 use xmp_base::Status;
 
-// The pieces of the program that `run` takes, between its numbers and the value of its cells.
-const HEAD: &str = "int a[";
-
-const NODES: &str = "], i, s;\n#pragma xmp nodes p[";
-
-const TEMPLATE: &str = "]\n#pragma xmp template t[";
-
-const FILL: &str = "]\n#pragma xmp distribute t[block] onto p\n#pragma xmp align a[k] with t[k]\n\
-int main(void) {\n#pragma xmp loop (i) on t[i]\n  for (i = 0; i < ";
-
-const VALUE: &str = "; i++) a[i] = ";
-
-const SUM: &str = ";\n#pragma xmp loop (i) on t[i] reduction(+:s)\n  for (i = 0; i < ";
-
-const END: &str =
-    "; i++) s += a[i];\n#pragma xmp task on p[0]\n  printf(\"%d\\n\", s);\n  return 0;\n}\n";
-
+// A sum of squares over four nodes.
 const SQUARES: &[&str] = &[
-    HEAD, "10", NODES, "4", TEMPLATE, "10", FILL, "10", VALUE, "i * i", SUM, "10", END,
+    "int a[10], i, s;\n#pragma xmp nodes p[4]\n#pragma xmp template t[10]\n#pragma xmp distribute t[block] onto p\n\
+#pragma xmp align a[k] with t[k]\nint main(void) {\n#pragma xmp loop (i) on t[i]\n  for (i = 0; i < 10; i++) a[i] = i*i;\n\
+#pragma xmp loop (i) on t[i] reduction(+:s)\n  for (i = 0; i < 10; i++) s += a[i];\n#pragma xmp task on p[0]\n\
+  printf(\"%d\\n\", s);\n  return 0;\n}\n",
 ];
-
-const RUN: Case = Case {
-    words: &["run", "f"],
-    text: SQUARES,
-    out: "285\n",
-    ..ROW
-};
-
-// `run`, and what fails in it.
-const RUNS: [Case; 8] = [
-    RUN,
-    Case {
-        text: &[
-            HEAD,
-            "1",
-            NODES,
-            "3",
-            TEMPLATE,
-            "1",
-            FILL,
-            "1",
-            VALUE,
-            "7 - i * 2",
-            SUM,
-            "1",
-            END,
-        ],
-        out: "7\n",
-        ..RUN
-    },
-    Case {
-        text: &[
-            HEAD,
-            "3",
-            NODES,
-            "16",
-            TEMPLATE,
-            "3",
-            FILL,
-            "3",
-            VALUE,
-            "2 + i * 5",
-            SUM,
-            "3",
-            END,
-        ],
-        out: "21\n",
-        ..RUN
-    },
-    Case {
-        text: &[
-            HEAD,
-            "2",
-            NODES,
-            "2",
-            TEMPLATE,
-            "2",
-            FILL,
-            "2",
-            VALUE,
-            "999999999 * 999999999",
-            SUM,
-            "2",
-            END,
-        ],
-        out: "1616697346\n",
-        ..RUN
-    },
-    Case {
-        text: &[
-            HEAD, "10", NODES, "4", TEMPLATE, "10", FILL, "10", VALUE, "i*i", SUM, "10", END,
-        ],
-        status: Status::Refused,
-        out: "",
-        err: "refused S1 at 1:1\n",
-        ..RUN
-    },
-    Case {
-        out_fails: 2,
-        most: 2,
-        status: Status::WriteFault,
-        out: "28",
-        ..RUN
-    },
-    Case {
-        read_fails: 1,
-        status: Status::ReadFault,
-        out: "",
-        err: "read fault\n",
-        ..RUN
-    },
-    Case {
-        words: &["run", "h"],
-        status: Status::ReadFault,
-        out: "",
-        err: "read fault\n",
-        ..RUN
-    },
-];
-
-#[test]
-fn run_takes_one_form_of_programs(rt: HostRuntime) -> Result<(), Fail> {
-    for case in &RUNS {
-        check(&rt, rt.alloc(), case)?;
-    }
-    Ok(())
-}
 
 const TRAPS: &[&str] = &["int z;\nint main() { printf(\"ABC\"); z = 1 / z; }\n"];
 
@@ -229,7 +109,7 @@ fn faults_have_their_answers(rt: HostRuntime) -> Result<(), Fail> {
 }
 
 // Words of no form.
-const NO_FORMS: [&[&str]; 21] = [
+const NO_FORMS: [&[&str]; 23] = [
     &[],
     &["f"],
     &["check"],
@@ -248,7 +128,9 @@ const NO_FORMS: [&[&str]; 21] = [
     &["serial", "--steps=000000000000000000001", "f"],
     &["serial", "--input=--g", "f"],
     &["run", "--nodes=17", "f"],
-    &["run", "--report", "f"],
+    &["run", "--report", "--report", "f"],
+    &["run", "--order=1", "f"],
+    &["run", "--report=", "f"],
     &["emit", "--node=4", "f"],
     &["Check", "f"],
 ];
