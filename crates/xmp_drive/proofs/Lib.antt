@@ -7,3 +7,4 @@ mod TreeVerdict
 mod Verdicts
 pub mod Faults
 pub mod NoCoarray
+mod RanLaws
