@@ -14,9 +14,7 @@ use crate::options::Options;
 use crate::prepared::Prepared;
 use std::alloc::Global;
 use std::mem::drop;
-use xmp_base::{
-    Bytes, DEFAULT_STEPS, FileError, Files, INPUT_LIMIT, NoMemory, Status,
-};
+use xmp_base::{Bytes, DEFAULT_STEPS, FileError, Files, INPUT_LIMIT, NoMemory, Status};
 use xmp_drive::{Accepted, Ran, report, run};
 use xmp_meaning::Outcome;
 use xmp_serial::serial;

@@ -84,7 +84,7 @@ fn check_on(
     files: &mut MemFiles,
 ) -> Result<(), Fail> {
     assert!(rt; case.most >= 1);
-    let mut out = MemSink::new(alloc, 100, case.most, vec![in alloc; case.out_fails]?)?;
+    let mut out = MemSink::new(alloc, 1000, case.most, vec![in alloc; case.out_fails]?)?;
     let mut err = MemSink::new(alloc, 100, 100, vec![in alloc; case.err_fails]?)?;
     let mut watch = LastWorld::new();
     let status = xmpc(alloc, words, files, &mut watch, &mut out, &mut err);

@@ -96,4 +96,6 @@ mod rows;
 #[cfg(test)]
 mod runs;
 #[cfg(test)]
+mod sums;
+#[cfg(test)]
 mod tests;

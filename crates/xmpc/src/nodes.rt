@@ -68,7 +68,9 @@ node 2 words 5 turns 6 sent 21\nnode 3 words 3 turns 4 sent 21\n",
     // without `nodes` there is one, which sends nothing
     Case {
         words: REPORT,
-        text: &["int i, s;\nint main() { for (i = 0; i < 4; i++) s += i; printf(\"%d\\n\", s); }\n"],
+        text: &[
+            "int i, s;\nint main() { for (i = 0; i < 4; i++) s += i; printf(\"%d\\n\", s); }\n",
+        ],
         out: "6\nnode 0 words 2 turns 0 sent 0\n",
         ..ROW
     },
@@ -96,7 +98,7 @@ fn watched(rt: &impl Abort, alloc: Global, case: &Case) -> Result<LastWorld, Fai
     let words = words_of(alloc, case.words)?;
     let mut files = case_files(alloc, case)?;
     assert!(rt; case.most >= 1);
-    let mut out = MemSink::new(alloc, 100, case.most, vec![in alloc; case.out_fails]?)?;
+    let mut out = MemSink::new(alloc, 1000, case.most, vec![in alloc; case.out_fails]?)?;
     let mut err = MemSink::new(alloc, 100, 100, vec![in alloc; case.err_fails]?)?;
     let mut watch = LastWorld::new();
     let status = xmpc(alloc, &words, &mut files, &mut watch, &mut out, &mut err);
@@ -214,10 +216,10 @@ fn a_store_has_the_cells_that_a_node_holds(rt: HostRuntime) -> Result<(), Fail> 
     let watch = watched(&rt, rt.alloc(), &case)?;
     match watch.world() {
         Some(world) => {
-            assert_eq!(&rt; world.out(), b"42\n");
+            assert_eq!(&rt; world.out(), "42\n".as_bytes());
             let store = store_of(world, 1);
             assert_eq!(&rt; store.len(), 8);
-            assert_eq!(&rt; &store[2..6], &[1, 9, 9, 4]);
+            assert_eq!(&rt; &store[2..6], [1, 9, 9, 4].as_slice());
         }
         None => assert!(&rt; false),
     }

@@ -9,10 +9,12 @@ const GIVEN: &[&str] = &["serial", "--input=g", "f"];
 
 // The sum of squares, in five pieces: its declarations, the loop that fills the array, the head and the body of the loop that adds
 // the cells, and its end.
-pub(crate) const TOP: &str = "int a[10], i, s;\n#pragma xmp nodes p[4]\n#pragma xmp template t[10]\n\
+pub(crate) const TOP: &str =
+    "int a[10], i, s;\n#pragma xmp nodes p[4]\n#pragma xmp template t[10]\n\
 #pragma xmp distribute t[block] onto p\n#pragma xmp align a[k] with t[k]\nint main(void) {\n";
 
-pub(crate) const FILL: &str = "#pragma xmp loop (i) on t[i]\n  for (i = 0; i < 10; i++) a[i] = i * i;\n";
+pub(crate) const FILL: &str =
+    "#pragma xmp loop (i) on t[i]\n  for (i = 0; i < 10; i++) a[i] = i * i;\n";
 
 pub(crate) const SUM: &str = "#pragma xmp loop (i) on t[i] reduction(+:s)\n";
 
@@ -27,7 +29,8 @@ pub(crate) const BEFORE: &str =
 
 pub(crate) const BLOCK: &str = "[block]";
 
-pub(crate) const BEHIND: &str = " onto p\n#pragma xmp align a[k] with t[k]\n#pragma xmp align b[k] with t[k]\n\
+pub(crate) const BEHIND: &str =
+    " onto p\n#pragma xmp align a[k] with t[k]\n#pragma xmp align b[k] with t[k]\n\
 #pragma xmp shadow a[1]\nint main() {\n#pragma xmp loop (i) on t[i]\n  for (i = 0; i < N; i++) a[i] = i;\n\
 #pragma xmp reflect (a)\n#pragma xmp loop (i) on t[i] reduction(+:s)\n\
   for (i = 1; i < N - 1; i++) { b[i] = a[i-1] + a[i+1]; s += b[i]; }\n\
@@ -75,7 +78,8 @@ for (i = 0; i < 3; i++) for (j = 0; j < 3; j++) s += a[i+1][j+1];\n#pragma xmp t
 pub(crate) const PRINTS: &str = "\nprintf(\"%d\\n\", s);\n}\n";
 
 // A move of a section of an array onto another of it, in two pieces round the section that is read.
-pub(crate) const MOVES: &str = "int a[8], i, s;\n#pragma xmp nodes p[3]\n#pragma xmp template t[8]\n\
+pub(crate) const MOVES: &str =
+    "int a[8], i, s;\n#pragma xmp nodes p[3]\n#pragma xmp template t[8]\n\
 #pragma xmp distribute t[block] onto p\n#pragma xmp align a[k] with t[k]\nint main(void) {\n\
 #pragma xmp loop (i) on t[i]\n  for (i = 0; i < 8; i++) a[i] = i;\n#pragma xmp gmove\n  a[1:7] = ";
 
