@@ -80,7 +80,7 @@ node 2 words 5 turns 6 sent 21\nnode 3 words 3 turns 4 sent 21\n",
         text: &["int z;\nint main() { printf(\"A\"); z = 1 / z; }\n"],
         status: Status::Trapped,
         out: "A",
-        err: "trapped zero at 2:34\n",
+        err: "trapped zero at 2:33\n",
         ..ROW
     },
 ];
