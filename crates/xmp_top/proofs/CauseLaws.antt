@@ -8,7 +8,7 @@ use Rattle.xmp_top.specs.Forms.{SpellsNoForm, Form}
 use Rattle.xmp_top.specs.Lines.{refused_text}
 use Rattle.xmp_top.specs.Delivery.{SinkCall, TookNothing, Due, AllWritten, OutFailed, ErrFailed, Delivered}
 use Rattle.xmp_top.specs.Answer as a
-use Rattle.xmp_top.specs.Answer.{FilesCall, WatchCall, ReadFailed, IsDue, IsAnswer, WasPrepared, says_usage, says_read_fault, says_too_large, says_refused}
+use Rattle.xmp_top.specs.Answer.{FilesCall, WatchCall, IsDue, IsAnswer, WasPrepared, says_usage, says_read_fault, says_too_large, says_refused}
 use Rattle.xmp_top.specs.Causes as cause
 use Rattle.xmp_top.specs.Causes.{HasCauses, HasEnded, InputHeld, IsEnd, LeftAlone, OrNoMemory, RanNothing, ReadFaulted, ReadHeld, SinksHeld, WasRefused, WasRun, WasTooLarge}
 use Rattle.xmp_top.proofs.Written.{says_only, written, wrote}

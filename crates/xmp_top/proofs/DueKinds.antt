@@ -14,7 +14,7 @@ use Rattle.xmp_top.specs.Settings.{Settings}
 use Rattle.xmp_top.specs.Forms.{Form, SpellsForm, SpellsNoForm}
 use Rattle.xmp_top.specs.Delivery.{Due}
 use Rattle.xmp_top.specs.Answer as a
-use Rattle.xmp_top.specs.Answer.{FilesCall, WatchCall, AnswersText, AnswersForm, AnswersInput, AnswersProgram, IsDue, IsRead, IsWorld, WasTold, asks_report, due_of, run_on, says_usage, says_read_fault, says_too_large, says_refused, steps_in}
+use Rattle.xmp_top.specs.Answer.{FilesCall, WatchCall, AnswersText, AnswersForm, AnswersInput, AnswersProgram, IsDue, IsWorld, WasTold, asks_report, due_of, run_on, says_usage, says_read_fault, says_too_large, says_refused, steps_in}
 use Rattle.xmp_top.specs.Causes as cause
 use Rattle.xmp_top.specs.Causes.{ReadSource, ReadProgram, ReadFaulted, WasTooLarge, WasRefused, WasRun, HasEnded, IsEnd, IsInput, LeftAlone, ToldOf}
 

@@ -1,5 +1,5 @@
 -- What is due for a run by its nodes is what is due for the program.
-use Rattle.std.proofs.Common.{◌≡◌, ◌∙◌, ◌++◌, ℕ, List, Option, Some, None, Bool, true, false, refl, ap, IfOk}
+use Rattle.std.proofs.Common.{◌≡◌, ◌∙◌, ◌++◌, ℕ, List, Bool, true, false, refl, ap, IfOk}
 use Rattle.std.specs.Prelude.{Result, Ok, Err}
 use Rattle.xmp_prog.specs.declared.parts.ProgParts.{ProgParts}
 use Rattle.xmp_meaning.specs.declared.ends.End.TheVariants.{Trapped, OutOfSteps, PhaseEnd}
@@ -13,7 +13,6 @@ use Rattle.xmp_nodes.specs.Stands.{StandsFor}
 use Rattle.xmp_nodes.proofs.NeverPhase.{NoPhase, serial_never}
 use Rattle.xmp_world.specs.Reports.{report_of, program_report}
 use Rattle.xmp_world.proofs.WorldReports.{world_reports}
-use Rattle.xmp_top.specs.Delivery.{Due}
 use Rattle.xmp_top.specs.Answer.{due_of, prints}
 
 -- where no report is asked for, none is looked at
