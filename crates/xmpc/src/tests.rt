@@ -1,5 +1,5 @@
 // Command lines, faults and sizes.
-use crate::cases::{Case, ROW, check, check_over, files_of, joined};
+use crate::cases::{Case, ROW, case_files, check, check_over, files_of};
 use std::alloc::Global;
 use std::process::Abort;
 use std::test::Fail;
@@ -145,7 +145,8 @@ fn other_words_are_usage(rt: HostRuntime) -> Result<(), Fail> {
             err: "usage\n",
             ..ROW
         };
-        check(&rt, rt.alloc(), &case)?;
+        let mut files = case_files(rt.alloc(), &case)?;
+        check_over(&rt, rt.alloc(), &case, &mut files)?;
     }
     Ok(())
 }
