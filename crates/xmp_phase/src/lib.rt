@@ -1,0 +1,6 @@
+//! The meaning of coarray programs, run phase by phase.
+#![tactic(auto)]
+
+mod left;
+mod leaves;
+mod steps;
