@@ -1,6 +1,8 @@
 -- What is left of an image's run at an `xmp_sync_all`, and how its run goes on from there.
-use Rattle.std.specs.Prelude.{◌≡◌, ℕ, pos, suc, List, [], ◌∷◌, map, Option, Some, None, Result, Ok, Err}
+use Rattle.std.specs.Prelude.{◌≡◌, ℕ, pos, suc, List, [], ◌∷◌, ◌++◌, map, Option, Some, None, Result, Ok, Err}
 use Rattle.xmp_prog.specs.declared.parts.ProgParts.{ProgParts}
+use Rattle.xmp_prog.specs.declared.statements.Plain.{Plain}
+use Rattle.xmp_prog.specs.declared.statements.Plain.TheVariants as plain
 use Rattle.xmp_prog.specs.declared.statements.Stmt.{Stmt}
 use Rattle.xmp_prog.specs.declared.statements.Task.{Task}
 use Rattle.xmp_prog.specs.declared.statements.Stmt.TheFolds.{fold-Task}
@@ -78,6 +80,17 @@ all_left cx (l ∷ ls) = then_run (all_left cx ls) (left_of cx l)
 
 -- ---- what a step does
 
+-- the status of a statement that is an `xmp_sync_all`
+abbrev pub sync_status : Plain → Option ℕ
+sync_status (plain.Sync status at) = Some status.number
+sync_status _ = None
+
+-- a part of an image's run, whichever later memories are known
+abbrev pub Lifts : {A : Type 0} → Run (List Memory) A → State (Unit {0}) → Result A Halt → State (Unit {0}) → Type 0
+Lifts run old (Ok a) new = (ms : List Memory) → run (knows ms old) ≡ Gave a (knows ms new)
+Lifts run old (Err (halt.End e)) new = (ms : List Memory) → run (knows ms old) ≡ Ended e (knows ms new)
+Lifts run old (Err halt.NoMemory) new = Unit {0}
+
 -- From `old`, a run that ends the phase if no later memory is known, and goes on behind with what is left if one is.
 abbrev pub Pauses : Context → Run (List Memory) Flow → State (Unit {0}) → List Left → State (Unit {0}) → Type 0
 Pauses cx run old rest new = (run (knows [] old) ≡ Ended PhaseEnd (knows [] new))
@@ -100,6 +113,13 @@ Steps cx run old (Ok None) rest new = (ms : List Memory) → run (knows ms old) 
 Steps cx run old (Ok (Some p)) rest new = Goes cx run old (Ok p) rest new
 Steps cx run old (Err h) rest new = Goes cx run old (Err h) rest new
 
--- what is left with this part in front
-abbrev pub with_top : Context → Left → List Left → Run (List Memory) Flow
-with_top cx l rest = then_run (left_of cx l) (all_left cx rest)
+-- a step that adds a part in front
+abbrev pub Adds : List Left → Left → Result (Option Passed) Halt → List Left → Type 0
+Adds old l (Ok None) new = new ≡ old ++ l ∷ []
+Adds old l (Ok (Some p)) new = ⊥
+Adds old l (Err (halt.End e)) new = ⊥
+Adds old l (Err halt.NoMemory) new = Unit {0}
+
+-- a step that adds two: the second comes first
+abbrev pub AddsTwo : List Left → Left → Left → Result (Option Passed) Halt → List Left → Type 0
+AddsTwo old l first r new = Adds (old ++ l ∷ []) first r new

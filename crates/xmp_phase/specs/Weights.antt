@@ -1,10 +1,12 @@
 -- A measure of what is left to do: each step of a run makes it less.
-use Rattle.std.specs.Prelude.{ℕ, suc, ◌+◌, ◌*◌, ◌<◌, List, [], ◌∷◌, map}
+use Rattle.std.specs.Prelude.{ℕ, suc, ◌+◌, ◌*◌, ◌<◌, List, [], ◌∷◌, map, Option, Result, Ok, Err}
 use Rattle.xmp_prog.specs.declared.statements.LoopHead.{LoopHead}
 use Rattle.xmp_prog.specs.declared.statements.Stmt.{Stmt}
 use Rattle.xmp_prog.specs.declared.statements.Task.{Task}
 use Rattle.xmp_prog.specs.declared.statements.Stmt.TheOpen.{Stmt-F, Task-F}
 use Rattle.xmp_prog.specs.declared.statements.Stmt.TheFolds.{fold-Stmt, fold-Task}
+use Rattle.xmp_meaning.specs.declared.ends.Halt.{Halt}
+use Rattle.xmp_phase.specs.declared.left.Passed.{Passed}
 use Rattle.xmp_phase.specs.declared.left.Loop.{Loop}
 use Rattle.xmp_phase.specs.declared.left.Left.{Left}
 use Rattle.xmp_phase.specs.declared.left.Left.TheVariants as left
@@ -62,3 +64,8 @@ left_weight (left.Status slot) = 1
 abbrev pub all_weight : List Left → ℕ
 all_weight [] = 0
 all_weight (l ∷ ls) = left_weight l + all_weight ls
+
+-- a step on what weighs so much, in front of the others, leaves less than all of them
+abbrev pub Lighter : ℕ → List Left → Result (Option Passed) Halt → List Left → Type 0
+Lighter w old (Ok p) new = all_weight new < w + all_weight old
+Lighter w old (Err h) new = Unit {0}
