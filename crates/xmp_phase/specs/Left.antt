@@ -1,6 +1,7 @@
 -- What is left of an image's run at an `xmp_sync_all`, and how its run goes on from there.
 use Rattle.std.specs.Prelude.{◌≡◌, ℕ, pos, suc, List, [], ◌∷◌, ◌++◌, map, Option, Some, None, Result, Ok, Err}
 use Rattle.xmp_prog.specs.declared.parts.ProgParts.{ProgParts}
+use Rattle.xmp_prog.specs.declared.expressions.Expr.{Expr}
 use Rattle.xmp_prog.specs.declared.statements.Plain.{Plain}
 use Rattle.xmp_prog.specs.declared.statements.Plain.TheVariants as plain
 use Rattle.xmp_prog.specs.declared.statements.Stmt.{Stmt}
@@ -8,13 +9,13 @@ use Rattle.xmp_prog.specs.declared.statements.Task.{Task}
 use Rattle.xmp_prog.specs.declared.statements.Stmt.TheFolds.{fold-Task}
 use Rattle.xmp_meaning.specs.declared.ends.End.TheVariants.{PhaseEnd}
 use Rattle.xmp_meaning.specs.declared.ends.Flow.{Flow}
-use Rattle.xmp_meaning.specs.declared.ends.Flow.TheVariants.{Next}
+use Rattle.xmp_meaning.specs.declared.ends.Flow.TheVariants.{Next, Returned}
 use Rattle.xmp_meaning.specs.declared.ends.Halt.{Halt}
 use Rattle.xmp_meaning.specs.declared.ends.Halt.TheVariants as halt
 use Rattle.xmp_meaning.specs.Runs.{State, Gave, Ended, Run, ◌>>=◌, pure, set_scalar}
 use Rattle.xmp_meaning.specs.Context.{Context}
 use Rattle.xmp_meaning.specs.Handlers.{TaskRun, task_run}
-use Rattle.xmp_meaning.specs.Blocks.{then_run, block, turns}
+use Rattle.xmp_meaning.specs.Blocks.{then_run, block, choose, turns}
 use Rattle.xmp_meaning.specs.Loops.{inside, step_up, nest, turn}
 use Rattle.xmp_meaning.specs.Expressions.{expr_of, holds}
 use Rattle.xmp_meaning.specs.Statements.{stmt_of, stmt_step, task_step}
@@ -30,6 +31,10 @@ use Rattle.xmp_phase.specs.declared.left.Passed.{Passed}
 use Rattle.xmp_phase.specs.declared.left.Passed.TheVariants as passed
 
 -- ---- states of an image
+
+-- a state of an image, as far as it is known to its own run
+abbrev pub Own : Type 0
+Own = State (Unit {0})
 
 -- the same state, in which these later memories are known
 abbrev pub knows : List Memory → State (Unit {0}) → State (List Memory)
@@ -51,6 +56,12 @@ does cx s = stmt_of (at_image cx.program) cx s
 
 abbrev pub task_does : Context → Task → TaskRun (List Memory)
 task_does cx t = fold-Task (Run (List Memory) Flow) (TaskRun (List Memory)) (stmt_step (at_image cx.program) cx) task_step t
+
+-- an `if` by its condition and its branches
+abbrev pub if_does : Context → Expr → Stmt → Stmt → Run (List Memory) Flow
+if_does cx e a b = do
+  v ← holds (expr_of (at_image cx.program) cx e)
+  choose v (does cx a) (does cx b)
 
 -- one turn of a counted loop: the loops inside it, and then the index goes up
 abbrev pub one_turn : Context → Loop → Run (List Memory) Flow
@@ -112,6 +123,11 @@ abbrev pub Steps : Context → Run (List Memory) Flow → State (Unit {0}) → R
 Steps cx run old (Ok None) rest new = (ms : List Memory) → run (knows ms old) ≡ all_left cx rest (knows ms new)
 Steps cx run old (Ok (Some p)) rest new = Goes cx run old (Ok p) rest new
 Steps cx run old (Err h) rest new = Goes cx run old (Err h) rest new
+
+-- how the program ends with a part, where it does
+abbrev pub end_by : Flow → Option Passed
+end_by Next = None
+end_by (Returned v) = Some (passed.Ended (Returned v))
 
 -- a step that adds a part in front
 abbrev pub Adds : List Left → Left → Result (Option Passed) Halt → List Left → Type 0

@@ -23,7 +23,7 @@ whiles_weight n w = suc ((w + 1) * suc n)
 
 abbrev pub nest_weight : List LoopHead → ℕ → ℕ
 nest_weight [] w = suc w
-nest_weight (h ∷ hs) w = suc (turns_weight most (nest_weight hs w))
+nest_weight (h ∷ hs) w = turns_weight most (nest_weight hs w)
 
 abbrev pub list_weight : List ℕ → ℕ
 list_weight [] = 1
@@ -34,7 +34,7 @@ weight_step (Stmt-F.Plain p) = 2
 weight_step (Stmt-F.Block all) = suc (list_weight all)
 weight_step (Stmt-F.If e a b) = suc (a + b)
 weight_step (Stmt-F.While e body at) = suc (whiles_weight most body)
-weight_step (Stmt-F.Counted head body) = suc (turns_weight most (nest_weight [] body))
+weight_step (Stmt-F.Counted head body) = turns_weight most (nest_weight [] body)
 weight_step (Stmt-F.Loop directive body) = suc (nest_weight directive.nest body)
 weight_step (Stmt-F.Tasks all at) = suc (list_weight all)
 
