@@ -155,3 +155,8 @@ module _ (cx : Context) where
   pub branch : (e : Expr) (a c : Stmt) (s t : Own) (b : Bool) → Lifts (holds (expr_of (at_image cx.program) cx e)) s (Ok b) t
       → (ms : List Memory) → if_does cx e a c (knows ms s) ≡ choose b (does cx a) (does cx c) (knows ms t)
   branch e a c s t b h ms = ap (λ x. and_then x (λ v. choose v (does cx a) (does cx c))) (h ms)
+
+  -- who steps a run steps an equal one
+  pub run_same : (f g : Run (List Memory) Flow) (old rest : List Left) (s t : Own) (r : Result (Option Passed) Halt) → f ≡ g
+      → Steps cx (then_run g (all_left cx old)) s r rest t → Steps cx (then_run f (all_left cx old)) s r rest t
+  run_same f g old rest s t r e h = subst (λ x. Steps cx (then_run x (all_left cx old)) s r rest t) (sym e) h

@@ -163,6 +163,24 @@ fn step_nest<'a>(
     }
 }
 
+/// A turn of a counted loop, where its test holds, and at most so many behind it.
+fn step_turn<'a>(
+    i: &Interpreter,
+    behind: u64,
+    l: Loop<'a>,
+    rest: &mut Items<Left<'a>>,
+    state: &mut State,
+) -> Result<Option<Passed>, Halt>
+    ensures steps { Steps (reads i.now) (then_run (turns_of (reads i.now) (behind + 1) l.entry) (all_left (reads i.now) rest.old)) state.old result rest.new state.new }
+    ensures lighter { Lighter (loop_weight (behind + 1) l.entry) rest.old result rest.new }
+{
+    if inside(i, l.head, state)? {
+        both(rest, Left::Up(behind, l), Left::Nest(l.inner, l.body))
+    } else {
+        Ok(None)
+    }
+}
+
 /// At most so many turns of a counted loop.
 fn step_turns<'a>(
     i: &Interpreter,
@@ -177,11 +195,7 @@ fn step_turns<'a>(
     if count == 0 {
         return Ok(None);
     }
-    if inside(i, l.head, state)? {
-        both(rest, Left::Up(count - 1, l), Left::Nest(l.inner, l.body))
-    } else {
-        Ok(None)
-    }
+    step_turn(i, count - 1, l, rest, state)
 }
 
 /// The index of a counted loop goes up.

@@ -1,0 +1,42 @@
+use Rattle.std.proofs.Common.{◌≡◌, ◌++◌, ◌+◌, ◌-◌, ◌<◌, ◌∙◌, ℕ, suc, List, [], ◌∷◌, Bool, true, false, Option, Some, None, Result, Ok, Err, ap, sym, subst, refl, map, arith, rules}
+use Rattle.xmp_prog.specs.declared.statements.LoopHead.{LoopHead}
+use Rattle.xmp_prog.specs.declared.statements.Stmt.{Stmt}
+use Rattle.xmp_prog.specs.declared.statements.Task.{Task}
+use Rattle.xmp_meaning.specs.declared.ends.Flow.{Flow}
+use Rattle.xmp_meaning.specs.Runs.{Run}
+use Rattle.xmp_meaning.specs.Blocks.{block, then_run, choose, turns}
+use Rattle.xmp_meaning.specs.Context.{Context}
+use Rattle.xmp_meaning.specs.Handlers.{task_run}
+use Rattle.xmp_meaning.specs.Expressions.{expr_of, holds}
+use Rattle.xmp_meaning.specs.Loops.{counted, nest, step_up, turn, while_loop}
+use Rattle.xmp_meaning.specs.Phases.{Memory, at_image}
+use Rattle.xmp_meaning.specs.Statements.{plain_of}
+use Rattle.xmp_phase.specs.declared.left.Left.{Left}
+use Rattle.xmp_phase.specs.declared.left.Left.TheVariants as left
+use Rattle.xmp_phase.specs.Left.{Own, knows, reads, does, task_does, if_does, turns_of, left_of, all_left, Steps}
+use Rattle.xmp_phase.specs.Weights.{Lighter, all_weight, left_weight, list_weight, loop_weight, most, nest_weight, task_weight, turns_weight, weight, whiles_weight}
+use Rattle.xmp_phase.proofs.Tops.{adds_part, adds_parts, part_is_lighter, parts_are_lighter, weight_in_front}
+use Rattle.xmp_phase.proofs.Opened.{flow_steps, pauses, turn_follows, no_turn, gone, entered, went_up, while_turns, last_turn, branch, run_same}
+use Rattle.xmp_phase.proofs.Measures.{below_most, turn_is_lighter, fewer_turns, while_is_lighter, body_is_lighter, fewer_whiles}
+use Rattle.xmp_phase.proofs.Rolled.{plain_does, block_does, if_is, while_does, counted_does, loop_does, tasks_do, plain_weighs, block_weighs, if_weighs, while_weighs, counted_weighs, loop_weighs, tasks_weigh}
+use Rattle.xmp_phase.proofs.steps.step_if.Goals as goal
+
+pub returns-then-branch-clause-steps : goal.returns-then-branch-clause-steps
+returns-then-branch-clause-steps c = let cx : Context = reads c.args.i.now in
+    let taken : c.in_ok-holds.field-0 ≡ true = search rules in
+    adds_part cx (if_does cx c.args.test.now c.args.yes.now c.args.no.now) c.args.rest.now (left.Statement c.args.yes) c.later.result c.later.new.rest c.args.state.now c.holds.new.state c.later.ensures
+    (λ ms. branch cx c.args.test.now c.args.yes.now c.args.no.now c.args.state.now c.holds.new.state c.in_ok-holds.field-0 c.in_ok-holds.ensures ms
+    ∙ ap (λ (b : Bool). choose b (does cx c.args.yes.now) (does cx c.args.no.now) (knows ms c.holds.new.state)) taken)
+
+pub returns-then-branch-clause-lighter : goal.returns-then-branch-clause-lighter
+returns-then-branch-clause-lighter c = part_is_lighter (weight c.args.yes.now + weight c.args.no.now + 1) c.args.rest.now (left.Statement c.args.yes) c.later.result c.later.new.rest c.later.ensures (omega arith)
+
+pub returns-else-branch-clause-steps : goal.returns-else-branch-clause-steps
+returns-else-branch-clause-steps c = let cx : Context = reads c.args.i.now in
+    let taken : c.in_ok-holds.field-0 ≡ false = search rules in
+    adds_part cx (if_does cx c.args.test.now c.args.yes.now c.args.no.now) c.args.rest.now (left.Statement c.args.no) c.later-else-branch.result c.later-else-branch.new.rest c.args.state.now c.holds.new.state c.later-else-branch.ensures
+    (λ ms. branch cx c.args.test.now c.args.yes.now c.args.no.now c.args.state.now c.holds.new.state c.in_ok-holds.field-0 c.in_ok-holds.ensures ms
+    ∙ ap (λ (b : Bool). choose b (does cx c.args.yes.now) (does cx c.args.no.now) (knows ms c.holds.new.state)) taken)
+
+pub returns-else-branch-clause-lighter : goal.returns-else-branch-clause-lighter
+returns-else-branch-clause-lighter c = part_is_lighter (weight c.args.yes.now + weight c.args.no.now + 1) c.args.rest.now (left.Statement c.args.no) c.later-else-branch.result c.later-else-branch.new.rest c.later-else-branch.ensures (omega arith)
