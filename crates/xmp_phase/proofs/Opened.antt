@@ -92,10 +92,10 @@ module _ (cx : Context) where
       → Lifts (inside (at_image cx.program) cx l.head.now) s (Ok b) t
       → (ms : List Memory) → turns_of cx count l (knows ms s)
       ≡ then_run (nest (at_image cx.program) cx l.inner.now (does cx l.body.now)) (then_run (step_up l.head.now) (turns_of cx n l)) (knows ms t)
-  turn_follows n count l s t b more yes i ms =
+  turn_follows n count l s t b more holding i ms =
       ap (λ k. turns_of cx k l (knows ms s)) more
       ∙ ap (λ x. and_then x (λ v. choose v (then_run (one_turn cx l) (turns_of cx n l)) (pure Next))) (i ms)
-      ∙ ap (λ v. choose v (then_run (one_turn cx l) (turns_of cx n l)) (pure Next) (knows ms t)) yes
+      ∙ ap (λ v. choose v (then_run (one_turn cx l) (turns_of cx n l)) (pure Next) (knows ms t)) holding
       ∙ grouped (nest (at_image cx.program) cx l.inner.now (does cx l.body.now)) (step_up l.head.now) (turns_of cx n l) (knows ms t)
 
   -- one whose test fails

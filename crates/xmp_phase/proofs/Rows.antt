@@ -125,17 +125,17 @@ row_kept zero (a ∷ all) (m ∷ ms) (r ∷ rs) e less no_image = ap (λ t. (if 
 row_kept (suc n) (a ∷ all) (m ∷ ms) (r ∷ rs) e less no_image =
     ap (λ rows. (if is_image a.home then m else r) ∷ rows) (row_kept n all ms rs (ap pred e) (omega (arith, less)) no_image)
 
+abbrev OnlyNone : Option Array → Type 0
+OnlyNone None = Unit {0}
+OnlyNone (Some a) = ⊥
+
+abbrev home_of : Option Array → Bool
+home_of None = false
+home_of (Some a) = is_image a.home
+
 pub home_at : (all : List Array) (n : ℕ) (a : Array) → slice_get all n ≡ Some a → home_is all n ≡ is_image a.home
-home_at [] n a e = absurd (subst OnlySome e tt)
-  where
-    abbrev OnlySome : Option Array → Type 0
-    OnlySome None = Unit {0}
-    OnlySome (Some a) = ⊥
+home_at [] n a e = absurd (subst OnlyNone e tt)
 home_at (b ∷ all) zero a e = ap home_of e
-  where
-    abbrev home_of : Option Array → Bool
-    home_of None = false
-    home_of (Some a) = is_image a.home
 home_at (b ∷ all) (suc n) a e = home_at all n a e
 
 -- ---- copies

@@ -22,10 +22,14 @@ use Rattle.xmp_phase.proofs.Rolled.{plain_does, block_does, if_is, while_does, c
 use Rattle.xmp_phase.proofs.steps.step.Goals as goal
 
 pub returns-in-Statements-clause-steps : goal.returns-in-Statements-clause-steps
-returns-in-Statements-clause-steps c = ?
+returns-in-Statements-clause-steps c = let cx : Context = reads c.args.i.now in
+    subst (λ (x : Left). Steps cx (then_run (left_of cx x) (all_left cx c.args.rest.now)) c.args.state.now c.step_block.result c.step_block.new.rest c.args.state.now) (sym c.in-Statements.is)
+    (c.step_block.ensures.steps cx c.args.state.now)
 
 pub returns-in-Tasks-clause-steps : goal.returns-in-Tasks-clause-steps
-returns-in-Tasks-clause-steps c = ?
+returns-in-Tasks-clause-steps c = let cx : Context = reads c.args.i.now in
+    subst (λ (x : Left). Steps cx (then_run (left_of cx x) (all_left cx c.args.rest.now)) c.args.state.now c.step_tasks.result c.step_tasks.new.rest c.args.state.now) (sym c.in-Tasks.is)
+    (c.step_tasks.ensures.steps cx c.args.state.now)
 
 pub returns-in-Turns-clause-steps : goal.returns-in-Turns-clause-steps
 returns-in-Turns-clause-steps c = ?

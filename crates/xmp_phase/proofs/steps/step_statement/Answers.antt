@@ -27,10 +27,16 @@ returns-in-Plain-clause-steps c = let cx : Context = reads c.args.i.now in
     (plain_does cx c.args.s.now c.in-Plain.plain.now c.in-Plain.is) c.step_plain.ensures.steps
 
 pub returns-in-Block-clause-steps : goal.returns-in-Block-clause-steps
-returns-in-Block-clause-steps c = let cx : Context = reads c.args.i.now in ?
+returns-in-Block-clause-steps c = let cx : Context = reads c.args.i.now in
+    adds_part cx (does cx c.args.s.now) c.args.rest.now (left.Statements c.as_slice.result) c.later.result c.later.new.rest c.args.state.now c.args.state.now c.later.ensures
+    (λ ms. ap (λ (f : Run (List Memory) Flow). f (knows ms c.args.state.now)) (block_does cx c.args.s.now c.in-Block.all c.in-Block.is)
+    ∙ ap (λ (xs : List Stmt). block (map (does cx) xs) (knows ms c.args.state.now)) (sym c.as_slice.ensures))
 
 pub returns-in-Block-clause-lighter : goal.returns-in-Block-clause-lighter
-returns-in-Block-clause-lighter c = ?
+returns-in-Block-clause-lighter c =
+    let w : weight c.args.s.now ≡ suc (list_weight (map weight c.in-Block.all)) = block_weighs c.args.s.now c.in-Block.all c.in-Block.is in
+    let v : list_weight (map weight c.as_slice.result.now) ≡ list_weight (map weight c.in-Block.all) = ap (λ (xs : List Stmt). list_weight (map weight xs)) c.as_slice.ensures in
+    part_is_lighter (weight c.args.s.now) c.args.rest.now (left.Statements c.as_slice.result) c.later.result c.later.new.rest c.later.ensures (omega (arith, w, v))
 
 pub returns-in-If-clause-steps : goal.returns-in-If-clause-steps
 returns-in-If-clause-steps c = ?
