@@ -1,6 +1,6 @@
 -- Writes of rows and cells one by one.
-use Rattle.std.proofs.Common.{◌≡◌, ◌<◌, ◌≤◌, ℕ, zero, suc, ℤ, Bool, true, false, List, [], ◌∷◌, length, Option, Some, None, refl, sym, ap, ◌∙◌, subst, if◌then◌else◌, arith}
-use Rattle.std.specs.Prelude.{slice_get, slice_set, slice_index, unwrap_or}
+use Rattle.std.proofs.Common.{◌≡◌, ◌<◌, ◌≤◌, ℕ, zero, suc, ℤ, pos, Bool, true, false, List, [], ◌∷◌, length, Option, Some, None, refl, sym, ap, ◌∙◌, subst, if◌then◌else◌, arith}
+use Rattle.std.specs.Prelude.{slice_get, slice_set, unwrap_or}
 use Rattle.std.specs.Ordering.{int_eq}
 use Rattle.xmp_prog.specs.Tests.{is_image}
 use Rattle.xmp_prog.specs.declared.parts.Array.{Array}
@@ -37,7 +37,7 @@ all_cells (x ∷ bs) [] (z ∷ cs) e f = absurd (no_suc (length cs) f)
 all_cells (x ∷ bs) (y ∷ vs) (z ∷ cs) e f = ap (λ r. (if int_eq y x then z else y) ∷ r) (all_cells bs vs cs (ap pred e) (ap pred f))
 
 pub cell_written : (n : ℕ) (b v c : List ℤ) → length b ≡ length c → length v ≡ length c → n < length b
-    → int_eq (slice_index v n) (slice_index b n) ≡ false → slice_set (row_done n b v c) n (slice_index v n) ≡ row_done (suc n) b v c
+    → int_eq (unwrap_or (slice_get v n) (pos 0)) (unwrap_or (slice_get b n) (pos 0)) ≡ false → slice_set (row_done n b v c) n (unwrap_or (slice_get v n) (pos 0)) ≡ row_done (suc n) b v c
 cell_written n [] v c e f less other = absurd (omega (arith, less))
 cell_written n (x ∷ bs) v [] e f less other = absurd (no_suc (length bs) (sym e))
 cell_written n (x ∷ bs) [] (z ∷ cs) e f less other = absurd (no_suc (length cs) f)
@@ -46,7 +46,7 @@ cell_written (suc n) (x ∷ bs) (y ∷ vs) (z ∷ cs) e f less other =
     ap (λ r. (if int_eq y x then z else y) ∷ r) (cell_written n bs vs cs (ap pred e) (ap pred f) (omega (arith, less)) other)
 
 pub cell_stays : (n : ℕ) (b v c : List ℤ) → length b ≡ length c → length v ≡ length c → n < length b
-    → int_eq (slice_index v n) (slice_index b n) ≡ true → row_done n b v c ≡ row_done (suc n) b v c
+    → int_eq (unwrap_or (slice_get v n) (pos 0)) (unwrap_or (slice_get b n) (pos 0)) ≡ true → row_done n b v c ≡ row_done (suc n) b v c
 cell_stays n [] v c e f less same = absurd (omega (arith, less))
 cell_stays n (x ∷ bs) v [] e f less same = absurd (no_suc (length bs) (sym e))
 cell_stays n (x ∷ bs) [] (z ∷ cs) e f less same = absurd (no_suc (length cs) f)

@@ -23,8 +23,8 @@ use Rattle.xmp_phase.proofs.steps.step_statement.Goals as goal
 
 pub returns-in-Plain-clause-steps : goal.returns-in-Plain-clause-steps
 returns-in-Plain-clause-steps c = let cx : Context = reads c.args.i.now in
-    run_same cx (does cx c.args.s.now) (plain_of (at_image cx.program) cx c.in-Plain.plain.now) c.args.rest.now c.step_plain.new.rest c.args.state.now c.step_plain.new.state c.step_plain.result
-    (plain_does cx c.args.s.now c.in-Plain.plain.now c.in-Plain.is) c.step_plain.ensures.steps
+    run_same cx (does cx c.args.s.now) (plain_of (at_image cx.program) cx c.in-Plain.plain) c.args.rest.now c.step_plain.new.rest c.args.state.now c.step_plain.new.state c.step_plain.result
+    (plain_does cx c.args.s.now c.in-Plain.plain c.in-Plain.is) c.step_plain.ensures.steps
 
 pub returns-in-Block-clause-steps : goal.returns-in-Block-clause-steps
 returns-in-Block-clause-steps c = let cx : Context = reads c.args.i.now in
