@@ -1,6 +1,7 @@
 //! The meaning of coarray programs, run phase by phase.
 #![tactic(auto)]
 
-mod left;
 mod leaves;
+mod left;
+mod memory;
 mod steps;
