@@ -1,0 +1,10 @@
+pub mod Casts
+pub mod Written
+pub mod Parts
+pub mod Reductions
+pub mod Puts
+pub mod LoopEnds
+pub mod TaskEnds
+pub mod Moves
+pub mod Runs
+pub mod Resumes
