@@ -1,5 +1,5 @@
 // How a node goes on from a meeting.
-ghost use Rattle.std.specs.Prelude.{◌≡◌, ◌+◌, ◌++◌, ◌<◌, ◌^◌, OnErr, OnOk};
+ghost use Rattle.std.specs.Prelude.{◌≡◌, ◌+◌, ◌++◌, ◌<◌, ◌^◌, vec_capacity, OnErr, OnOk};
 ghost use Rattle.std.specs.Option.{option_map};
 ghost use Rattle.xmp_move.specs.Stores.{packed, write_all};
 ghost use Rattle.xmp_instr.specs.Effects.{text_before};
@@ -28,7 +28,8 @@ pub fn mark_of(mode: Mode) -> Option<usize>
 
 /// Drops the text behind a mark.
 pub fn cut(out: &mut Vec<u8>, mark: Option<usize>)
-    ensures { out.new.items ≡ text_before mark out.old.items }
+    ensures items { out.new.items ≡ text_before mark out.old.items }
+    ensures room { vec_capacity out.new ≡ vec_capacity out.old }
 {
     if let Some(mark) = mark {
         out.truncate(mark);
@@ -41,9 +42,7 @@ pub fn append(out: &mut Vec<u8>, mark: Option<usize>, text: &[u8]) -> Result<(),
     ensures err { OnErr result (out.new.items ≡ out.old.items) }
 {
     out.reserve(text.len())?;
-    if let Some(mark) = mark {
-        out.truncate(mark);
-    }
+    cut(out, mark);
     match out.extend_from_slice(text) {
         Ok(()) => Ok(()),
         Err(_) => unreachable!(),
