@@ -5,6 +5,7 @@
 mod codes;
 #[cfg(test)]
 mod couples;
+mod going;
 #[cfg(test)]
 mod meetings;
 #[cfg(test)]
