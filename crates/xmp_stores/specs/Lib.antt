@@ -1,0 +1,4 @@
+pub mod Contexts
+pub mod Each
+pub mod LayoutProps
+pub mod Layouts
