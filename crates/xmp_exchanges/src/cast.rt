@@ -1,0 +1,129 @@
+// A bcast of scalars.
+ghost use Rattle.std.specs.Prelude.{◌≡◌, IfOk, OnOk, ◌++◌, ◌∷◌, []};
+ghost use Rattle.xmp_prog.specs.Statements.{slots_of_names};
+ghost use Rattle.xmp_meaning.specs.Exchanges.{values_of};
+ghost use Rattle.xmp_meaning.specs.LoopEnds.{set_all};
+ghost use Rattle.xmp_meaning.specs.Runs.{Does, Gave};
+ghost use Rattle.xmp_nodes.specs.Casting.{cast_all};
+ghost use Rattle.xmp_exchanges.specs.Casts.{cast_said};
+
+use crate::leader::{leader, members};
+use crate::many::are_many;
+use sqlite_items::Items;
+use std::alloc::Global;
+use xmp_base::{NoMemory, first_and_rest};
+use xmp_map::NodeSet;
+use xmp_meaning::{Flow, Halt};
+use xmp_prog::Name;
+use xmp_serial::{Interpreter, State};
+use xmp_stores::{Deed, Nodes, Saying, Together, say};
+
+/// What a bcast says: these values by each node that is a member of its set.
+#[derive(Drop)]
+pub struct Casting<'a> {
+    pub members: &'a [bool],
+    pub values: &'a [i64],
+}
+
+impl Saying for Casting<'_> {
+    ghost said = { λ c from to. cast_said c.members.now c.values.now from to };
+
+    fn words(&self, from: u32, _to: u32) -> u64 {
+        match self.members.get(from as usize) {
+            None => 0,
+            Some(is) => {
+                if *is {
+                    self.values.len() as u64
+                } else {
+                    0
+                }
+            }
+        }
+    }
+}
+
+/// The variables are set to these values.
+#[derive(Drop)]
+pub struct Setting<'a> {
+    pub variables: &'a [Name],
+    pub values: &'a [i64],
+}
+
+impl Deed for Setting<'_> {
+    type Gives = Flow;
+
+    ghost does = { λ d node c. set_all d.variables.now d.values.now };
+
+    fn run(&self, node: u32, at: &Interpreter, state: &mut State) -> Result<Flow, Halt> {
+        Ok(set_all(self.variables, self.values, state))
+    }
+}
+
+/// Sets variables in order.
+fn set_all(variables: &[Name], mut values: &[i64], state: &mut State) -> Flow
+    ensures { set_all variables.now values.entry.now state.old ≡ Gave result state.new }
+{
+    'variables: for name in variables {
+        match first_and_rest(values) {
+            None => return Flow::Next,
+            Some((value, rest)) => {
+                state.set_scalar(name.number, *value);
+                values = rest;
+            }
+        }
+    }
+    Flow::Next
+}
+
+/// The values of variables.
+fn values_of(alloc: Global, state: &State, variables: &[Name]) -> Result<Items<i64>, NoMemory>
+    ensures { IfOk result (λ values. values ≡ values_of state.now (slots_of_names variables.now)) }
+{
+    let mut values = Items::new(alloc);
+    'variables: for name in variables {
+        push(&mut values, state.scalar(name.number))?;
+    }
+    Ok(values)
+}
+
+fn push(values: &mut Items<i64>, value: i64) -> Result<(), NoMemory>
+    ensures { OnOk result (values.new ≡ values.old ++ value ∷ []) }
+{
+    values.push(value).map_err(|_| NoMemory)
+}
+
+/// The values of the variables at the source, which says them, and every node takes them.
+pub fn cast_all(
+    together: &Together,
+    variables: &[Name],
+    from: &NodeSet,
+    nodes: &mut Nodes,
+) -> Result<Flow, Halt>
+    ensures { Does (cast_all together.now.program.now variables.now from.now nodes.old) result nodes.new }
+{
+    let grid = &together.program.grid;
+    if !are_many(nodes, grid.count() as usize) {
+        return Err(Halt::NoMemory);
+    }
+    let Some(source) = leader(grid, from) else {
+        return Err(Halt::NoMemory);
+    };
+    let Some(state) = nodes.stores.get(source as usize) else {
+        return Err(Halt::NoMemory);
+    };
+    let Ok(values) = values_of(together.alloc, state, variables) else {
+        return Err(Halt::NoMemory);
+    };
+    let Ok(members) = members(together.alloc, grid, from) else {
+        return Err(Halt::NoMemory);
+    };
+    let values = values.as_slice();
+    say(
+        &Casting {
+            members: members.as_slice(),
+            values,
+        },
+        nodes,
+    );
+    together.all_do(&Setting { variables, values }, Flow::Next, nodes)
+}

@@ -1,0 +1,25 @@
+// What the nodes say by tables of words.
+ghost use Rattle.xmp_exchanges.specs.Told.{told};
+
+use xmp_base::Table;
+use xmp_stores::Saying;
+
+/// For each node a table of what it says to each.
+#[derive(Drop)]
+pub struct Told<'a> {
+    pub tables: &'a [Table],
+}
+
+impl Saying for Told<'_> {
+    ghost said = { λ t from to. told t.tables.now from to };
+
+    fn words(&self, from: u32, to: u32) -> u64 {
+        match self.tables.get(from as usize) {
+            None => 0,
+            Some(table) => match table.row(to as usize) {
+                None => 0,
+                Some(words) => words.len() as u64,
+            },
+        }
+    }
+}
