@@ -19,7 +19,7 @@ pub record IsLaidSide (side : Side) (node : ℕ) : Type 0 where
   pub words : side.base + words_in side node ≤ 2 ^ 32
 
 -- what it asks of the parts of both
-pub record FitTogether (target source : Side) : Type 0 where
-  pub target : length target.parts ≡ length target.extents
-  pub source : length source.parts ≡ length source.extents
-  pub sections : (sections source ≡ 0) ⊎ (sections source ≡ sections target)
+pub record FitTogether (to from : Side) : Type 0 where
+  pub target : length to.parts ≡ length to.extents
+  pub source : length from.parts ≡ length from.extents
+  pub as_many : (sections from ≡ 0) ⊎ (sections from ≡ sections to)

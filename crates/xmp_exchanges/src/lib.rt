@@ -13,13 +13,16 @@ mod gmove;
 mod laid;
 mod leader;
 mod many;
+mod numbers;
 mod packing;
 mod plans;
 mod reflect;
 mod side;
 mod told;
 mod transfer;
+mod unpacked;
 mod unpacking;
+mod values;
 mod words;
 
 pub use cast::cast_all;

@@ -1,0 +1,5 @@
+pub mod SameGrids
+pub mod Lists
+pub mod WrittenWords
+pub mod FlatNumbers
+pub mod Settings
