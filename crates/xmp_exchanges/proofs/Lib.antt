@@ -3,3 +3,9 @@ pub mod Lists
 pub mod WrittenWords
 pub mod FlatNumbers
 pub mod Settings
+pub mod SaidWords
+pub mod AllNodes
+pub mod UnpackedRows
+pub mod OneExchange
+pub mod SidesMade
+pub mod AimsFound

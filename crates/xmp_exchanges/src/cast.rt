@@ -23,8 +23,8 @@ pub struct Casting<'a> {
 impl Saying for Casting<'_> {
     ghost said = { λ c from to. cast_said c.members.now c.values.now from to };
 
-    fn words(&self, from: u32, _to: u32) -> u64 {
-        match self.members.get(from as usize) {
+    fn words(&self, from: usize, _to: usize) -> u64 {
+        match self.members.get(from) {
             None => 0,
             Some(is) => {
                 if *is {

@@ -2,17 +2,16 @@
 ghost use Rattle.std.specs.Prelude.{◌≡◌, IsTrue};
 ghost use Rattle.xmp_exchanges.specs.Told.{AreMany, are_long};
 
-use sqlite_items::Items;
 use xmp_base::first_and_rest;
-use xmp_stores::Nodes;
+use xmp_stores::{Counts, Nodes};
 
 /// Whether each row has so many numbers.
-fn are_long(rows: &[Items<u64>], count: usize) -> bool
+fn are_long(rows: &[Counts], count: usize) -> bool
     ensures { result ≡ are_long count rows.now }
 {
     match first_and_rest(rows) {
         None => true,
-        Some((row, rest)) => row.len() == count && are_long(rest, count),
+        Some((row, rest)) => row.as_slice().len() == count && are_long(rest, count),
     }
 }
 

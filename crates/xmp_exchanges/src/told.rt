@@ -13,10 +13,10 @@ pub struct Told<'a> {
 impl Saying for Told<'_> {
     ghost said = { λ t from to. told t.tables.now from to };
 
-    fn words(&self, from: u32, to: u32) -> u64 {
-        match self.tables.get(from as usize) {
+    fn words(&self, from: usize, to: usize) -> u64 {
+        match self.tables.get(from) {
             None => 0,
-            Some(table) => match table.row(to as usize) {
+            Some(table) => match table.row(to) {
                 None => 0,
                 Some(words) => words.len() as u64,
             },
