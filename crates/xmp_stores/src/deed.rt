@@ -66,7 +66,9 @@ pub struct TakingStep {}
 
 impl Deed for Starting {
     type Gives = Flow;
+
     ghost does = { λ d node c. starts erased c c.program.start };
+
     fn run(&self, node: u32, at: &Interpreter, state: &mut State) -> Result<Flow, Halt> {
         at.starts(state)
     }
@@ -74,7 +76,9 @@ impl Deed for Starting {
 
 impl Deed for Plainly<'_> {
     type Gives = Flow;
+
     ghost does = { λ d node c. plain_of erased c d.statement.now };
+
     fn run(&self, node: u32, at: &Interpreter, state: &mut State) -> Result<Flow, Halt> {
         at.plain(self.statement, state)
     }
@@ -82,7 +86,9 @@ impl Deed for Plainly<'_> {
 
 impl Deed for Holding<'_> {
     type Gives = bool;
+
     ghost does = { λ d node c. holds (expr_of erased c d.condition.now) };
+
     fn run(&self, node: u32, at: &Interpreter, state: &mut State) -> Result<bool, Halt> {
         at.holds(self.condition, state)
     }
@@ -90,7 +96,9 @@ impl Deed for Holding<'_> {
 
 impl Deed for Entering<'_> {
     type Gives = u64;
+
     ghost does = { λ d node c. entering erased c d.head.now };
+
     fn run(&self, node: u32, at: &Interpreter, state: &mut State) -> Result<u64, Halt> {
         at.entering(self.head, state)
     }
@@ -98,7 +106,9 @@ impl Deed for Entering<'_> {
 
 impl Deed for Inside<'_> {
     type Gives = bool;
+
     ghost does = { λ d node c. inside erased c d.head.now };
+
     fn run(&self, node: u32, at: &Interpreter, state: &mut State) -> Result<bool, Halt> {
         at.inside(self.head, state)
     }
@@ -106,7 +116,9 @@ impl Deed for Inside<'_> {
 
 impl Deed for SteppingUp<'_> {
     type Gives = Flow;
+
     ghost does = { λ d node c. step_up d.head.now };
+
     fn run(&self, node: u32, at: &Interpreter, state: &mut State) -> Result<Flow, Halt> {
         step_up(self.head, state);
         Ok(Flow::Next)
@@ -115,7 +127,9 @@ impl Deed for SteppingUp<'_> {
 
 impl Deed for TakingStep {
     type Gives = ();
+
     ghost does = { λ d node c. take_step };
+
     fn run(&self, node: u32, at: &Interpreter, state: &mut State) -> Result<(), Halt> {
         state.take_step()
     }

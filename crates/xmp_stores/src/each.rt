@@ -1,8 +1,9 @@
 // What each node gives of its own store, all collected.
-ghost use Rattle.std.specs.Prelude.{◌≡◌, IfOk};
+ghost use Rattle.std.specs.Prelude.{◌≡◌, ◌+◌, ◌<◌, ◌^◌, ◌++◌, ◌∷◌, [], IfOk};
 ghost use Rattle.xmp_meaning.specs.Traffic.{node_context};
 ghost use Rattle.xmp_stores.specs.Each.{each_by};
 
+use crate::lists::push;
 use crate::nodes::Nodes;
 use crate::together::Together;
 use xmp_base::NoMemory;
@@ -29,18 +30,54 @@ pub trait Share {
 
 impl Together<'_, '_> {
     /// What each node gives, in the order of the nodes. Want of memory is answered also where there are more stores than nodes.
-    pub fn each_does<S: Share>(&self, share: &S, nodes: &mut Nodes) -> Result<Vec<S::Gives>, NoMemory>
+    pub fn each_does<S: Share>(
+        &self,
+        share: &S,
+        nodes: &mut Nodes,
+    ) -> Result<Vec<S::Gives>, NoMemory>
         ensures gives { IfOk result (λ given. given.items ≡ each_by (λ node. S.gives share.now node (node_context self.now.program.now node self.now.input.now)) 0 nodes.old.stores) }
         ensures leaves { IfOk result (λ given. nodes.new ≡ record nodes.old { stores = each_by (λ node. S.leaves share.now node (node_context self.now.program.now node self.now.input.now)) 0 nodes.old.stores }) }
     {
         let mut all = Vec::new(self.alloc);
-        'stores: for (node, state) in nodes.stores.iter_mut().enumerate() {
-            let Some(at) = self.at(node) else {
-                return Err(NoMemory);
-            };
-            let given = share.run(node as u32, &at, state)?;
-            push(&mut all, given)?;
-        }
+        self.each_from(share, 0, nodes.stores.as_mut_slice(), &mut all)?;
         Ok(all)
+    }
+
+    /// The same of the nodes from one on, behind what is given.
+    fn each_from<S: Share>(
+        &self,
+        share: &S,
+        node: usize,
+        stores: &mut [State],
+        all: &mut Vec<S::Gives>,
+    ) -> Result<(), NoMemory>
+        ensures gives { IfOk result (λ _. all.new.items ≡ all.old.items ++ each_by (λ node. S.gives share.now node (node_context self.now.program.now node self.now.input.now)) node stores.old) }
+        ensures leaves { IfOk result (λ _. stores.new ≡ each_by (λ node. S.leaves share.now node (node_context self.now.program.now node self.now.input.now)) node stores.old) }
+    {
+        match stores.split_first_mut() {
+            None => Ok(()),
+            Some((state, rest)) => {
+                let given = self.gives(share, node, state)?;
+                push(all, given)?;
+                self.each_from(share, node + 1, rest, all)
+            }
+        }
+    }
+
+    /// What a node gives.
+    fn gives<S: Share>(
+        &self,
+        share: &S,
+        node: usize,
+        state: &mut State,
+    ) -> Result<S::Gives, NoMemory>
+        ensures gives { IfOk result (λ given. given ≡ S.gives share.now node (node_context self.now.program.now node self.now.input.now) state.old) }
+        ensures leaves { IfOk result (λ given. state.new ≡ S.leaves share.now node (node_context self.now.program.now node self.now.input.now) state.old) }
+        ensures few { IfOk result (λ _. node + 1 < 2 ^ 32) }
+    {
+        match self.at(node) {
+            Some(at) => share.run(node as u32, &at, state),
+            None => Err(NoMemory),
+        }
     }
 }

@@ -1,6 +1,6 @@
 // The nodes of a run, each with its store.
 
-use sqlite_items::Items;
+use crate::counts::Counts;
 use std::marker::Model;
 use xmp_serial::State;
 
@@ -9,7 +9,7 @@ use xmp_serial::State;
 pub struct Nodes {
     pub stores: Vec<State>,
     pub turns: Vec<u64>,
-    pub sent: Vec<Items<u64>>,
+    pub sent: Vec<Counts>,
 }
 
 impl Model for Nodes {

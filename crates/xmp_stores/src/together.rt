@@ -1,5 +1,5 @@
 // What the nodes are run against.
-ghost use Rattle.std.specs.Prelude.{◌≡◌, ◌≤◌, length, IfSome, IsNone, Some};
+ghost use Rattle.std.specs.Prelude.{◌≡◌, ◌<◌, ◌^◌, length};
 ghost use Rattle.xmp_prog.specs.Fits.{node_count};
 ghost use Rattle.xmp_stores.specs.Layouts.{AreLayouts};
 ghost use Rattle.xmp_stores.specs.LayoutProps.{layouts_prop};
@@ -16,5 +16,6 @@ pub struct Together<'a, 'p> {
     pub layouts: &'a [Layout<'p>],
     pub input: &'a [u8],
     ghost many: { length layouts.now ≡ node_count program.now },
+    ghost few: { length layouts.now < 2 ^ 32 },
     ghost packed: { AreLayouts program.now 0 layouts.now } by { layouts_prop _ _ _ },
 }

@@ -1,0 +1,5 @@
+pub mod Ends
+pub mod Counts
+pub mod Kept
+pub mod Reports
+pub mod Gathering
