@@ -12,7 +12,7 @@ use crate::packing::packed_for;
 use crate::plans::plans_of;
 use crate::told::Told;
 use crate::transfer::Transfer;
-use crate::unpacking::Unpacking;
+use crate::unpacked::Unpacking;
 use crate::words::Place;
 use std::alloc::Global;
 use xmp_base::{NODE_LIMIT, NoMemory, Table, first_and_rest};
