@@ -9,3 +9,5 @@ pub mod UnpackedRows
 pub mod OneExchange
 pub mod SidesMade
 pub mod AimsFound
+pub mod CastValues
+pub mod GmoveEnds

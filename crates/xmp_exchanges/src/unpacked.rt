@@ -1,6 +1,7 @@
 // Every node unpacks what all have for it.
 ghost use Rattle.std.specs.Prelude.{◌≤◌, IsTrue, length};
 ghost use Rattle.xmp_base.specs.Limits.{node_limit};
+ghost use Rattle.xmp_meaning.specs.declared.ends.Flow.TheVariants.{Next};
 ghost use Rattle.xmp_meaning.specs.Runs.{Gave};
 ghost use Rattle.xmp_exchanges.specs.Delivered.{delivered, fills_on};
 ghost use Rattle.xmp_exchanges.specs.Places.{with_words, words_at};
@@ -30,7 +31,7 @@ pub struct Unpacking<'a> {
 impl Deed for Unpacking<'_> {
     type Gives = Flow;
 
-    ghost does = { λ d node c s. Gave Flow.Next (with_words d.transfer.now.target
+    ghost does = { λ d node c s. Gave Next (with_words d.transfer.now.target
         (delivered (converted d.transfer.now.converts) (fills_on d.plans.now node) node 0 (words_at d.transfer.now.target s) d.tables.now) s) };
 
     fn run(&self, node: u32, at: &Interpreter, state: &mut State) -> Result<Flow, Halt> {
