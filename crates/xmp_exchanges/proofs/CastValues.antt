@@ -21,12 +21,14 @@ use Rattle.xmp_exchanges.specs.Casts.{cast_said}
 use Rattle.xmp_exchanges.specs.Told.{AreMany}
 use Rattle.xmp_exchanges.proofs.SaidWords.{said_same}
 
-module _ (p : ProgParts) (variables : List Name) (set : NodeSet) (w : Nodes) (members : List Bool) (values : List ℤ) (s : Alone)
-    (many : AreMany w (node_count p)) (are : members ≡ map (has_node p.grid set) (range_with_len 0 (node_count p)))
-    (there : slice_get w.stores (leader p set) ≡ Some s) (read : values ≡ values_of s (slots_of_names variables)) where
-  values_is : values ≡ cast_values p variables set w
-  values_is = read ∙ ap (λ (n : Alone). values_of n (slots_of_names variables)) (sym (store_is (node_beginning p 0 0) w (leader p set) s there))
+pub values_there : (p : ProgParts) (variables : List Name) (set : NodeSet) (w : Nodes) (s : Alone) → slice_get w.stores (leader p set) ≡ Some s
+    → values_of s (slots_of_names variables) ≡ cast_values p variables set w
+values_there p variables set w s there =
+    ap (λ (n : Alone). values_of n (slots_of_names variables)) (sym (store_is (node_beginning p 0 0) w (leader p set) s there))
 
+module _ (p : ProgParts) (variables : List Name) (set : NodeSet) (w : Nodes) (members : List Bool) (values : List ℤ)
+    (many : AreMany w (node_count p)) (are : members ≡ map (has_node p.grid set) (range_with_len 0 (node_count p)))
+    (values_is : values ≡ cast_values p variables set w) where
   member_is : (from : ℕ) → from < node_count p → unwrap_or (slice_get members from) false ≡ has_node p.grid set from
   member_is from l = ap (λ ms. unwrap_or (slice_get ms from) false) are ∙ ap (λ o. unwrap_or o false) (ranged_at (has_node p.grid set) (node_count p) from l)
 

@@ -6,3 +6,4 @@ pub mod Delivered
 pub mod Told
 pub mod Aims
 pub mod Casts
+pub mod Unpacks

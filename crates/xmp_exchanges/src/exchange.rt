@@ -1,10 +1,12 @@
 // A transfer between the stores of all nodes.
-ghost use Rattle.std.specs.Prelude.{◌≡◌, ◌≤◌, ◌++◌, ◌∷◌, [], IfOk, IsTrue, OnOk, length, nat_le};
-ghost use Rattle.std.specs.List.{list_all};
+ghost use Rattle.std.specs.Prelude.{◌≡◌, ◌≤◌, ◌++◌, ◌∷◌, [], IfOk, IsTrue, OnOk, length};
+ghost use Rattle.xmp_base.specs.Limits.{node_limit};
+ghost use Rattle.xmp_prog.specs.Fits.{node_count};
 ghost use Rattle.xmp_meaning.specs.Runs.{Does};
+ghost use Rattle.xmp_move.specs.Plans.{peers_of};
 ghost use Rattle.xmp_exchanges.specs.Places.{words_at};
-ghost use Rattle.xmp_exchanges.specs.Plans.{all_send, packed_for};
-ghost use Rattle.xmp_exchanges.specs.Told.{tables_of};
+ghost use Rattle.xmp_exchanges.specs.Plans.{all_send, packed_for, plans_of};
+ghost use Rattle.xmp_exchanges.specs.Told.{AreMany, tables_of};
 ghost use Rattle.xmp_exchanges.specs.Transfers.{exchanged};
 
 use crate::many::are_many;
@@ -86,6 +88,32 @@ fn tables_of(
     Ok(tables)
 }
 
+/// What is said is counted, and then all nodes unpack.
+fn exchange_by(
+    together: &Together,
+    transfer: &Transfer,
+    args: &[i64],
+    plans: &[Plan],
+    tables: &[Table],
+    nodes: &mut Nodes,
+) -> Result<Flow, Halt>
+    requires many { AreMany nodes.old (node_count together.now.program.now) }
+    requires few { node_count together.now.program.now ≤ node_limit }
+    requires enough { node_count together.now.program.now ≤ peers_of transfer.now.kind }
+    requires plans { plans.now ≡ plans_of transfer.now.kind args.now (node_count together.now.program.now) }
+    requires tables { tables.now ≡ tables_of transfer.now.source (node_count together.now.program.now) plans.now nodes.old.stores }
+    ensures { Does (exchanged together.now.program.now transfer.now args.now nodes.old) result nodes.new }
+{
+    say(&Told { tables }, nodes);
+    let unpacking = Unpacking {
+        alloc: together.alloc,
+        transfer,
+        plans,
+        tables,
+    };
+    together.all_do(&unpacking, Flow::Next, nodes)
+}
+
 /// All nodes pack, what they say is counted, and then all unpack. Want of memory is answered also where the nodes aren't as many as
 /// the program's, or where the transfer isn't laid out.
 pub fn exchange(
@@ -105,20 +133,8 @@ pub fn exchange(
     };
     let plans = plans.as_slice();
     let stores = nodes.stores.as_slice();
-    let Ok(tables) = tables_of(together.alloc, transfer.source, plans, stores, count) else {
-        return Err(Halt::NoMemory);
-    };
-    say(
-        &Told {
-            tables: tables.as_slice(),
-        },
-        nodes,
-    );
-    let unpacking = Unpacking {
-        alloc: together.alloc,
-        transfer,
-        plans,
-        tables: tables.as_slice(),
-    };
-    together.all_do(&unpacking, Flow::Next, nodes)
+    match tables_of(together.alloc, transfer.source, plans, stores, count) {
+        Ok(tables) => exchange_by(together, transfer, args, plans, tables.as_slice(), nodes),
+        Err(NoMemory) => Err(Halt::NoMemory),
+    }
 }

@@ -1,12 +1,10 @@
 // Every node unpacks what all have for it.
-ghost use Rattle.std.specs.Prelude.{◌≤◌, IsTrue, length};
+ghost use Rattle.std.specs.Prelude.{◌≡◌, ◌≤◌, IfOk, IsTrue, length};
 ghost use Rattle.xmp_base.specs.Limits.{node_limit};
-ghost use Rattle.xmp_meaning.specs.declared.ends.Flow.TheVariants.{Next};
-ghost use Rattle.xmp_meaning.specs.Runs.{Gave};
-ghost use Rattle.xmp_exchanges.specs.Delivered.{delivered, fills_on};
-ghost use Rattle.xmp_exchanges.specs.Places.{with_words, words_at};
+ghost use Rattle.xmp_exchanges.specs.Delivered.{delivered};
 ghost use Rattle.xmp_exchanges.specs.Plans.{all_fill};
 ghost use Rattle.xmp_exchanges.specs.Transfers.{converted};
+ghost use Rattle.xmp_exchanges.specs.Unpacks.{unpacks};
 
 use crate::transfer::Transfer;
 use crate::unpacking::deliver;
@@ -28,11 +26,25 @@ pub struct Unpacking<'a> {
     ghost few: { length tables.now ≤ node_limit },
 }
 
+impl Unpacking<'_> {
+    /// What a node with these words has, once it unpacked what all have for it.
+    fn row(&self, plan: &Plan, node: u32, words: &[i64]) -> Result<Vec<i64>, NoMemory>
+        requires { length self.now.tables.now ≤ length plan.now.fills }
+        ensures { IfOk result (λ row. row.items ≡ delivered (converted self.now.transfer.now.converts) plan.now.fills node 0 words.now self.now.tables.now) }
+    {
+        let Ok(mut row) = Vec::from_slice(self.alloc, words) else {
+            return Err(NoMemory);
+        };
+        let converts = self.transfer.converts;
+        deliver(plan, node, 0, row.as_mut_slice(), self.tables, converts)?;
+        Ok(row)
+    }
+}
+
 impl Deed for Unpacking<'_> {
     type Gives = Flow;
 
-    ghost does = { λ d node c s. Gave Next (with_words d.transfer.now.target
-        (delivered (converted d.transfer.now.converts) (fills_on d.plans.now node) node 0 (words_at d.transfer.now.target s) d.tables.now) s) };
+    ghost does = { λ d node c. unpacks d.transfer.now d.plans.now d.tables.now node };
 
     fn run(&self, node: u32, at: &Interpreter, state: &mut State) -> Result<Flow, Halt> {
         let Some(plan) = self.plans.get(node as usize) else {
@@ -41,12 +53,9 @@ impl Deed for Unpacking<'_> {
         let Some(words) = self.transfer.target.words(state) else {
             return Err(Halt::NoMemory);
         };
-        let Ok(mut store) = Vec::from_slice(self.alloc, words) else {
-            return Err(Halt::NoMemory);
-        };
-        match deliver(plan, node, 0, store.as_mut_slice(), self.tables, self.transfer.converts) {
-            Ok(()) => {
-                self.transfer.target.put(store, state);
+        match self.row(plan, node, words) {
+            Ok(row) => {
+                self.transfer.target.put(row, state);
                 Ok(Flow::Next)
             }
             Err(NoMemory) => Err(Halt::NoMemory),
