@@ -1,11 +1,13 @@
 -- A gmove whose numbers every node finds is the definition's.
-use Rattle.std.proofs.Common.{◌≡◌, ◌<◌, ◌∙◌, ℕ, ℤ, List, [], map, length, None, refl, sym, ap, subst}
+use Rattle.std.proofs.Common.{◌≡◌, ◌<◌, ◌∙◌, ℕ, ℤ, List, [], map, length, None, Err, refl, sym, ap, subst}
 use Rattle.std.specs.List.{zip}
 use Rattle.xmp_map.specs.RowMajor.{unravel}
 use Rattle.xmp_prog.specs.declared.parts.ProgParts.{ProgParts}
 use Rattle.xmp_prog.specs.declared.statements.MoveSide.{MoveSide}
 use Rattle.xmp_meaning.specs.declared.ends.End.{End}
-use Rattle.xmp_meaning.specs.Runs.{Gave, Ended, and_then, StepIn}
+use Rattle.xmp_meaning.specs.declared.ends.Halt.{Halt}
+use Rattle.xmp_meaning.specs.declared.ends.Halt.TheVariants as halt
+use Rattle.xmp_meaning.specs.Runs.{Gave, Ended, and_then, StepIn, Does}
 use Rattle.xmp_meaning.specs.Handlers.{Aim, erased}
 use Rattle.xmp_meaning.specs.Sections.{aim}
 use Rattle.xmp_meaning.specs.Traffic.{node_context}
@@ -18,6 +20,7 @@ use Rattle.xmp_move.proofs.Assigning.{aims_are_pairs, plans_are_good}
 use Rattle.xmp_nodes.specs.Nodes.{Nodes, all_do}
 use Rattle.xmp_nodes.specs.Rows.{extents_of_side, type_of_side}
 use Rattle.xmp_nodes.specs.Moving.{pairs_of_aim, move_all, gmove_all}
+use Rattle.xmp_exchanges.specs.declared.transfer.Transfer.{Transfer}
 use Rattle.xmp_exchanges.specs.Aims.{side_in, kind_of, move_of, aimed}
 use Rattle.xmp_exchanges.specs.Transfers.{exchanged}
 use Rattle.xmp_exchanges.proofs.AllNodes.{all_made}
@@ -58,3 +61,36 @@ module _ (p : ProgParts) (input : List ℕ) (target source : MoveSide) (laid : I
       → gmove_all p input target source w ≡ Ended e v
   gmove_ends w v e some ended =
       ap (λ r. and_then r (move_all p target source)) (all_aims w some ∙ ap (λ r. and_then r (λ args v. Gave (aims args) v)) ended)
+
+  gmove_halts : (w v : Nodes) (h : Halt) → 0 < length w.stores
+      → Does (all_do [] (λ node. aimed (kind_of p target source) (node_context p node input) target source) w) (Err h) v
+      → Does (gmove_all p input target source w) (Err h) v
+  gmove_halts w v (halt.End e) some d = gmove_ends w v e some d
+  gmove_halts w v halt.NoMemory some d = tt
+
+-- the same of the transfer that the code has
+module _ (p : ProgParts) (input : List ℕ) (target source : MoveSide) (t : Transfer) (is : t ≡ move_of p target source) (laid : IsLaidOut t.kind 0) where
+  kind_is : t.kind ≡ kind_of p target source
+  kind_is = ap (λ (t : Transfer). t.kind) is
+
+  laid_out : IsLaidOut (kind_of p target source) 0
+  laid_out = subst (λ k. IsLaidOut k 0) kind_is laid
+
+  found_by : (w : Nodes) → all_do [] (λ node. aimed t.kind (node_context p node input) target source) w
+      ≡ all_do [] (λ node. aimed (kind_of p target source) (node_context p node input) target source) w
+  found_by w = ap (λ k. all_do [] (λ node. aimed k (node_context p node input) target source) w) kind_is
+
+  pub gmove_done : (w v : Nodes) (args l : List ℤ) → 0 < length w.stores → l ≡ args
+      → all_do [] (λ node. aimed t.kind (node_context p node input) target source) w ≡ Gave args v
+      → (length l ≡ numbers_of t.kind) × (move_fault t.kind l ≡ None)
+      → exchanged p t l v ≡ gmove_all p input target source w
+  gmove_done w v args l some same gave good =
+      (λ i. exchanged p (is i) (same i) v)
+      ∙ sym (gmove_goes_on p input target source laid_out w v args some (sym (found_by w) ∙ gave)
+      (subst (λ k. length args ≡ numbers_of k) kind_is (subst (λ l. length l ≡ numbers_of t.kind) same good.0))
+      (subst (λ k. move_fault k args ≡ None) kind_is (subst (λ l. move_fault t.kind l ≡ None) same good.1)))
+
+  pub gmove_halted : (w v : Nodes) (h : Halt) → 0 < length w.stores
+      → Does (all_do [] (λ node. aimed t.kind (node_context p node input) target source) w) (Err h) v
+      → Does (gmove_all p input target source w) (Err h) v
+  gmove_halted w v h some d = gmove_halts p input target source laid_out w v h some (subst (λ r. Does r (Err h) v) (found_by w) d)

@@ -11,3 +11,4 @@ pub mod SidesMade
 pub mod AimsFound
 pub mod CastValues
 pub mod GmoveEnds
+pub mod ReflectsDone

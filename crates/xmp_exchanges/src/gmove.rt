@@ -70,7 +70,7 @@ fn gmove_by(
     ensures { Does (gmove_all together.now.program.now together.now.input.now target.now source.now nodes.old) result nodes.new }
 {
     let kind = &transfer.kind;
-    if nodes.stores.is_empty() || !is_laid(kind, 0) {
+    if nodes.stores.len() < 1 || !is_laid(kind, 0) {
         return Err(Halt::NoMemory);
     }
     let aiming = Aiming {
@@ -79,12 +79,16 @@ fn gmove_by(
         target,
         source,
     };
-    let args = together.all_do(&aiming, Items::new(together.alloc), nodes)?;
-    if !is_good(kind, args.as_slice()) {
-        drop(args);
-        return Err(Halt::NoMemory);
+    match together.all_do(&aiming, Items::new(together.alloc), nodes) {
+        Ok(numbers) => {
+            let args = numbers.as_slice();
+            if !is_good(kind, args) {
+                return Err(Halt::NoMemory);
+            }
+            exchange(together, transfer, args, nodes)
+        }
+        Err(halt) => Err(halt),
     }
-    exchange(together, transfer, args.as_slice(), nodes)
 }
 
 /// Whether these are all numbers of a transfer, and none breaks a rule.

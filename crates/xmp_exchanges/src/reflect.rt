@@ -58,9 +58,10 @@ pub fn reflect_all(
     ensures { Does (reflect_all together.now.program.now arrays.now nodes.old) result nodes.new }
 {
     'arrays: for name in arrays {
-        match reflect_at(together, name.number, nodes)? {
-            Flow::Next => {}
-            Flow::Returned(value) => return Ok(Flow::Returned(value)),
+        match reflect_at(together, name.number, nodes) {
+            Ok(Flow::Next) => {}
+            Ok(Flow::Returned(value)) => return Ok(Flow::Returned(value)),
+            Err(halt) => return Err(halt),
         }
     }
     Ok(Flow::Next)
