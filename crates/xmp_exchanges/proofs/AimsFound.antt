@@ -1,5 +1,5 @@
 -- The numbers of a gmove, one behind the other, are what the meaning aims by.
-use Rattle.std.proofs.Common.{◌≡◌, ◌⊎◌, inl, inr, ◌+◌, ◌++◌, ◌∙◌, ℕ, zero, suc, List, [], ◌∷◌, map, length, drop, cond, Option, Some, None, ℤ, refl, sym, ap, subst, arith, append_assoc}
+use Rattle.std.proofs.Common.{◌≡◌, ◌⊎◌, inl, inr, ◌++◌, ◌∙◌, ℕ, suc, List, [], ◌∷◌, map, length, drop, cond, Option, Some, None, ℤ, refl, sym, ap, subst, arith, append_assoc}
 use Rattle.std.specs.List.{sum_by, count_by}
 use Rattle.std.proofs.lemmas.List.Sums.{sum_by-cons}
 use Rattle.xmp_prog.specs.declared.parts.ProgParts.{ProgParts}
@@ -8,8 +8,7 @@ use Rattle.xmp_prog.specs.declared.statements.Part.TheVariants as part
 use Rattle.xmp_prog.specs.declared.statements.MoveSide.{MoveSide}
 use Rattle.xmp_prog.specs.declared.statements.MoveSide.TheVariants as side
 use Rattle.xmp_meaning.specs.declared.ends.End.{End}
-use Rattle.xmp_meaning.specs.declared.ends.End.TheVariants.{Trapped}
-use Rattle.xmp_meaning.specs.Runs.{State, Step, Gave, Ended, Run, and_then, ◌>>=◌, pure}
+use Rattle.xmp_meaning.specs.Runs.{Step, Gave, Ended, Run, and_then, ◌>>=◌, pure}
 use Rattle.xmp_meaning.specs.Blocks.{each}
 use Rattle.xmp_meaning.specs.Context.{Context}
 use Rattle.xmp_meaning.specs.Handlers.{Aim, erased}
@@ -17,13 +16,12 @@ use Rattle.xmp_meaning.specs.Expressions.{expr_of}
 use Rattle.xmp_meaning.specs.Sections.{Chosen, One, Many, chosen, numbers, lengths, aim}
 use Rattle.xmp_move.specs.declared.kind.Fault.{Fault}
 use Rattle.xmp_move.specs.declared.kind.Side.{Side}
-use Rattle.xmp_move.specs.declared.kind.SidePart.{SidePart}
 use Rattle.xmp_move.specs.Cells.{pairs_between}
 use Rattle.xmp_move.specs.Faults.{first_fault, move_fault}
 use Rattle.xmp_move.specs.Kinds.{pairs_of}
 use Rattle.xmp_move.specs.Laid.{is_section, sections, PartsFit, SectionsFit}
-use Rattle.xmp_move.specs.Meant.{extents_in, aim_of, place_of}
-use Rattle.xmp_move.specs.Numbers.{asked, asked_of, chosen_by, target_chosen, source_chosen}
+use Rattle.xmp_move.specs.Meant.{extents_in, aim_of}
+use Rattle.xmp_move.specs.Numbers.{asked, chosen_by, target_chosen, source_chosen}
 use Rattle.xmp_move.proofs.Checks.{traps_as_meant}
 use Rattle.xmp_move.proofs.PairsMeant.{moves_as_meant}
 use Rattle.xmp_nodes.proofs.AimLaws.{checked_aim}

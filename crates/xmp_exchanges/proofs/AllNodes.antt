@@ -1,7 +1,7 @@
 -- What all nodes do, each by itself: two ways that are the same at each node, and a value that another is made of.
-use Rattle.std.proofs.Common.{◌≡◌, ◌<◌, ◌+◌, ◌∙◌, ℕ, zero, suc, List, [], ◌∷◌, length, map, Some, refl, sym, ap, subst, arith, zero-add}
+use Rattle.std.proofs.Common.{◌≡◌, ◌<◌, ◌+◌, ◌∙◌, ℕ, suc, List, [], ◌∷◌, length, map, Some, refl, sym, ap, subst, arith, zero-add}
 use Rattle.std.specs.Prelude.{slice_get}
-use Rattle.xmp_meaning.specs.Runs.{State, StepIn, Step, Gave, Ended, Run, and_then, state_of}
+use Rattle.xmp_meaning.specs.Runs.{StepIn, Step, Gave, Ended, Run, and_then, state_of}
 use Rattle.xmp_nodes.specs.Nodes.{Nodes, each_does, led, with_steps, all_do}
 use Rattle.xmp_nodes.proofs.Each.{Alone}
 

@@ -1,5 +1,5 @@
 -- A bcast by the members of its set and its source's values is the definition's.
-use Rattle.std.proofs.Common.{◌≡◌, ◌<◌, ◌==◌, ◌∙◌, if◌then◌else◌, ℕ, ℤ, Bool, true, false, List, [], map, Some, refl, sym, ap}
+use Rattle.std.proofs.Common.{◌≡◌, ◌<◌, ◌==◌, ◌∙◌, if◌then◌else◌, ℕ, ℤ, Bool, false, List, [], map, Some, sym, ap}
 use Rattle.std.specs.Prelude.{slice_get, unwrap_or}
 use Rattle.std.specs.List.{range_with_len}
 use Rattle.xmp_map.specs.declared.grid.NodeSet.{NodeSet}

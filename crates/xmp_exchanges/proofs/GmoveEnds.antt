@@ -7,18 +7,17 @@ use Rattle.xmp_prog.specs.declared.statements.MoveSide.{MoveSide}
 use Rattle.xmp_meaning.specs.declared.ends.End.{End}
 use Rattle.xmp_meaning.specs.declared.ends.Halt.{Halt}
 use Rattle.xmp_meaning.specs.declared.ends.Halt.TheVariants as halt
-use Rattle.xmp_meaning.specs.Runs.{Gave, Ended, and_then, StepIn, Does}
+use Rattle.xmp_meaning.specs.Runs.{Gave, Ended, and_then, Does}
 use Rattle.xmp_meaning.specs.Handlers.{Aim, erased}
 use Rattle.xmp_meaning.specs.Sections.{aim}
 use Rattle.xmp_meaning.specs.Traffic.{node_context}
 use Rattle.xmp_move.specs.Faults.{move_fault}
 use Rattle.xmp_move.specs.Kinds.{numbers_of, pairs_of}
 use Rattle.xmp_move.specs.Laid.{IsLaidOut}
-use Rattle.xmp_move.specs.Assigned.{AreGood}
 use Rattle.xmp_move.specs.Numbers.{target_chosen, source_chosen}
 use Rattle.xmp_move.proofs.Assigning.{aims_are_pairs, plans_are_good}
 use Rattle.xmp_nodes.specs.Nodes.{Nodes, all_do}
-use Rattle.xmp_nodes.specs.Rows.{extents_of_side, type_of_side}
+use Rattle.xmp_nodes.specs.Rows.{type_of_side}
 use Rattle.xmp_nodes.specs.Moving.{pairs_of_aim, move_all, gmove_all}
 use Rattle.xmp_exchanges.specs.declared.transfer.Transfer.{Transfer}
 use Rattle.xmp_exchanges.specs.Aims.{side_in, kind_of, move_of, aimed}

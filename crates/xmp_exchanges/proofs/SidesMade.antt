@@ -13,7 +13,7 @@ use Rattle.xmp_meaning.specs.Declarations.{extents, home_of}
 use Rattle.xmp_meaning.specs.Handlers.{Aim}
 use Rattle.xmp_meaning.specs.Messages.{words_alone}
 use Rattle.xmp_meaning.specs.Traffic.{node_beginning}
-use Rattle.xmp_move.specs.Ways.{Pair, Ways, sends}
+use Rattle.xmp_move.specs.Ways.{sends}
 use Rattle.xmp_move.specs.Whole.{reflecting}
 use Rattle.xmp_move.specs.Sides.{owns_cell, gives_cell, holds_cell, position, slot_in}
 use Rattle.xmp_move.specs.Stores.{packed, unpacked_of}
@@ -21,7 +21,7 @@ use Rattle.xmp_move.specs.Kinds.{ways_of, pairs_of}
 use Rattle.xmp_move.specs.Meant.{extents_in}
 use Rattle.xmp_nodes.specs.Nodes.{store_at, all_do, say}
 use Rattle.xmp_nodes.specs.Rows.{home_of_side, extents_of_side, type_of_side, row_of, with_row}
-use Rattle.xmp_nodes.specs.Reflecting.{reflect_ways, reflect_pairs, reflect_one}
+use Rattle.xmp_nodes.specs.Reflecting.{reflect_pairs, reflect_one}
 use Rattle.xmp_nodes.specs.Moving.{move_ways, pairs_of_aim, move_all}
 use Rattle.xmp_nodes.proofs.Each.{Alone}
 use Rattle.xmp_exchanges.specs.declared.words.Place.TheVariants.{Row}

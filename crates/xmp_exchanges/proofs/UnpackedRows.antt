@@ -4,7 +4,6 @@ use Rattle.std.specs.Prelude.{slice_get, unwrap_or, nat_le, true}
 use Rattle.std.specs.List.{range_with_len, list_all}
 use Rattle.std.proofs.lemmas.Bool.Decides.{nat_tests}
 use Rattle.std.proofs.lemmas.Option.{slice_get_within, same_Some}
-use Rattle.xmp_meaning.specs.Runs.{State}
 use Rattle.xmp_move.specs.declared.kind.MoveKind.{MoveKind}
 use Rattle.xmp_move.specs.Ways.{Pair, Ways, sends, fills}
 use Rattle.xmp_move.specs.Kinds.{ways_of, pairs_of}

@@ -34,13 +34,7 @@ impl Saying for Casting<'_> {
     fn words(&self, from: usize, _to: usize) -> u64 {
         match self.members.get(from) {
             None => 0,
-            Some(is) => {
-                if *is {
-                    self.values.len() as u64
-                } else {
-                    0
-                }
-            }
+            Some(is) => { if *is { self.values.len() as u64 } else { 0 } }
         }
     }
 }

@@ -12,7 +12,9 @@ use xmp_map::{Grid, NodeSet};
 fn number(so_far: u64, size: u32, x: u32) -> Option<u64>
     ensures { IfSome result (λ n. n ≡ so_far * size + x) }
 {
-    so_far.checked_mul(u64::from(size))?.checked_add(u64::from(x))
+    so_far
+        .checked_mul(u64::from(size))?
+        .checked_add(u64::from(x))
 }
 
 /// The least node of a set, where 64 bits hold its number.

@@ -32,12 +32,7 @@ fn packed_to(alloc: Global, plan: &Plan, store: &[i64], to: u32) -> Result<Words
 }
 
 /// What it has for each of so many nodes.
-pub fn packed_for(
-    alloc: Global,
-    plan: &Plan,
-    store: &[i64],
-    count: u32,
-) -> Result<Table, NoMemory>
+pub fn packed_for(alloc: Global, plan: &Plan, store: &[i64], count: u32) -> Result<Table, NoMemory>
     requires { count ≤ length plan.now.sends }
     ensures { IfOk result (λ table. table ≡ packed_for plan.now.sends store.now count) }
 {

@@ -50,11 +50,7 @@ fn reflect_at(together: &Together, array: u32, nodes: &mut Nodes) -> Result<Flow
 }
 
 /// One exchange for each array, in order.
-pub fn reflect_all(
-    together: &Together,
-    arrays: &[Name],
-    nodes: &mut Nodes,
-) -> Result<Flow, Halt>
+pub fn reflect_all(together: &Together, arrays: &[Name], nodes: &mut Nodes) -> Result<Flow, Halt>
     ensures { Does (reflect_all together.now.program.now arrays.now nodes.old) result nodes.new }
 {
     'arrays: for name in arrays {

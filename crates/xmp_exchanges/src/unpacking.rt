@@ -1,6 +1,5 @@
 // A node unpacks what all have for it.
 ghost use Rattle.std.specs.Prelude.{◌≡◌, ◌<◌, ◌≤◌, ◌+◌, All, OnOk, length, map};
-
 ghost use Rattle.xmp_base.specs.Limits.{node_limit};
 ghost use Rattle.xmp_move.specs.Stores.{write_all};
 ghost use Rattle.xmp_exchanges.specs.Delivered.{delivered};

@@ -1,4 +1,4 @@
-use Rattle.std.proofs.Common.{◌<◌, ◌∙◌, ap, subst, sym, length, refl, rules}
+use Rattle.std.proofs.Common.{◌<◌, subst, length, refl, rules}
 use Rattle.xmp_meaning.specs.Runs.{Does}
 use Rattle.xmp_exchanges.proofs.GmoveEnds.{gmove_done, gmove_halted}
 use Rattle.xmp_exchanges.proofs.gmove.gmove_by.Goals as goal

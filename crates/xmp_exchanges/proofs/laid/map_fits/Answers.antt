@@ -1,4 +1,4 @@
-use Rattle.std.proofs.Common.{◌∙◌, sym, subst, take, map}
+use Rattle.std.proofs.Common.{◌∙◌, sym, subst}
 use Rattle.xmp_prog.specs.declared.parts.Home.{Home}
 use Rattle.xmp_move.specs.Laid.{MapFits}
 use Rattle.xmp_exchanges.proofs.Lists.{take_mapped}
