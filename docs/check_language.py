@@ -4,9 +4,9 @@ file where no path is given.
 
 The line above a fenced block, one code span, says what becomes of the text in it:
 
-    --nodes=3 accepted                 xmpc check accepts it
-    refused N1 at 1:27                 check and serial refuse it with this line, status 3, and print nothing
-    serial --steps=10                  serial prints the block 'output' that follows (nothing where none does), status 0
+    --nodes=3 accepted                 xmpc check accepts it, and serial and run come to the same
+    refused N1 at 1:27                 check, serial and run refuse it with this line, status 3, and print nothing
+    serial --steps=10                  serial and run print the block 'output' that follows (nothing where none does), status 0
     serial trapped zero at 8:79        the same, and then this line on standard error, status 1
     serial out of steps                the same, status 2
 
@@ -122,9 +122,13 @@ def judge(xmpc, name, folder):
         page = it.read()
     all_texts, runs, wrong = texts(name, page), 0, 0
     for it in all_texts:
-        forms = ["serial"] if it["serial"] else ["check", "serial"] if it["end"].startswith("refused") else ["check"]
+        forms = ["serial", "run"] if it["serial"] else ["check", "serial", "run"] if it["end"].startswith("refused") else ["check", "run"]
         for form in forms:
-            got, due = run(xmpc, form, it["options"], it["text"], it["input"], folder), wanted(it, form)
+            got = run(xmpc, form, it["options"], it["text"], it["input"], folder)
+            if form == "run" and it["end"] == "accepted":
+                due = run(xmpc, "serial", it["options"], it["text"], it["input"], folder)
+            else:
+                due = wanted(it, form)
             runs += 1
             if got != due:
                 wrong += 1

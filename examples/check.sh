@@ -1,8 +1,8 @@
 #!/bin/bash
 # Checks and runs every example: check.sh [PATH OF xmpc], which is ../crates/xmpc/out/xmpc beside this file where no path is given.
-# Each NAME.c has to be accepted, and to print the bytes of NAME.out under serial, with NAME.in as its input where that is there.
-# Where NAME.err is there, serial has to say its line on standard error, and check does so too where it is a refusal.
-# A program over nodes p(*) takes its nodes from the command line: it has to print the same on 1 and on 3 of them.
+# Each NAME.c has to be accepted, and to print the bytes of NAME.out under serial and under run, with NAME.in as its input where that
+# is there. Where NAME.err is there, both have to say its line on standard error, and check does so too where it is a refusal.
+# A program over nodes p(*) takes its nodes from the command line: it has to print the same on 1, 2, 3, 4, 7 and 16 of them.
 folder=$(dirname "$0")
 xmpc=${1:-$folder/../crates/xmpc/out/xmpc}
 printed=$(mktemp) && said=$(mktemp) && trap 'rm -f "$printed" "$said"' EXIT || exit 1
@@ -32,21 +32,27 @@ one() {
   fi
 }
 
-# One example, with options for both forms.
+# One example, with options for all forms.
 example() {
   local file=$1 name=${1%.c} input=() line=''
   shift
   [ -f "$name.in" ] && input=("--input=$name.in")
   [ -f "$name.err" ] && line=$(cat "$name.err")
   case $line in
-    refused*) one /dev/null "$line" check "$@" "$file" && one /dev/null "$line" serial "$@" "$file" && right=$((right + 1)) ;;
-    *) one <(echo accepted) '' check "$@" "$file" && one "$name.out" "$line" serial "$@" "${input[@]}" "$file" && right=$((right + 1)) ;;
+    refused*)
+      one /dev/null "$line" check "$@" "$file" && one /dev/null "$line" serial "$@" "$file" \
+        && one /dev/null "$line" run "$@" "$file" && right=$((right + 1)) ;;
+    *)
+      one <(echo accepted) '' check "$@" "$file" && one "$name.out" "$line" serial "$@" "${input[@]}" "$file" \
+        && one "$name.out" "$line" run "$@" "${input[@]}" "$file" && right=$((right + 1)) ;;
   esac
 }
 
 for file in "$folder"/*.c; do
   example "$file"
-  if grep -q 'nodes p(\*)' "$file"; then example "$file" --nodes=3; fi
+  if grep -q 'nodes p(\*)' "$file"; then
+    for many in 2 3 4 7 16; do example "$file" --nodes=$many; done
+  fi
 done
 [ $wrong -eq 0 ] || exit 1
 echo "examples: $right right"
